@@ -1,0 +1,45 @@
+-- What is said at the end: its text, and the statuses that go with it.
+use Rattle.std.specs.Prelude.{ℕ, Bool, true, false, ◌==◌, ◌||◌, List, [], ◌∷◌, ◌++◌, codes, decimal, string_bytes}
+use Rattle.gmp_cli.specs.declared.said.Said.{Said}
+use Rattle.gmp_cli.specs.declared.said.Said.TheVariants.{Nothing, BadLine, InputTooLong, InputUnreadable, OutputFailed, BadLimits, OutOfMemory, Usage}
+
+abbrev pub text_of : Said → List ℕ
+text_of Nothing = []
+text_of (BadLine line) = codes "gmp: line " ++ (decimal line ++ (codes ": bad script line" ++ 10 ∷ []))
+text_of InputTooLong = codes "gmp: input too long" ++ 10 ∷ []
+text_of InputUnreadable = codes "gmp: input unreadable" ++ 10 ∷ []
+text_of OutputFailed = codes "gmp: output failed" ++ 10 ∷ []
+text_of BadLimits = codes "gmp: bad limits" ++ 10 ∷ []
+text_of OutOfMemory = codes "gmp: out of memory" ++ 10 ∷ []
+text_of (Usage text) = string_bytes text
+
+-- the program may end so with this status: 0 main ended, 2 all asleep, 3 book full; 1 input, output
+-- or script, 5 memory, 64 limits or command line; help that was asked for is 0
+abbrev pub goes_with : Said → ℕ → Bool
+goes_with Nothing status = status == 0 || (status == 2 || status == 3)
+goes_with (BadLine line) status = status == 1
+goes_with InputTooLong status = status == 1
+goes_with InputUnreadable status = status == 1
+goes_with OutputFailed status = status == 1
+goes_with BadLimits status = status == 64
+goes_with OutOfMemory status = status == 5
+goes_with (Usage text) status = status == 64 || status == 0
+
+-- what may be said where the input could not be had
+abbrev pub is_of_input : Said → Bool
+is_of_input InputTooLong = true
+is_of_input InputUnreadable = true
+is_of_input OutOfMemory = true
+is_of_input _ = false
+
+-- what may be said where the script could not be had
+abbrev pub is_of_script : Said → Bool
+is_of_script (BadLine line) = true
+is_of_script OutOfMemory = true
+is_of_script _ = false
+
+-- what may be said where the command line was not read
+abbrev pub is_of_words : Said → Bool
+is_of_words (Usage text) = true
+is_of_words OutOfMemory = true
+is_of_words _ = false

@@ -1,0 +1,115 @@
+//! How the program ends.
+
+ghost use Rattle.std.specs.Prelude.{◌≡◌, true};
+ghost use Rattle.gmp_cli.specs.Said.{goes_with};
+
+use crate::said::Said;
+use std::alloc::AllocError;
+
+/// The exit status, and what is said: a status goes only with what it stands for.
+#[derive(Debug, Drop)]
+pub struct Ended {
+    pub status: u8,
+    pub said: Said,
+    pub ghost paired: { goes_with said status ≡ true },
+}
+
+impl Ended {
+    /// The script's line, numbered from 1, is bad.
+    pub fn bad_line(line: u64) -> Self
+        ensures status { result.status ≡ 1 }
+        ensures said { result.said ≡ Said.BadLine line }
+    {
+        Ended {
+            status: 1,
+            said: Said::BadLine(line),
+        }
+    }
+
+    /// The input is longer than it may be.
+    pub fn too_long() -> Self
+        ensures status { result.status ≡ 1 }
+        ensures said { result.said ≡ Said.InputTooLong }
+    {
+        Ended {
+            status: 1,
+            said: Said::InputTooLong,
+        }
+    }
+
+    /// A read failed.
+    pub fn unreadable() -> Self
+        ensures status { result.status ≡ 1 }
+        ensures said { result.said ≡ Said.InputUnreadable }
+    {
+        Ended {
+            status: 1,
+            said: Said::InputUnreadable,
+        }
+    }
+
+    /// A write failed.
+    pub fn output_failed() -> Self
+        ensures status { result.status ≡ 1 }
+        ensures said { result.said ≡ Said.OutputFailed }
+    {
+        Ended {
+            status: 1,
+            said: Said::OutputFailed,
+        }
+    }
+
+    /// No run can be opened with these limits.
+    pub fn bad_limits() -> Self
+        ensures status { result.status ≡ 64 }
+        ensures said { result.said ≡ Said.BadLimits }
+    {
+        Ended {
+            status: 64,
+            said: Said::BadLimits,
+        }
+    }
+
+    pub fn out_of_memory() -> Self
+        ensures status { result.status ≡ 5 }
+        ensures said { result.said ≡ Said.OutOfMemory }
+    {
+        Ended {
+            status: 5,
+            said: Said::OutOfMemory,
+        }
+    }
+
+    /// The command line was refused, with this text.
+    pub fn usage(text: String) -> Self
+        ensures status { result.status ≡ 64 }
+        ensures said { result.said ≡ Said.Usage text }
+    {
+        Ended {
+            status: 64,
+            said: Said::Usage(text),
+        }
+    }
+
+    /// Help was asked for, and this is its text.
+    pub fn help(text: String) -> Self
+        ensures status { result.status ≡ 0 }
+        ensures said { result.said ≡ Said.Usage text }
+    {
+        Ended {
+            status: 0,
+            said: Said::Usage(text),
+        }
+    }
+}
+
+impl From<AllocError> for Ended {
+    ghost use Rattle.std.specs.Prelude.{◌≡◌};
+    ghost use Rattle.gmp_cli.specs.declared.said.Said.TheVariants.{OutOfMemory};
+
+    ghost from_gives = { λ _ e. (e.status ≡ 5) × (e.said ≡ OutOfMemory) };
+
+    fn from(_error: AllocError) -> Self {
+        Ended::out_of_memory()
+    }
+}

@@ -1,0 +1,22 @@
+//! The program `gmp` as functions: its command line, its input, its scripts, and how it ends.
+#![tactic(auto)]
+
+mod commands;
+mod ended;
+mod numeric;
+mod options;
+mod parsing;
+mod reading;
+mod said;
+mod words;
+
+pub use commands::{Command, Script, ScriptBody};
+pub use ended::Ended;
+pub use options::{Settings, Task};
+pub use parsing::script;
+pub use reading::{MAX_INPUT, input};
+pub use said::Said;
+pub use words::settings;
+
+#[cfg(test)]
+mod tests;

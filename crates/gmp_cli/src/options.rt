@@ -1,0 +1,28 @@
+//! What is to be done, and with which numbers.
+
+ghost use Rattle.std.specs.Prelude.{◌≤◌};
+
+/// What the program is to do.
+#[derive(Clone, Copy, Debug, PartialEq, Eq)]
+pub enum Task {
+    /// Runs a script in one thread, and prints the trace.
+    Step,
+}
+
+/// What the command line says: the task, and the number of each option.
+#[derive(Clone, Copy, Debug, PartialEq, Eq)]
+pub struct Settings {
+    pub task: Task,
+    /// Processors: 1 to 32.
+    pub procs: u8,
+    /// Machines: 1 to 64.
+    pub machines: u8,
+    /// The most channels that a run may have: 0 to 1,024.
+    pub channels: u16,
+    /// The most entries that a history may have: 16 to 1,000,000.
+    pub entries: u32,
+    pub ghost procs_in_range: { (1 ≤ procs) × (procs ≤ 32) },
+    pub ghost machines_in_range: { (1 ≤ machines) × (machines ≤ 64) },
+    pub ghost channels_in_range: { channels ≤ 1024 },
+    pub ghost entries_in_range: { (16 ≤ entries) × (entries ≤ 1000000) },
+}

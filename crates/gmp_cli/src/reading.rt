@@ -1,0 +1,46 @@
+//! Reads the input whole.
+
+ghost use Rattle.std.specs.Prelude.{◌≡◌, ◌≤◌, ◌<◌, length, true, IfOk, IfErr, IfSome};
+ghost use Rattle.gmp_cli.specs.Said.{is_of_input};
+ghost use Rattle.gmp_cli.specs.declared.said.Said.TheVariants.{InputTooLong};
+
+use crate::ended::Ended;
+use std::alloc::Global;
+use std::io::{ErrorKind, Read};
+
+/// The most bytes that an input may have.
+pub const MAX_INPUT: usize = 1_048_576;
+
+/// All that the reader has left, if that is no more than `MAX_INPUT` bytes.
+///
+/// A read that was interrupted is tried again. On an error the reader is somewhere within its input.
+pub fn input<R: Read>(alloc: Global, reader: &mut R) -> Result<Vec<u8>, Ended>
+    ensures whole { IfOk result (λ text. IfSome (R.remaining reader.old) (λ all. text.items ≡ all)) }
+    ensures short { IfOk result (λ text. length text.items ≤ MAX_INPUT) }
+
+    ensures kinds { IfErr result (λ e. is_of_input e.said ≡ true) }
+    ensures too_long { IfErr result (λ e. e.said ≡ InputTooLong
+        → IfSome (R.remaining reader.old) (λ all. MAX_INPUT < length all)) }
+{
+    let mut text = Vec::new(alloc);
+    let mut chunk = [0u8; 4096];
+    'reads: for _ in 0..u64::MAX {
+        match reader.read(&mut chunk) {
+            Ok(0) => return Ok(text),
+            Ok(n) => {
+                if text.len() + n > MAX_INPUT {
+                    return Err(Ended::too_long());
+                }
+                if text.extend_from_slice(&chunk[..n]).is_err() {
+                    return Err(Ended::out_of_memory());
+                }
+            }
+            Err(error) => {
+                if error.kind() != ErrorKind::Interrupted {
+                    return Err(Ended::unreadable());
+                }
+            }
+        }
+    }
+    Err(Ended::unreadable())
+}
