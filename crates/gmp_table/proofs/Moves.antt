@@ -1,0 +1,240 @@
+-- A status table is kept where one goroutine changes, and the shelf with it.
+use Rattle.std.proofs.Common.{◌≡◌, ℕ, zero, suc, ◌+◌, ◌-◌, ◌<◌, ◌≤◌, ◌==◌, Bool, true, false, ◌&&◌, ◌||◌, List, [], ◌∷◌, ◌++◌, Option, Some, None, length, set, drop, map, replicate, slice_get, count_by, nat_lt, max, is_some, refl, sym, ◌∙◌, ap, arith, length-set, zero-add}
+use Rattle.std.proofs.lemmas.Bool.Decides.{nat_tests}
+use Rattle.std.proofs.lemmas.Grind.{common_steps}
+use Rattle.std.proofs.lemmas.List.Sums.{sum_by-cons}
+use Rattle.std.proofs.lemmas.List.{length-replicate}
+use Rattle.std.proofs.lemmas.Option.{slice_get_within}
+use Rattle.std.specs.List.{list_any}
+use Rattle.std.specs.Option.{option_map, option_map_or}
+use Rattle.circular_buffer.specs.Buffer.{keep_last}
+use Rattle.gmp_base.specs.declared.number.GNo.{GNo}
+use Rattle.gmp_base.specs.declared.number.Readiness.{Readiness}
+use Rattle.gmp_base.specs.declared.ask.Woke.{Woke}
+use Rattle.gmp_seq.specs.declared.status.Goroutine.{Goroutine}
+use Rattle.gmp_seq.specs.declared.status.Place.{Place}
+use Rattle.gmp_seq.specs.declared.status.Place.TheVariants.{Shelf, Out}
+use Rattle.gmp_seq.specs.declared.status.Status.{Status}
+use Rattle.gmp_seq.specs.declared.status.Status.TheVariants.{Dormant, Ready, Running, Calling, Waiting, Dead}
+use Rattle.gmp_seq.specs.State.{dormant, first_goroutine}
+use Rattle.gmp_seq.specs.declared.call.Reply.TheVariants as reply
+use Rattle.gmp_seq.specs.Step.{Ticks}
+use Rattle.gmp_seq.specs.Table.{Table, is_shelved, is_out, is_waiting, woken_with, due_answer}
+use Rattle.gmp_table.specs.Contents.{answer_in, turned, epoch_in}
+use Rattle.gmp_table.specs.Kept.{tally, count_status, passes_at, IsListing, IsTable}
+use Rattle.gmp_table.proofs.Listing.{count_by-set, slice_get-set_same, pushed, popped, passed_by, first_passes, HasRow, row_of, listed_fewer, dormant_none, dormant_listing}
+
+-- nobody begins to wait where the row's new status is no wait
+still_set : (rows : List Goroutine) (g : GNo) (x y : Goroutine) → count_status is_waiting rows ≡ 0 → slice_get rows g.0 ≡ Some x → is_waiting y.status ≡ false
+    → count_status is_waiting (set rows g.0 y) ≡ 0
+still_set rows g x y still at calm =
+    let n = count_by-set (λ z. is_waiting z.status) rows g.0 x y at in
+    let n' : count_status is_waiting (set rows g.0 y) + tally (is_waiting x.status) ≡ count_status is_waiting rows + 0 = rw calm at n in
+    omega (arith, n', still)
+
+-- The row of a goroutine that is off the shelf
+
+abbrev pub IsOff : List Goroutine → GNo → Type 0
+IsOff rows g = option_map is_shelved (option_map (λ (x : Goroutine). x.status) (slice_get rows g.0)) ≡ Some false
+
+pub off_row : (rows : List Goroutine) (g : GNo) → IsOff rows g → HasRow is_shelved rows g false
+off_row rows g off = row_by (slice_get rows g.0) refl off
+  where
+    row_by : (o : Option Goroutine) → slice_get rows g.0 ≡ o → option_map is_shelved (option_map (λ (x : Goroutine). x.status) o) ≡ Some false → HasRow is_shelved rows g false
+    row_by None at e = absurd cc
+    row_by (Some x) at e = record { row = x; at = at; is = cc }
+
+pub off_within : (rows : List Goroutine) (g : GNo) → IsOff rows g → g.0 < length rows
+off_within rows g off = let r = off_row rows g off in slice_get_within rows g.0 r.row r.at
+
+-- a goroutine off the shelf stays off it
+pub off_turned : (rows : List Goroutine) (g : GNo) (y : Goroutine) (shelf : List GNo) (capacity : ℕ) → IsTable rows shelf capacity → IsOff rows g
+    → is_shelved y.status ≡ false → is_waiting y.status ≡ false → IsTable (set rows g.0 y) shelf capacity
+off_turned rows g y shelf capacity kept off now_off calm =
+    let r = off_row rows g off in
+    record {
+      listing = passed_by is_shelved rows g r.row y shelf kept.listing r.at (r.is ∙ sym now_off);
+      room = rw length-set kept.room;
+      still = still_set rows g r.row y kept.still r.at calm;
+    }
+
+-- the shelf has room for one that is off it
+pub off_room : (rows : List Goroutine) (g : GNo) (shelf : List GNo) (capacity : ℕ) → IsTable rows shelf capacity → IsOff rows g
+    → keep_last capacity (shelf ++ g ∷ []) ≡ shelf ++ g ∷ []
+off_room rows g shelf capacity kept off =
+    let r = off_row rows g off in
+    let fewer = listed_fewer is_shelved rows g r.row first_goroutine shelf kept.listing r.at r.is refl in
+    let size : length (shelf ++ g ∷ []) ≡ length shelf + 1 = grind (arith, common_steps) in
+    let fits : length (shelf ++ g ∷ []) - capacity ≡ 0 = omega (arith, size, fewer, kept.room) in
+    rw fits refl
+
+-- a goroutine off the shelf goes onto it
+pub off_pushed : (rows : List Goroutine) (g : GNo) (y : Goroutine) (shelf : List GNo) (capacity : ℕ) → IsTable rows shelf capacity → IsOff rows g
+    → is_shelved y.status ≡ true → is_waiting y.status ≡ false → IsTable (set rows g.0 y) (keep_last capacity (shelf ++ g ∷ [])) capacity
+off_pushed rows g y shelf capacity kept off now_on calm =
+    let r = off_row rows g off in
+    rw (off_room rows g shelf capacity kept off) (record {
+      listing = pushed is_shelved rows g r.row y shelf kept.listing r.at r.is now_on;
+      room = rw length-set kept.room;
+      still = still_set rows g r.row y kept.still r.at calm;
+    })
+
+-- The first on the shelf
+
+pub first_of : {X : Type 0} (xs : List X) (x : X) → slice_get xs 0 ≡ Some x → xs ≡ x ∷ drop 1 xs
+first_of [] x h = cc
+first_of (y ∷ ys) x h = let e : y ≡ x = cc in rw e refl
+
+pub empty_of : {X : Type 0} (xs : List X) → slice_get xs 0 ≡ None → xs ≡ []
+empty_of [] h = refl
+empty_of (y ∷ ys) h = absurd cc
+
+-- a goroutine's row says that it is ready on the shelf
+pub record IsTop (rows : List Goroutine) (g : GNo) : Type 0 where
+  pub answer : Woke
+  pub epoch : ℕ
+  pub at : slice_get rows g.0 ≡ Some (record { status = Ready Shelf answer; epoch = epoch })
+
+shelved_row : (rows : List Goroutine) (g : GNo) → HasRow is_shelved rows g true → IsTop rows g
+shelved_row rows g r = by_status r.row.status refl r.is
+  where
+    by_status : (s : Status) → r.row.status ≡ s → is_shelved s ≡ true → IsTop rows g
+    by_status (Ready Shelf answer) is e =
+        record { answer = answer; epoch = r.row.epoch; at = r.at ∙ ap (λ (p : Status). let y : Goroutine = record { status = p; epoch = r.row.epoch } in Some y) is }
+    by_status _ is e = absurd cc
+
+pub top_is_shelved : (rows : List Goroutine) (shelf : List GNo) (capacity : ℕ) (g : GNo) → IsTable rows shelf capacity → slice_get shelf 0 ≡ Some g → IsTop rows g
+top_is_shelved rows shelf capacity g kept first =
+    let e = first_of shelf g first in
+    let listing : IsListing is_shelved rows (g ∷ drop 1 shelf) = rw (← e) kept.listing in
+    shelved_row rows g (row_of is_shelved rows g (first_passes is_shelved rows g (drop 1 shelf) listing))
+
+pub top_popped : (rows : List Goroutine) (shelf : List GNo) (capacity : ℕ) (g : GNo) (y : Goroutine) → IsTable rows shelf capacity → slice_get shelf 0 ≡ Some g
+    → is_shelved y.status ≡ false → is_waiting y.status ≡ false → IsTable (set rows g.0 y) (drop 1 shelf) capacity
+top_popped rows shelf capacity g y kept first now_off calm =
+    let top = top_is_shelved rows shelf capacity g kept first in
+    let e = first_of shelf g first in
+    let listing : IsListing is_shelved rows (g ∷ drop 1 shelf) = rw (← e) kept.listing in
+    record {
+      listing = popped is_shelved rows g _ y (drop 1 shelf) listing top.at refl now_off;
+      room = rw length-set kept.room;
+      still = still_set rows g _ y kept.still top.at calm;
+    }
+
+-- what is told by a ready goroutine's row
+pub ready_answer : (rows : List Goroutine) (g : GNo) (place : Place) (answer woke : Woke) (epoch : ℕ)
+    → slice_get rows g.0 ≡ Some (record { status = Ready place answer; epoch = epoch }) → answer_in rows g ≡ Some woke → woke ≡ answer
+ready_answer rows g place answer woke epoch at e = let e' : Some answer ≡ Some woke = rw at at e in cc
+
+pub top_answer : (rows : List Goroutine) (g : GNo) (woke : Woke) (top : IsTop rows g) → answer_in rows g ≡ Some woke → woke ≡ top.answer
+top_answer rows g woke top e = ready_answer rows g Shelf top.answer woke top.epoch top.at e
+
+pub top_turned : (rows : List Goroutine) (g : GNo) (now : List Goroutine) (status : Status) (top : IsTop rows g) → now ≡ turned rows g status → epoch_in now g ≡ top.epoch
+top_turned rows g now status top e =
+    let within = slice_get_within rows g.0 _ top.at in
+    let epoch : epoch_in rows g ≡ top.epoch = rw top.at refl in
+    rw (e, slice_get-set_same rows g.0 (record { status = status; epoch = epoch_in rows g }) within) epoch
+
+-- A ticket that is out
+
+-- the row of an outstanding readiness
+pub record IsGivenOut (rows : List Goroutine) (r : Readiness) : Type 0 where
+  pub answer : Woke
+  pub at : slice_get rows r.g.0 ≡ Some (record { status = Ready Out answer; epoch = r.epoch })
+
+abbrev pub is_given_out : List Goroutine → Readiness → Bool
+is_given_out rows r = option_map_or (λ (x : Goroutine). is_out x.status && (x.epoch == r.epoch)) (slice_get rows r.g.0) false
+
+pub given_out : (rows : List Goroutine) (r : Readiness) → is_given_out rows r ≡ true → IsGivenOut rows r
+given_out rows r h = by_row (slice_get rows r.g.0) refl h
+  where
+    by_status : (s : Status) (e : ℕ) → slice_get rows r.g.0 ≡ Some (record { status = s; epoch = e }) → (is_out s && (e == r.epoch)) ≡ true → IsGivenOut rows r
+    by_status (Ready Out answer) e at is =
+        let same : e ≡ r.epoch = grind (arith, nat_tests) in
+        record { answer = answer; at = at ∙ ap (λ (n : ℕ). let y : Goroutine = record { status = Ready Out answer; epoch = n } in Some y) same }
+    by_status _ e at is = absurd cc
+
+    by_row : (o : Option Goroutine) → slice_get rows r.g.0 ≡ o → option_map_or (λ (x : Goroutine). is_out x.status && (x.epoch == r.epoch)) o false ≡ true → IsGivenOut rows r
+    by_row None at is = absurd cc
+    by_row (Some x) at is = by_status x.status x.epoch at is
+
+pub out_off : (rows : List Goroutine) (r : Readiness) → IsGivenOut rows r → IsOff rows r.g
+out_off rows r out = rw out.at refl
+
+-- Nobody waits
+
+-- a tick changes no row, and wakes nobody
+pub record IsUnwoken (now : ℕ) (rows : List Goroutine) : Type 0 where
+  pub same : map (λ (x : Goroutine). woken_with (due_answer now x.status) x) rows ≡ rows
+  pub none : count_by (λ (x : Goroutine). is_some (due_answer now x.status)) rows ≡ 0
+
+-- one row that isn't woken, before rows that aren't
+unwoken_cons : (now : ℕ) (x : Goroutine) (rows : List Goroutine) → due_answer now x.status ≡ None → IsUnwoken now rows → IsUnwoken now (x ∷ rows)
+unwoken_cons now x rows none below = record {
+  same = ap (λ (o : Option Woke). woken_with o x ∷ map (λ (z : Goroutine). woken_with (due_answer now z.status) z) rows) none ∙ ap (λ (zs : List Goroutine). x ∷ zs) below.same;
+  none =
+      let n = sum_by-cons (λ (z : Goroutine). tally (is_some (due_answer now z.status))) x rows in
+      n ∙ (ap (λ (o : Option Woke). tally (is_some o) + count_by (λ (z : Goroutine). is_some (due_answer now z.status)) rows) none ∙ (zero-add _ ∙ below.none));
+}
+
+no_wait_no_answer : (now : ℕ) (s : Status) → is_waiting s ≡ false → due_answer now s ≡ None
+no_wait_no_answer now (Waiting w) e = absurd cc
+no_wait_no_answer now _ e = refl
+
+pub nobody_woken : (now : ℕ) (rows : List Goroutine) → count_status is_waiting rows ≡ 0 → IsUnwoken now rows
+nobody_woken now [] still = record { same = refl; none = refl }
+nobody_woken now (x ∷ rows) still =
+    let n = sum_by-cons (λ (z : Goroutine). tally (is_waiting z.status)) x rows in
+    let rest : count_status is_waiting rows ≡ 0 = omega (arith, n, still) in
+    let none : tally (is_waiting x.status) ≡ 0 = omega (arith, n, still) in
+    unwoken_cons now x rows (no_wait_no_answer now x.status (no_tally (is_waiting x.status) none)) (nobody_woken now rows rest)
+  where
+    no_tally : (b : Bool) → tally b ≡ 0 → b ≡ false
+    no_tally true e = absurd (omega arith)
+    no_tally false e = refl
+
+-- a table whose clock shows this moment
+abbrev pub table_at : List Goroutine → ℕ → Table
+table_at rows clock = record { goroutines = rows; arrivals = 0; clock = clock }
+
+pub ticks_unwoken : (rows : List Goroutine) (clock moment shown : ℕ) → shown ≡ max clock moment → count_status is_waiting rows ≡ 0
+    → Ticks moment (reply.Woke 0) (table_at rows clock) (table_at rows shown)
+ticks_unwoken rows clock moment shown e still =
+    let n = nobody_woken (max clock moment) rows still in
+    let m = nobody_woken shown rows still in (
+      ap (table_at rows) e ∙ ap (λ (gs : List Goroutine). table_at gs (max clock moment)) (sym n.same),
+      sym m.none,
+    )
+
+-- The opening
+
+pub dormant_table : (n : ℕ) → IsTable (replicate n dormant) [] n
+dormant_table n = record {
+  listing = dormant_listing is_shelved n refl;
+  room = rw length-replicate (omega arith);
+  still = dormant_none (λ (x : Goroutine). is_waiting x.status) n refl;
+}
+
+pub dormant_off : (n : ℕ) → 0 < n → IsOff (replicate n dormant) (record { 0 = 0 })
+dormant_off zero h = absurd (omega arith)
+dormant_off (suc n) h = refl
+
+-- nobody is on an empty shelf
+any_counted : {X : Type 0} (p : X → Bool) (xs : List X) → list_any p xs ≡ nat_lt 0 (count_by p xs)
+any_counted p [] = refl
+any_counted p (x ∷ xs) = by_test (p x) refl (any_counted p xs)
+  where
+    by_test : (b : Bool) → p x ≡ b → list_any p xs ≡ nat_lt 0 (count_by p xs) → list_any p (x ∷ xs) ≡ nat_lt 0 (count_by p (x ∷ xs))
+    by_test true is below =
+        let n = sum_by-cons (λ z. tally (p z)) x xs in
+        let one : count_by p (x ∷ xs) ≡ 1 + count_by p xs = n ∙ ap (λ (b : Bool). tally b + count_by p xs) is in
+        let some : nat_lt 0 (1 + count_by p xs) ≡ true = grind (arith, nat_tests) in
+        ap (λ (b : Bool). b || list_any p xs) is ∙ sym (ap (nat_lt 0) one ∙ some)
+    by_test false is below =
+        let n = sum_by-cons (λ z. tally (p z)) x xs in
+        let same : count_by p (x ∷ xs) ≡ count_by p xs = n ∙ (ap (λ (b : Bool). tally b + count_by p xs) is ∙ zero-add (count_by p xs)) in
+        ap (λ (b : Bool). b || list_any p xs) is ∙ (below ∙ ap (nat_lt 0) (sym same))
+
+pub some_on_shelf : (rows : List Goroutine) (shelf : List GNo) (capacity : ℕ) → IsTable rows shelf capacity
+    → list_any (λ (x : Goroutine). is_shelved x.status) rows ≡ nat_lt 0 (length shelf)
+some_on_shelf rows shelf capacity kept = any_counted (λ (x : Goroutine). is_shelved x.status) rows ∙ ap (nat_lt 0) (sym kept.listing.all)

@@ -1,0 +1,209 @@
+//! The status table.
+ghost use Rattle.std.specs.Prelude.{◌≡◌, ℕ, ◌+◌, ◌<◌, ◌^◌, true, false, None, Some, [], ◌∷◌, ◌++◌, slice_get, option_copied, max, List, length, IsTrue, ◌↔◌, IfOk, IfSome, IfNone};
+ghost use Rattle.gmp_base.specs.declared.ask.Woke.{Woke};
+ghost use Rattle.gmp_seq.specs.declared.call.Reply.{Reply};
+ghost use Rattle.gmp_seq.specs.Step.{Takes, Puts, Claims, Starts, Ticks};
+ghost use Rattle.gmp_seq.specs.Table.{Table, IsReady, IsOffShelf, status_at, epoch_at, next_of, some_status, is_shelved, is_outstanding, is_running_on, set_status, made_ready};
+ghost use Rattle.gmp_table.specs.Contents.{Contents, opening_contents};
+
+use crate::rows::Rows;
+use circular_buffer::HeapCircularBuffer;
+use gmp_base::{GNo, MNo, Readiness, Woke};
+use gmp_seq::{Goroutine, Place, Status};
+use std::alloc::{AllocError, Global};
+use std::marker::Model;
+
+/// The goroutines and the shelf, first in, first out. A contract sees the table, and the shelf in order.
+///
+/// Only the opening takes memory, and no call looks at all goroutines.
+#[derive(Drop)]
+pub struct StatusTable {
+    rows: Rows,
+    shelf: HeapCircularBuffer<GNo>,
+    clock: u64,
+}
+
+impl Model for StatusTable {
+    ghost use Rattle.gmp_table.specs.Contents.{Contents};
+    ghost use Rattle.gmp_table.specs.Kept.{IsTable};
+
+    ghost Value = { Contents };
+
+    ghost view = { λ t. record { table = record { goroutines = t.rows; arrivals = 0; clock = t.clock }; shelf = t.shelf.items } };
+
+    ghost invariant = { λ t. IsTable t.rows t.shelf.items t.shelf.capacity };
+}
+
+impl StatusTable {
+    /// All goroutines are dormant, but goroutine 0 is on the shelf. Room is made for all of them.
+    pub fn open(alloc: Global, bodies: u16) -> Result<Self, AllocError>
+        requires { 0 < bodies }
+        ensures { IfOk result (λ t. t ≡ opening_contents bodies) }
+    {
+        let mut rows = Rows::dormant(alloc, bodies)?;
+        let mut shelf = HeapCircularBuffer::with_capacity(alloc, bodies as usize)?;
+        rows.rise(GNo(0), Place::Shelf, Woke::First);
+        shelf.push_back(GNo(0));
+        Ok(StatusTable {
+            rows,
+            shelf,
+            clock: 0,
+        })
+    }
+
+    /// How many goroutines there are.
+    pub fn len(&self) -> u16
+        ensures { result ≡ length self.now.table.goroutines }
+    {
+        self.rows.len()
+    }
+
+    /// What g does and how often it became ready, if there is such a goroutine.
+    pub fn get(&self, g: GNo) -> Option<&Goroutine>
+        ensures { option_copied result ≡ slice_get self.now.table.goroutines g.0 }
+    {
+        self.rows.get(g)
+    }
+
+    /// Whether somebody is on the shelf.
+    pub fn has_shelved(&self) -> bool
+        ensures { result ≡ some_status is_shelved self.now.table }
+    {
+        !self.shelf.is_empty()
+    }
+
+    /// Whether the ticket of this readiness is given out, and not yet claimed or put back.
+    pub fn is_outstanding(&self, r: Readiness) -> bool
+        ensures { result ≡ is_outstanding self.now.table r }
+    {
+        match self.get(r.g) {
+            Some(
+                Goroutine {
+                    status: Status::Ready(Place::Out, _),
+                    epoch,
+                },
+            ) => *epoch == r.epoch,
+            _ => false,
+        }
+    }
+
+    /// Whether m runs g.
+    pub fn runs(&self, m: MNo, g: GNo) -> bool
+        ensures { IsTrue result ↔ (status_at self.now.table g ≡ Some (Status.Running m)) }
+    {
+        match self.get(g) {
+            Some(
+                Goroutine {
+                    status: Status::Running(n),
+                    ..
+                },
+            ) => *n == m,
+            _ => false,
+        }
+    }
+
+    /// The latest moment that a tick told, in nanoseconds.
+    pub fn clock(&self) -> u64
+        ensures { result ≡ self.now.table.clock }
+    {
+        self.clock
+    }
+
+    /// Gives out the ticket of the goroutine that is on the shelf for longest.
+    pub fn unshelve(&mut self) -> Option<Readiness>
+        ensures none { IfNone result (Takes Reply.Nothing self.old.table self.new.table) }
+        ensures taken { IfSome result (λ r. Takes (Reply.Ticket r) self.old.table self.new.table) }
+        ensures empty { IfNone result ((self.old.shelf ≡ []) × (self.new.shelf ≡ [])) }
+        ensures first { IfSome result (λ r. self.old.shelf ≡ r.g ∷ self.new.shelf) }
+    {
+        let g = self.shelf.pop_front()?;
+        let Some(woke) = self.rows.answer(g) else {
+            unreachable!()
+        };
+        self.rows.turn(g, Status::Ready(Place::Out, woke));
+        Some(Readiness {
+            g,
+            epoch: self.rows.epoch(g),
+        })
+    }
+
+    /// Puts a ticket that is out onto the shelf, last.
+    pub fn shelve(&mut self, r: Readiness)
+        requires { is_outstanding self.old.table r ≡ true }
+        ensures puts { Puts r Reply.Shelf self.old.table self.new.table }
+        ensures last { self.new.shelf ≡ self.old.shelf ++ r.g ∷ [] }
+    {
+        let Some(woke) = self.rows.answer(r.g) else {
+            unreachable!()
+        };
+        self.rows.turn(r.g, Status::Ready(Place::Shelf, woke));
+        self.shelf.push_back(r.g);
+    }
+
+    /// Spends a ticket that is out: m runs its goroutine, which is to be told the answer.
+    pub fn claim(&mut self, m: MNo, r: Readiness) -> Woke
+        requires { is_outstanding self.old.table r ≡ true }
+        ensures claims { Claims m r Reply.Held self.old.table self.new.table }
+        ensures answer { IsReady self.old.table r Place.Out result }
+        ensures shelf { self.new.shelf ≡ self.old.shelf }
+    {
+        let Some(woke) = self.rows.answer(r.g) else {
+            unreachable!()
+        };
+        self.rows.turn(r.g, Status::Running(m));
+        woke
+    }
+
+    /// Starts a dormant goroutine: it is ready, and its ticket is given out.
+    pub fn start(&mut self, g: GNo) -> Readiness
+        requires dormant { status_at self.old.table g ≡ Some Status.Dormant }
+        requires young { epoch_at self.old.table g < 2 ^ 63 }
+        ensures g { result.g ≡ g }
+        ensures starts { Starts g (Reply.Ticket result) self.old.table self.new.table }
+        ensures shelf { self.new.shelf ≡ self.old.shelf }
+    {
+        self.ready(g, Woke::First)
+    }
+
+    /// Makes a goroutine ready, its ticket given out: one that starts, or stops waiting.
+    pub fn ready(&mut self, g: GNo, woke: Woke) -> Readiness
+        requires off { IsOffShelf self.old.table g }
+        requires young { epoch_at self.old.table g < 2 ^ 63 }
+        ensures ticket { result ≡ next_of self.old.table g }
+        ensures table { self.new.table ≡ made_ready self.old.table g Place.Out woke }
+        ensures shelf { self.new.shelf ≡ self.old.shelf }
+    {
+        let epoch = self.rows.rise(g, Place::Out, woke);
+        Readiness { g, epoch }
+    }
+
+    /// Makes a goroutine ready on the shelf, last: one that yields.
+    pub fn requeue(&mut self, g: GNo, woke: Woke) -> Readiness
+        requires off { IsOffShelf self.old.table g }
+        requires young { epoch_at self.old.table g < 2 ^ 63 }
+        ensures ticket { result ≡ next_of self.old.table g }
+        ensures table { self.new.table ≡ made_ready self.old.table g Place.Shelf woke }
+        ensures last { self.new.shelf ≡ self.old.shelf ++ g ∷ [] }
+    {
+        let epoch = self.rows.rise(g, Place::Shelf, woke);
+        self.shelf.push_back(g);
+        Readiness { g, epoch }
+    }
+
+    /// Ends a goroutine that is off the shelf.
+    pub fn dead(&mut self, g: GNo)
+        requires { IsOffShelf self.old.table g }
+        ensures table { self.new.table ≡ set_status self.old.table g Status.Dead }
+        ensures shelf { self.new.shelf ≡ self.old.shelf }
+    {
+        self.rows.turn(g, Status::Dead);
+    }
+
+    /// Lets the clock show this moment, in nanoseconds, unless it showed a later one. Nobody waits, so nobody is woken.
+    pub fn tick(&mut self, moment: u64)
+        ensures ticks { Ticks moment (Reply.Woke 0) self.old.table self.new.table }
+        ensures shelf { self.new.shelf ≡ self.old.shelf }
+    {
+        self.clock = self.clock.max(moment);
+    }
+}
