@@ -1,0 +1,12 @@
+//! The trace: a run of the scheduler as a text with one line for each entry.
+#![tactic(auto)]
+
+mod call;
+mod line;
+mod put;
+mod reply;
+mod trace;
+mod writing;
+
+pub use trace::{End, Trace};
+pub use writing::{WriteError, write};

@@ -1,0 +1,87 @@
+//! Lines of the text.
+
+ghost use Rattle.std.specs.Prelude.{◌≡◌, ◌++◌, OnOk};
+ghost use Rattle.gmp_trace.specs.Text.{limit, limits_text, capacities_text, opening_text, end_text, entry_text};
+
+use crate::call::put_call;
+use crate::put::{put, put_digits, put_named, put_number, put_pair, put_word};
+use crate::reply::put_reply;
+use crate::trace::End;
+use gmp_seq::{Entry, Limits};
+use std::alloc::AllocError;
+
+#[tactic(auto, unfolding(crate::specs::Text::limit))]
+fn put_limit(out: &mut Vec<u8>, name: &[u8], n: u64) -> Result<(), AllocError>
+    ensures { OnOk result (out.new.items ≡ out.old.items ++ limit name.now n) }
+{
+    put_named(out, name, n)
+}
+
+#[tactic(auto, unfolding(crate::specs::Text::limits_text))]
+fn put_limits(out: &mut Vec<u8>, limits: &Limits, bodies: u16) -> Result<(), AllocError>
+    ensures { OnOk result (out.new.items ≡ out.old.items ++ limits_text limits.now bodies) }
+{
+    put(out, b"limits")?;
+    put_limit(out, b"procs", u64::from(limits.procs))?;
+    put_limit(out, b"machines", u64::from(limits.machines))?;
+    put_limit(out, b"bodies", u64::from(bodies))?;
+    put_limit(out, b"channels", u64::from(limits.channels))?;
+    put_limit(out, b"entries", u64::from(limits.entries))?;
+    out.push(b'\n')?;
+    Ok(())
+}
+
+#[tactic(auto, unfolding(crate::specs::Text::capacities_text))]
+fn put_capacities(out: &mut Vec<u8>, capacities: &[u32]) -> Result<(), AllocError>
+    ensures { OnOk result (out.new.items ≡ out.old.items ++ capacities_text capacities.now) }
+{
+    put(out, b"caps")?;
+    for capacity in capacities {
+        put_number(out, u64::from(*capacity))?;
+    }
+    out.push(b'\n')?;
+    Ok(())
+}
+
+/// The lines before the entries.
+#[tactic(auto, unfolding(crate::specs::Text::opening_text))]
+pub fn put_opening(
+    out: &mut Vec<u8>,
+    limits: &Limits,
+    bodies: u16,
+    capacities: &[u32],
+) -> Result<(), AllocError>
+    ensures { OnOk result (out.new.items ≡ out.old.items ++ opening_text limits.now bodies capacities.now) }
+{
+    put(out, b"gmp-trace 1\n")?;
+    put_limits(out, limits, bodies)?;
+    put_capacities(out, capacities)?;
+    Ok(())
+}
+
+/// The line of an entry: its number, its machine and which of the machine's it is, the call and the reply.
+#[tactic(auto, unfolding(crate::specs::Text::entry_text))]
+pub fn put_entry(out: &mut Vec<u8>, number: u64, entry: &Entry) -> Result<(), AllocError>
+    ensures { OnOk result (out.new.items ≡ out.old.items ++ entry_text number entry.now) }
+{
+    put_digits(out, number)?;
+    put_pair(out, u64::from(entry.m.0), entry.k)?;
+    put_call(out, &entry.call)?;
+    put_word(out, b"->")?;
+    put_reply(out, &entry.reply)?;
+    out.push(b'\n')?;
+    Ok(())
+}
+
+/// The last line.
+#[tactic(auto, unfolding(crate::specs::Text::end_text))]
+pub fn put_end(out: &mut Vec<u8>, end: End) -> Result<(), AllocError>
+    ensures { OnOk result (out.new.items ≡ out.old.items ++ end_text end) }
+{
+    match end {
+        End::MainEnded => put(out, b"end main ended\n"),
+        End::AllAsleep => put(out, b"end all asleep\n"),
+        End::BookFull => put(out, b"end book full\n"),
+        End::Running => put(out, b"end running\n"),
+    }
+}

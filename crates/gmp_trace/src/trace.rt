@@ -1,0 +1,43 @@
+//! A whole trace.
+
+ghost use Rattle.std.specs.Prelude.{◌≡◌};
+ghost use Rattle.gmp_trace.specs.Text.{end_of};
+
+use gmp_seq::{Entry, Limits, Outcome};
+
+/// How a run ended.
+#[derive(Clone, Copy, Debug, PartialEq, Eq)]
+pub enum End {
+    MainEnded,
+    AllAsleep,
+    BookFull,
+    /// It had not ended.
+    Running,
+}
+
+impl End {
+    /// The end of a run with this outcome.
+    pub fn of(outcome: Option<Outcome>) -> End
+        ensures { result ≡ end_of outcome }
+    {
+        match outcome {
+            Some(Outcome::MainEnded) => End::MainEnded,
+            Some(Outcome::AllAsleep) => End::AllAsleep,
+            Some(Outcome::BookFull) => End::BookFull,
+            None => End::Running,
+        }
+    }
+}
+
+/// A run, and what it was opened with.
+#[derive(Debug, Drop)]
+pub struct Trace {
+    pub limits: Limits,
+    /// How many goroutines there are.
+    pub bodies: u16,
+    /// The capacities of the channels that were there at the opening.
+    pub capacities: Vec<u32>,
+    /// The calls in order, each with its reply.
+    pub entries: Vec<Entry>,
+    pub end: End,
+}

@@ -1,0 +1,68 @@
+//! Writes the text of a trace.
+
+ghost use Rattle.std.specs.Prelude.{◌≡◌, [], OnOk, IfErr};
+ghost use Rattle.std.specs.Io.KnownBytes.{Appends};
+ghost use Rattle.gmp_trace.specs.declared.writing.WriteError.TheVariants.{Device, OutOfMemory};
+ghost use Rattle.gmp_trace.specs.Text.{text, content, AppendsStart};
+
+use crate::line::{put_end, put_entry, put_opening};
+use crate::trace::Trace;
+use std::alloc::{AllocError, Global};
+use std::io::Write;
+use thiserror::Error;
+
+/// Why a text was not written whole.
+#[derive(Clone, Copy, Debug, PartialEq, Eq, Error)]
+pub enum WriteError {
+    /// The writer failed. How much went out is not known.
+    #[error("the trace could not be written")]
+    Device,
+    /// What went out is the beginning of the text.
+    #[error("out of memory")]
+    OutOfMemory,
+}
+
+impl From<AllocError> for WriteError {
+    fn from(_error: AllocError) -> WriteError {
+        WriteError::OutOfMemory
+    }
+}
+
+/// As many bytes are gathered before they go out.
+const GATHERED: usize = 65_536;
+
+/// A line of an entry is shorter: its longest has a select of 8 sends.
+const LONGEST: usize = 512;
+
+fn send<W: Write>(out: &mut Vec<u8>, writer: &mut W) -> Result<(), WriteError>
+    ensures sent { OnOk result (Appends (W.contents writer.old) (W.contents writer.new) out.old.items) }
+    ensures empty { OnOk result (out.new.items ≡ []) }
+    ensures failed { IfErr result (λ e. e ≡ Device) }
+{
+    if writer.write_all(out.as_slice()).is_err() {
+        return Err(WriteError::Device);
+    }
+    out.clear();
+    Ok(())
+}
+
+/// Writes the text of a trace.
+///
+/// It gathers some 64 KiB at a time, however long the trace is. `Device` comes only where the writer failed,
+/// and `OutOfMemory` only where memory was refused.
+pub fn write<W: Write>(alloc: Global, trace: &Trace, writer: &mut W) -> Result<(), WriteError>
+    ensures written { OnOk result (Appends (W.contents writer.old) (W.contents writer.new) (text (content trace.now))) }
+    ensures begun { IfErr result (λ e. e ≡ OutOfMemory → AppendsStart (W.contents writer.old) (W.contents writer.new) (text (content trace.now))) }
+{
+    let mut out = Vec::with_capacity(alloc, GATHERED + LONGEST)?;
+    put_opening(&mut out, &trace.limits, trace.bodies, &trace.capacities)?;
+    for (number, entry) in trace.entries.iter().enumerate() {
+        put_entry(&mut out, number as u64, entry)?;
+        if out.len() >= GATHERED {
+            send(&mut out, writer)?;
+        }
+    }
+    put_end(&mut out, trace.end)?;
+    send(&mut out, writer)?;
+    Ok(())
+}
