@@ -1,1 +1,2 @@
+pub mod HasText
 pub mod Text

@@ -2,6 +2,7 @@
 #![tactic(auto)]
 
 mod call;
+pub mod laws;
 mod line;
 mod put;
 mod reply;
@@ -10,3 +11,6 @@ mod writing;
 
 pub use trace::{End, Trace};
 pub use writing::{WriteError, write};
+
+#[cfg(test)]
+mod tests;
