@@ -1,0 +1,4 @@
+pub mod Places
+pub mod Entered
+pub mod Holding
+pub mod Answered

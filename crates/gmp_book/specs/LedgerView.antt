@@ -1,0 +1,20 @@
+-- The run that a ledger's parts make.
+use Rattle.std.specs.Prelude.{map}
+use Rattle.gmp_seq.specs.Channels.{new_channel}
+use Rattle.gmp_book.specs.declared.ledger.Ledger.TheInside.{Inside}
+use Rattle.gmp_book.specs.Log.{Log}
+
+abbrev pub log_of : Inside → Log
+log_of l = record {
+  limits = l.limits;
+  bodies = l.bodies;
+  capacities = l.capacities.items;
+  history = l.journal.entries;
+  state = record {
+    table = l.table.table;
+    channels = map new_channel l.capacities.items;
+    machines = l.machines;
+    counts = l.journal.counts;
+    outcome = l.outcome;
+  };
+}

@@ -1,0 +1,335 @@
+//! The run so far, and the calls that go on with it.
+ghost use Rattle.std.specs.Prelude.{◌≡◌, ◌+◌, ◌<◌, ◌^◌, ◌≢◌, None, Some, [], ◌∷◌, ◌++◌, length, slice_index, slice_set, IfOk, IfSome};
+ghost use Rattle.gmp_base.specs.declared.number.GNo.{GNo};
+ghost use Rattle.gmp_seq.specs.Fits.{AreLimits};
+ghost use Rattle.gmp_seq.specs.Needs.{Needs};
+ghost use Rattle.gmp_seq.specs.Run.{IsLegal};
+ghost use Rattle.gmp_seq.specs.declared.status.Place.TheVariants.{Shelf, Out};
+ghost use Rattle.gmp_seq.specs.Step.{Starts, outcome_after};
+ghost use Rattle.gmp_seq.specs.Table.{IsReady, IsRunning, epoch_at, is_outstanding, set_status, made_ready};
+ghost use Rattle.gmp_book.specs.Written.{HasRoomFor};
+ghost use Rattle.gmp_book.specs.Log.{Records, opening_log};
+ghost use Rattle.gmp_book.specs.Replies.{acquired, taken, started, left, poked};
+
+use crate::journal::Journal;
+use crate::machines::Machines;
+use crate::replies;
+use crate::report::Report;
+use gmp_base::{Fault, GNo, MNo, PNo, Readiness, Woke};
+use gmp_seq::{Call, Entry, Limits, Outcome, Reply, Status};
+use gmp_table::StatusTable;
+use std::alloc::{AllocError, Global};
+use std::marker::Model;
+
+/// What became of a goroutine that exits.
+#[derive(Clone, Copy, Debug, PartialEq, Eq)]
+pub enum Exited {
+    Dead,
+    /// It was goroutine 0, whose exit ends the run.
+    MainEnded,
+}
+
+impl Exited {
+    fn of(g: GNo) -> Self
+        ensures dead { result ≡ Exited.Dead → g.0 ≢ 0 }
+        ensures main { result ≡ Exited.MainEnded → g.0 ≡ 0 }
+    {
+        if g.0 == 0 {
+            Exited::MainEnded
+        } else {
+            Exited::Dead
+        }
+    }
+}
+
+/// A run of the scheduler. A contract sees what it was opened with, its history, and its present state.
+///
+/// The history is a legal run from the opening to the present state, whatever is called. Only the opening takes memory.
+#[derive(Drop)]
+pub struct Ledger {
+    limits: Limits,
+    bodies: u16,
+    capacities: Vec<u32>,
+    table: StatusTable,
+    machines: Machines,
+    journal: Journal,
+    outcome: Option<Outcome>,
+}
+
+impl Model for Ledger {
+    ghost use Rattle.gmp_book.specs.Written.{HasRoomFor};
+    ghost use Rattle.gmp_book.specs.Log.{Log};
+    ghost use Rattle.gmp_book.specs.Kept.{IsKept};
+
+    ghost Value = { Log };
+
+    ghost use Rattle.gmp_book.specs.LedgerView.{log_of};
+
+    ghost view = { log_of };
+
+    ghost invariant = { λ l. IsKept (log_of l) l.journal.room };
+}
+
+/// Makes the entry of a call that was answered so, and ends the run where the reply or the last entry does.
+fn enter(
+    journal: &mut Journal,
+    outcome: &mut Option<Outcome>,
+    limits: Limits,
+    m: MNo,
+    call: Call,
+    reply: Reply,
+)
+    requires { HasRoomFor journal.old m }
+    ensures entries { journal.new.entries ≡ journal.old.entries ++ record { m = m; k = slice_index journal.old.counts m.0; call = call; reply = reply } ∷ [] }
+    ensures counts { journal.new.counts ≡ slice_set journal.old.counts m.0 (slice_index journal.old.counts m.0 + 1) }
+    ensures room { journal.new.room ≡ journal.old.room }
+    ensures outcome { outcome.new ≡ outcome_after limits reply journal.new.counts }
+{
+    journal.write(m, call, reply);
+    let is_full = journal.len() >= limits.entries as usize;
+    *outcome = match reply {
+        Reply::MainEnded => Some(Outcome::MainEnded),
+        Reply::AllAsleep => Some(Outcome::AllAsleep),
+        _ if is_full => Some(Outcome::BookFull),
+        _ => None,
+    };
+}
+
+/// Starts a body, where there is one that is dormant.
+fn start(table: &mut StatusTable, body: GNo) -> Result<Readiness, Fault>
+    requires { epoch_at table.old.table body < 2 ^ 63 }
+    ensures { Starts body (started result) table.old.table table.new.table }
+{
+    match table.get(body) {
+        None => Err(Fault::NoSuchBody),
+        Some(row) => match row.status {
+            Status::Dormant => Ok(table.start(body)),
+            _ => Err(Fault::AlreadyStarted),
+        },
+    }
+}
+
+impl Ledger {
+    /// A run that has made no call yet.
+    pub fn open(
+        alloc: Global,
+        limits: Limits,
+        bodies: u16,
+        capacities: Vec<u32>,
+    ) -> Result<Self, AllocError>
+        requires { AreLimits limits bodies capacities.items }
+        ensures { IfOk result (λ l. l ≡ opening_log limits bodies capacities.items) }
+    {
+        let table = StatusTable::open(alloc, bodies)?;
+        let machines = Machines::awake(alloc, limits.procs, limits.machines)?;
+        let journal = Journal::with_room(alloc, limits.machines, limits.entries)?;
+        Ok(Ledger {
+            limits,
+            bodies,
+            capacities,
+            table,
+            machines,
+            journal,
+            outcome: None,
+        })
+    }
+
+    /// How the run ended, if it did.
+    pub fn outcome(&self) -> Option<Outcome>
+        ensures { result ≡ self.now.state.outcome }
+    {
+        self.outcome
+    }
+
+    /// Every accepted call with its reply, in order: a legal run.
+    pub fn history(&self) -> &[Entry]
+        ensures entries { result.now ≡ self.now.history }
+        ensures legal { IsLegal self.now.limits self.now.bodies self.now.capacities self.now.history self.now.state }
+        ensures within { AreLimits self.now.limits self.now.bodies self.now.capacities }
+    {
+        self.journal.entries()
+    }
+
+    /// Whether the ticket of this readiness is given out, and not yet claimed or put back.
+    pub fn is_outstanding(&self, r: Readiness) -> bool
+        ensures { result ≡ is_outstanding self.now.state.table r }
+    {
+        self.table.is_outstanding(r)
+    }
+
+    /// m, which holds no processor, holds the least idle one.
+    pub fn acquire(&mut self, m: MNo) -> Option<PNo>
+        requires ongoing { self.old.state.outcome ≡ None }
+        requires needs { Needs m Call.Acquire self.old.state }
+        ensures { Records self.old m Call.Acquire (acquired result) self.new }
+    {
+        let p = self.machines.acquire(m);
+        enter(
+            &mut self.journal,
+            &mut self.outcome,
+            self.limits,
+            m,
+            Call::Acquire,
+            replies::acquired(p),
+        );
+        p
+    }
+
+    /// Gives out the ticket of the goroutine that is on the shelf for longest.
+    pub fn take(&mut self, m: MNo) -> Option<Readiness>
+        requires ongoing { self.old.state.outcome ≡ None }
+        requires needs { Needs m Call.Take self.old.state }
+        ensures { Records self.old m Call.Take (taken result) self.new }
+    {
+        let r = self.table.unshelve();
+        enter(
+            &mut self.journal,
+            &mut self.outcome,
+            self.limits,
+            m,
+            Call::Take,
+            replies::taken(r),
+        );
+        r
+    }
+
+    /// Spends a ticket: m runs its goroutine, which is to be told the answer.
+    pub fn claim(&mut self, m: MNo, r: Readiness) -> Woke
+        requires ongoing { self.old.state.outcome ≡ None }
+        requires needs { Needs m (Call.Claim r) self.old.state }
+        ensures records { Records self.old m (Call.Claim r) Reply.Held self.new }
+        ensures woke { IsReady self.old.state.table r Out result }
+    {
+        let woke = self.table.claim(m, r);
+        enter(
+            &mut self.journal,
+            &mut self.outcome,
+            self.limits,
+            m,
+            Call::Claim(r),
+            Reply::Held,
+        );
+        woke
+    }
+
+    /// The goroutine that m runs starts a body, whose ticket is given out.
+    pub fn go(&mut self, m: MNo, body: GNo) -> Result<Readiness, Fault>
+        requires ongoing { self.old.state.outcome ≡ None }
+        requires needs { Needs m (Call.Go body) self.old.state }
+        ensures { Records self.old m (Call.Go body) (started result) self.new }
+    {
+        let started = start(&mut self.table, body);
+        enter(
+            &mut self.journal,
+            &mut self.outcome,
+            self.limits,
+            m,
+            Call::Go(body),
+            replies::started(started),
+        );
+        started
+    }
+
+    /// The goroutine g that m runs goes onto the shelf, last.
+    pub fn yield_to(&mut self, m: MNo, g: GNo) -> Readiness
+        requires ongoing { self.old.state.outcome ≡ None }
+        requires runs { IsRunning self.old.state.table g m }
+        ensures records { Records self.old m Call.Yield (Reply.Shelved result) self.new }
+        ensures table { self.new.state.table ≡ made_ready self.old.state.table g Shelf Woke.Done }
+    {
+        let r = self.table.requeue(g, Woke::Done);
+        enter(
+            &mut self.journal,
+            &mut self.outcome,
+            self.limits,
+            m,
+            Call::Yield,
+            Reply::Shelved(r),
+        );
+        r
+    }
+
+    /// The goroutine g that m runs ends, and with goroutine 0 the run.
+    pub fn exit(&mut self, m: MNo, g: GNo) -> Exited
+        requires ongoing { self.old.state.outcome ≡ None }
+        requires runs { IsRunning self.old.state.table g m }
+        ensures records { Records self.old m Call.Exit (left result) self.new }
+        ensures table { self.new.state.table ≡ set_status self.old.state.table g Status.Dead }
+    {
+        self.table.dead(g);
+        let exited = Exited::of(g);
+        enter(
+            &mut self.journal,
+            &mut self.outcome,
+            self.limits,
+            m,
+            Call::Exit,
+            replies::left(exited),
+        );
+        exited
+    }
+
+    /// Wakes a parked machine, where nobody spins and a processor is idle.
+    pub fn poke(&mut self, m: MNo) -> Option<MNo>
+        requires ongoing { self.old.state.outcome ≡ None }
+        requires needs { Needs m Call.Poke self.old.state }
+        ensures { Records self.old m Call.Poke (poked result) self.new }
+    {
+        let woken = self.machines.poke(m);
+        enter(
+            &mut self.journal,
+            &mut self.outcome,
+            self.limits,
+            m,
+            Call::Poke,
+            replies::poked(woken),
+        );
+        woken
+    }
+
+    /// Lets the clock show this moment, in nanoseconds, unless it showed a later one, and counts those that it wakes.
+    pub fn tick(&mut self, m: MNo, moment: u64) -> u64
+        requires ongoing { self.old.state.outcome ≡ None }
+        requires needs { Needs m (Call.Tick moment) self.old.state }
+        ensures { Records self.old m (Call.Tick moment) (Reply.Woke result) self.new }
+    {
+        self.table.tick(moment);
+        enter(
+            &mut self.journal,
+            &mut self.outcome,
+            self.limits,
+            m,
+            Call::Tick(moment),
+            Reply::Woke(0),
+        );
+        0
+    }
+
+    /// What the run was opened with, its history in the room that it has, and its outcome.
+    pub fn into_report(self) -> Report
+        ensures limits { result.limits ≡ self.limits }
+        ensures bodies { result.bodies ≡ self.bodies }
+        ensures capacities { result.capacities.items ≡ self.capacities }
+        ensures history { result.history.items ≡ self.history }
+        ensures outcome { result.outcome ≡ self.state.outcome }
+        ensures legal { IsLegal self.limits self.bodies self.capacities self.history self.state }
+        ensures within { AreLimits self.limits self.bodies self.capacities }
+    {
+        let Ledger {
+            limits,
+            bodies,
+            capacities,
+            table: _,
+            machines: _,
+            journal,
+            outcome,
+        } = self;
+        Report {
+            limits,
+            bodies,
+            capacities,
+            history: journal.into_entries(),
+            outcome,
+        }
+    }
+}

@@ -1,0 +1,13 @@
+//! The book: the scheduler's state, and the history that leads to it. What it keeps is always a legal run.
+#![tactic(auto)]
+
+mod journal;
+mod ledger;
+mod machines;
+mod range;
+mod replies;
+mod report;
+
+pub use ledger::{Exited, Ledger};
+pub use range::in_range;
+pub use report::Report;

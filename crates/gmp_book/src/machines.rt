@@ -1,0 +1,106 @@
+//! Processors and machines, in plain tables: who holds each processor, what each machine does, which of them spin.
+ghost use Rattle.std.specs.Prelude.{◌≡◌, ◌<◌, ◌^◌, true, false, None, Some, length, replicate, is_none, position, IfOk, IfSome};
+ghost use Rattle.std.specs.List.{list_any};
+ghost use Rattle.gmp_seq.specs.declared.status.Mode.{Mode};
+ghost use Rattle.gmp_seq.specs.Machines.{Acquires, Pokes, IsAwake, has_processor, is_parked, wants_poke};
+ghost use Rattle.gmp_book.specs.Replies.{acquired, poked};
+
+use gmp_base::{MNo, PNo};
+use gmp_seq::Mode;
+use std::alloc::{AllocError, Global};
+use std::marker::Model;
+
+#[derive(Drop)]
+pub(crate) struct Machines {
+    holders: Vec<Option<MNo>>,
+    modes: Vec<Mode>,
+    spinning: Vec<bool>,
+}
+
+impl Model for Machines {
+    ghost use Rattle.gmp_seq.specs.Machines.{Machines as Contents};
+    ghost use Rattle.gmp_book.specs.Kept.{IsSmall};
+
+    ghost Value = { Contents };
+
+    ghost view = { λ w. record { holders = w.holders.items; modes = w.modes.items; spinning = w.spinning.items } };
+
+    ghost invariant = { λ w. IsSmall w.holders.items w.modes.items };
+}
+
+/// The least processor that nobody holds.
+fn least_idle(holders: &[Option<MNo>]) -> Option<usize>
+    ensures { result ≡ position is_none holders.now }
+{
+    holders.iter().position(|holder| holder.is_none())
+}
+
+/// The least machine that is parked.
+fn least_parked(modes: &[Mode]) -> Option<usize>
+    ensures { result ≡ position is_parked modes.now }
+{
+    modes.iter().position(|mode| matches!(mode, Mode::Parked))
+}
+
+fn has_idle(holders: &[Option<MNo>]) -> bool
+    ensures { result ≡ list_any is_none holders.now }
+{
+    holders.iter().any(|holder| holder.is_none())
+}
+
+fn has_parked(modes: &[Mode]) -> bool
+    ensures { result ≡ list_any is_parked modes.now }
+{
+    modes.iter().any(|mode| matches!(mode, Mode::Parked))
+}
+
+impl Machines {
+    /// No processor is held, all machines are awake, and nobody spins.
+    pub(crate) fn awake(alloc: Global, procs: u8, machines: u8) -> Result<Self, AllocError>
+        ensures { IfOk result (λ w. w ≡ record { holders = replicate procs None; modes = replicate machines Mode.Awake; spinning = replicate machines false }) }
+    {
+        Ok(Machines {
+            holders: vec![in alloc; None; procs as usize]?,
+            modes: vec![in alloc; Mode::Awake; machines as usize]?,
+            spinning: vec![in alloc; false; machines as usize]?,
+        })
+    }
+
+    /// Lets m, which holds none, hold the least idle processor.
+    pub(crate) fn acquire(&mut self, m: MNo) -> Option<PNo>
+        requires awake { IsAwake self.old m }
+        requires bare { has_processor self.old m ≡ false }
+        ensures acquires { Acquires m (acquired result) self.old self.new }
+        ensures least { IfSome result (λ p. position is_none self.old.holders ≡ Some p.0) }
+    {
+        let Some(i) = least_idle(&self.holders) else {
+            return None;
+        };
+        self.holders[i] = Some(m);
+        Some(PNo(i as u8))
+    }
+
+    /// Whether a parked machine is to be woken: nobody spins, a processor is idle, and some machine is parked.
+    fn wants_poke(&self) -> bool
+        ensures { result ≡ wants_poke self.now }
+    {
+        let spinning = self.spinning.iter().filter(|spins| **spins).count();
+        spinning == 0 && has_idle(&self.holders) && has_parked(&self.modes)
+    }
+
+    /// Wakes the least parked machine, where nobody spins and a processor is idle.
+    pub(crate) fn poke(&mut self, m: MNo) -> Option<MNo>
+        requires { IsAwake self.old m }
+        ensures pokes { Pokes m (poked result) self.old self.new }
+        ensures least { IfSome result (λ n. position is_parked self.old.modes ≡ Some n.0) }
+    {
+        if !self.wants_poke() {
+            return None;
+        }
+        let Some(i) = least_parked(&self.modes) else {
+            unreachable!()
+        };
+        self.modes[i] = Mode::Awake;
+        Some(MNo(i as u8))
+    }
+}
