@@ -1,3 +1,4 @@
+pub mod Lines
 pub mod Said
-pub mod Words
 pub mod Script
+pub mod Words

@@ -3,6 +3,7 @@
 
 mod commands;
 mod ended;
+mod lines;
 mod numeric;
 mod options;
 mod parsing;

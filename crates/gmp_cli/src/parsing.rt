@@ -1,56 +1,26 @@
 //! Reads a script.
 
-ghost use Rattle.std.specs.Prelude.{◌≡◌, true, IfErr};
-ghost use Rattle.gmp_cli.specs.Said.{is_of_script};
+ghost use Rattle.std.specs.Prelude.{◌≡◌, ◌<◌, ◌≤◌, ◌||◌, ◌++◌, ◌∷◌, [], ℕ, List, true, false, length, IfOk, IfErr, IfSome};
+ghost use Rattle.gmp_cli.specs.Said.{is_of_input, is_of_script};
+ghost use Rattle.gmp_cli.specs.Lines.{lines, IsScript, IsFirstBad};
+ghost use Rattle.gmp_cli.specs.declared.said.Said.TheVariants.{BadLine, InputTooLong};
+ghost use Rattle.gmp_cli.specs.Script.{Commands};
 
-use crate::commands::{Command, Script, ScriptBody};
+use crate::commands::{Script, ScriptBody};
 use crate::ended::Ended;
-use crate::reading::input;
-use gmp_base::GNo;
+use crate::lines::{Line, line_of};
+use crate::reading::{MAX_INPUT, input};
 use std::alloc::{AllocError, Global};
 use std::io::Read;
 
-/// What a line says.
-#[derive(Clone, Copy, Debug, PartialEq, Eq)]
-enum Line {
-    /// It is empty, or a comment.
-    Nothing,
-    /// The next body begins.
-    Body,
-    Command(Command),
-}
-
-/// The number that a word is: 1 to 20 digits.
-fn number(word: &[u8]) -> Option<u16> {
-    if word.len() > 20 || word.first() == Some(&b'+') {
-        return None;
-    }
-    std::str::from_utf8(word).ok()?.parse().ok()
-}
-
-/// What the words of a line say, or none where the line is bad.
-fn line_of(words: &[&[u8]]) -> Option<Line> {
-    match words {
-        [] => Some(Line::Nothing),
-        [first, ..] if first.starts_with(b"#") => Some(Line::Nothing),
-        [word] if *word == b"body".as_slice() => Some(Line::Body),
-        [word] if *word == b"yield".as_slice() => Some(Line::Command(Command::Yield)),
-        [word] if *word == b"exit".as_slice() => Some(Line::Command(Command::Exit)),
-        [word] if *word == b"again".as_slice() => Some(Line::Command(Command::Again)),
-        [word, k] if *word == b"go".as_slice() => {
-            Some(Line::Command(Command::Go(GNo(number(k)?))))
-        }
-        _ => None,
-    }
-}
-
-/// Adds what the line says, or answers false where it is bad.
-fn add(alloc: Global, bodies: &mut Vec<ScriptBody>, line: &[u8]) -> Result<bool, AllocError> {
-    let words: Vec<&[u8]> = line
-        .split(|byte| *byte == b' ')
-        .filter(|word| !word.is_empty())
-        .collect(alloc)?;
-    match line_of(&words) {
+/// Adds what the line says to the bodies of the lines before it, or answers false where it is bad.
+fn add(alloc: Global, bodies: &mut Vec<ScriptBody>, line: &[u8]) -> Result<bool, AllocError>
+    ensures good { IfOk result (λ good. good ≡ true → (before : List (List ℕ)) → IsScript before bodies.old.items
+        → IsScript (before ++ line.now ∷ []) bodies.new.items) }
+    ensures bad { IfOk result (λ good. good ≡ false → (before : List (List ℕ)) → IsScript before bodies.old.items
+        → (b : List Commands) → ¬ (IsScript (before ++ line.now ∷ []) b)) }
+{
+    match line_of(alloc, line)? {
         None => Ok(false),
         Some(Line::Nothing) => Ok(true),
         Some(Line::Body) => {
@@ -70,13 +40,17 @@ fn add(alloc: Global, bodies: &mut Vec<ScriptBody>, line: &[u8]) -> Result<bool,
     }
 }
 
+/// The script that a text is.
 fn parsed(alloc: Global, text: &[u8]) -> Result<Script, Ended>
-    ensures { IfErr result (λ e. is_of_script e.said ≡ true) }
+    requires { length text.now ≤ MAX_INPUT }
+    ensures ok { IfOk result (λ s. IsScript (lines text.now) s.bodies.items) }
+    ensures kinds { IfErr result (λ e. is_of_script e.said ≡ true) }
+    ensures first { IfErr result (λ e. (line : ℕ) → e.said ≡ BadLine line → IsFirstBad (lines text.now) line) }
 {
     let mut bodies = Vec::new(alloc);
     let mut number = 0u64;
     for line in text.split(|byte| *byte == b'\n') {
-        number = number.saturating_add(1);
+        number += 1;
         if !add(alloc, &mut bodies, line)? {
             return Err(Ended::bad_line(number));
         }
@@ -85,7 +59,17 @@ fn parsed(alloc: Global, text: &[u8]) -> Result<Script, Ended>
 }
 
 /// Reads a script whole.
-pub fn script<R: Read>(alloc: Global, reader: &mut R) -> Result<Script, Ended> {
+///
+/// An error says which: too long, unreadable, the first bad line, or out of memory.
+pub fn script<R: Read>(alloc: Global, reader: &mut R) -> Result<Script, Ended>
+    ensures ok { IfOk result (λ s. IfSome (R.remaining reader.old) (λ all. IsScript (lines all) s.bodies.items)) }
+
+    ensures kinds { IfErr result (λ e. (is_of_input e.said || is_of_script e.said) ≡ true) }
+    ensures first { IfErr result (λ e. (line : ℕ) → e.said ≡ BadLine line
+        → IfSome (R.remaining reader.old) (λ all. IsFirstBad (lines all) line)) }
+    ensures too_long { IfErr result (λ e. e.said ≡ InputTooLong
+        → IfSome (R.remaining reader.old) (λ all. MAX_INPUT < length all)) }
+{
     let text = input(alloc, reader)?;
     parsed(alloc, &text)
 }

@@ -1,0 +1,9 @@
+use Rattle.std.proofs.Common.{◌≡◌, ℕ, List, length, map, take}
+use Rattle.gmp_cli.specs.Lines.{lines, IsScript}
+use Rattle.gmp_cli.proofs.parsing.parsed.Given as goal
+
+abbrev pub invariant-loop-line : goal.invariant-loop-line
+invariant-loop-line l = record {
+  counted : l.number ≡ length l.yielded;
+  good : IsScript (take (length l.yielded) (lines l.text)) l.bodies.items;
+}
