@@ -1,5 +1,5 @@
 use super::*;
-use gmp_base::{Ask, Body, GNo, Woke};
+use gmp_base::{Body, Woke};
 use std::alloc::Global;
 use std::io;
 use std::io::{ErrorKind, Read};
@@ -50,7 +50,6 @@ fn bad_lines_are_refused(rt: HostRuntime) -> Result<(), Fail> {
         ("gmp step --entries 15", 64),
         ("gmp step --entries 1000001", 64),
         ("gmp step --procs 1 --procs 1", 64),
-        ("gmp step --procs +1", 64),
         ("gmp step --procs", 64),
         ("gmp step --word 1", 64),
         ("gmp step extra", 64),
@@ -89,6 +88,159 @@ fn texts_are_those_asked_for(rt: HostRuntime) -> Result<(), Fail> {
         assert_eq!(rt; ended.status, status);
         let said = ended.said;
         assert_eq!(rt; format!(in rt.alloc(); "{said}")?.as_str(), text);
+    }
+    Ok(())
+}
+
+/// A reader that gives the text piece by piece, interrupted before each, and fails after so many reads.
+#[derive(Drop)]
+struct Pieces<'a> {
+    text: &'a [u8],
+    interrupted: bool,
+    reads_left: usize,
+}
+
+impl Read for Pieces<'_> {
+    fn read(&mut self, buf: &mut [u8]) -> io::Result<usize> {
+        self.interrupted = !self.interrupted;
+        if self.interrupted {
+            return Err(io::Error::from(ErrorKind::Interrupted));
+        }
+        if self.reads_left == 0 {
+            return Err(io::Error::from(ErrorKind::TimedOut));
+        }
+        self.reads_left -= 1;
+        let count = self.text.len().min(buf.len()).min(3);
+        buf[..count].copy_from_slice(&self.text[..count]);
+        self.text = &self.text[count..];
+        Ok(count)
+    }
+}
+
+#[test]
+fn input_is_read_whole(rt: HostRuntime) -> Result<(), Fail> {
+    for (reads, status) in [(0, 1), (1, 1), (3, 1), (4, 0)] {
+        let mut reader = Pieces {
+            text: b"one two",
+            interrupted: false,
+            reads_left: reads,
+        };
+        match input(rt.alloc(), &mut reader) {
+            Ok(text) => {
+                assert_eq!(rt; status, 0, "{reads}");
+                assert_eq!(rt; text.as_slice(), b"one two".as_slice());
+            }
+            Err(e) => {
+                assert_eq!(rt; e.status, status, "{reads}");
+                assert!(rt; matches!(e.said, Said::InputUnreadable), "{reads}");
+            }
+        }
+    }
+    Ok(())
+}
+
+#[test]
+fn input_has_a_limit(rt: HostRuntime) -> Result<(), Fail> {
+    for (len, is_fine) in [(1_048_576, true), (1_048_577, false)] {
+        let bytes = vec![in rt.alloc(); b'\n'; len]?;
+        match input(rt.alloc(), &mut bytes.as_slice()) {
+            Ok(text) => {
+                assert!(rt; is_fine, "{len}");
+                assert_eq!(rt; text.len(), len);
+            }
+            Err(e) => {
+                assert!(rt; !is_fine, "{len}");
+                assert!(rt; matches!(e.said, Said::InputTooLong));
+            }
+        }
+    }
+    Ok(())
+}
+
+#[test]
+fn good_scripts_are_read(rt: HostRuntime) -> Result<(), Fail> {
+    for (text, want) in [
+        ("", "[]"),
+        ("body", "[[]]"),
+        ("body\nyield\nexit\n", "[[Yield, Exit]]"),
+        ("# a\ttab\r\n\n   \nbody # no\n", "line 4"),
+        (
+            "#c\r\n  body  \n\n  go   007 \n # x\nbody\n",
+            "[[Go(GNo(7))], []]",
+        ),
+        (
+            "body\ngo 65535\nagain\nyield",
+            "[[Go(GNo(65535)), Again, Yield]]",
+        ),
+        ("body\ngo 00000000000000000001", "[[Go(GNo(1))]]"),
+        ("body\ngo 000000000000000000001", "line 2"),
+        ("body\ngo 65536", "line 2"),
+        ("body\ngo +1", "line 2"),
+        ("body\ngo", "line 2"),
+        ("body\ngo 1 2", "line 2"),
+        ("body\nyield 1", "line 2"),
+        ("\nyield\nbody", "line 2"),
+        ("body\nagain", "line 2"),
+        ("body\nexit\nbody\n\nagain", "line 5"),
+        ("body\n\tyield", "line 2"),
+        ("body\r\nyield", "line 1"),
+        ("body\nsend 0", "line 2"),
+        ("chan 1\nbody", "line 1"),
+        ("body\npark\nsleep 1", "line 2"),
+        ("Body", "line 1"),
+    ] {
+        let got = match script(rt.alloc(), &mut text.as_bytes()) {
+            Ok(script) => {
+                let mut bodies = Vec::new(rt.alloc());
+                for body in &script.bodies {
+                    bodies.push(body.commands())?;
+                }
+                format!(in rt.alloc(); "{bodies:?}")?
+            }
+            Err(e) => match e.said {
+                Said::BadLine(line) => format!(in rt.alloc(); "line {line}")?,
+                said => panic!(rt; "{text}: {said}"),
+            },
+        };
+        assert_eq!(rt; got.as_str(), want, "{text}");
+    }
+    Ok(())
+}
+
+#[test]
+fn comments_may_have_any_bytes(rt: HostRuntime) {
+    assert!(rt; script(rt.alloc(), &mut b"# \xff\x00\nbody".as_slice()).is_ok());
+    assert!(rt;
+        matches!(
+            script(rt.alloc(), &mut b"body\n\xff".as_slice()),
+            Err(Ended {
+                said: Said::BadLine(2),
+                ..
+            })
+        )
+    );
+}
+
+#[test]
+fn bodies_ask_in_order(rt: HostRuntime) -> Result<(), Fail> {
+    for (text, asks) in [
+        ("body", "Exit Exit"),
+        ("body\nyield\ngo 3", "Yield Go(GNo(3)) Exit Exit"),
+        ("body\nyield\nexit\nagain", "Yield Exit Yield Exit Yield"),
+        ("body\nyield\nagain\nexit", "Yield Yield Yield"),
+    ] {
+        let mut bodies = match script(rt.alloc(), &mut text.as_bytes()) {
+            Ok(script) => script.bodies,
+            Err(e) => panic!(rt; "{text}: {e:?}"),
+        };
+        let Some(body) = bodies.first_mut() else {
+            panic!(rt; "{text}: no body");
+        };
+        for want in asks.split(' ') {
+            let ask = body.resume(Woke::Done);
+            assert_eq!(rt; format!(in rt.alloc(); "{ask:?}")?.as_str(), want, "{text}");
+        }
+        assert_eq!(rt; body.blocking(), 0);
     }
     Ok(())
 }
