@@ -1,4 +1,11 @@
-//! The trace: a run of the scheduler as a text with one line for each entry.
+//! The trace: a run of the scheduler as a text.
+//!
+//! Line 1 is `gmp-trace 1`, line 2 has the limits, and line 3 the capacities of the channels at the opening.
+//! Then each entry has a line, `N M.K CALL -> REPLY`: its number from 0, its machine, how many entries that
+//! machine made before, the call, and the reply. The last line says how the run ended.
+//!
+//! The text is ASCII. Each line ends with a line feed, and its words are parted by one space. A number is decimal,
+//! with no leading zero. A moment, as of `tick` or `sleep`, is in nanoseconds.
 #![tactic(auto)]
 
 mod call;

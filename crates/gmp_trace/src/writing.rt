@@ -48,8 +48,8 @@ fn send<W: Write>(out: &mut Vec<u8>, writer: &mut W) -> Result<(), WriteError>
 
 /// Writes the text of a trace.
 ///
-/// It gathers some 64 KiB at a time, however long the trace is. `Device` comes only where the writer failed,
-/// and `OutOfMemory` only where memory was refused.
+/// It takes room for some 64 KiB once, and needs no more for a trace whose limits are in range, however long
+/// it is. `Device` comes only where the writer failed, and `OutOfMemory` only where memory was refused.
 pub fn write<W: Write>(alloc: Global, trace: &Trace, writer: &mut W) -> Result<(), WriteError>
     ensures written { OnOk result (Appends (W.contents writer.old) (W.contents writer.new) (text (content trace.now))) }
     ensures begun { IfErr result (λ e. e ≡ OutOfMemory → AppendsStart (W.contents writer.old) (W.contents writer.new) (text (content trace.now))) }
