@@ -1,11 +1,13 @@
 -- A book is kept by an accepted call.
-use Rattle.std.proofs.Common.{◌≡◌, ℕ, ◌+◌, ◌<◌, ◌≤◌, ◌^◌, List, [], ◌∷◌, ◌++◌, Some, None, length, sum, slice_get, slice_set, slice_index, refl, sym, ap, ◌∙◌, subst, arith}
+use Rattle.std.proofs.Common.{◌≡◌, ℕ, Option, ◌+◌, ◌<◌, ◌≤◌, ◌^◌, List, [], ◌∷◌, ◌++◌, Some, None, length, sum, slice_get, slice_set, slice_index, refl, sym, ap, ◌∙◌, subst, arith}
+use Rattle.std.specs.Prelude.{IfNone}
 use Rattle.std.proofs.lemmas.Option.{slice_get_within, slice_get-get_or}
 use Rattle.std.proofs.lemmas.List.Sums.{get_or-le-sum_by}
 use Rattle.gmp_base.specs.declared.number.GNo.{GNo}
 use Rattle.gmp_base.specs.declared.number.MNo.{MNo}
 use Rattle.gmp_seq.specs.declared.call.Call.{Call}
 use Rattle.gmp_seq.specs.declared.call.Entry.{Entry}
+use Rattle.gmp_seq.specs.declared.call.Outcome.{Outcome}
 use Rattle.gmp_seq.specs.declared.call.Reply.{Reply}
 use Rattle.gmp_seq.specs.declared.status.Mode.TheVariants.{Awake}
 use Rattle.gmp_seq.specs.Laws.{IsInOrder}
@@ -82,3 +84,11 @@ kept_on old now space space' m call reply history state is kept ongoing awake ef
 -- the same of a machine that runs a goroutine
 pub runner_wakes : (old now : Log) (space : ℕ) (m : MNo) (g : GNo) → old ≡ now → IsKept old space → IsRunning now.state.table g m → IsAwake now.state.machines m
 runner_wakes old now space m g is kept runs = runner_awake now space m g (subst (λ (l : Log). IsKept l space) is kept) runs
+
+-- while the run lasts another entry fits
+pub ongoing_room : (old now : Log) (space : ℕ) (o : Option Outcome) → old ≡ now → IsKept old space → old.state.outcome ≡ o → IfNone o (length now.history < now.limits.entries)
+ongoing_room old now space (Some how) is kept lasts = tt
+ongoing_room old now space None is kept lasts =
+    let within = (in_order old space kept).ongoing lasts in
+    let total = legal_total old.limits old.bodies old.capacities old.history old.state kept.legal in
+    subst (λ (l : Log). length l.history < l.limits.entries) is (omega (arith, within, total))

@@ -1,5 +1,5 @@
 //! The run so far, and the calls that go on with it.
-ghost use Rattle.std.specs.Prelude.{◌≡◌, ◌+◌, ◌<◌, ◌^◌, ◌≢◌, None, Some, [], ◌∷◌, ◌++◌, length, slice_index, slice_set, IfOk, IfSome};
+ghost use Rattle.std.specs.Prelude.{◌≡◌, ◌+◌, ◌<◌, ◌^◌, ◌≢◌, None, Some, [], ◌∷◌, ◌++◌, length, slice_index, slice_set, IfOk, IfNone};
 ghost use Rattle.gmp_base.specs.declared.number.GNo.{GNo};
 ghost use Rattle.gmp_seq.specs.Fits.{AreLimits};
 ghost use Rattle.gmp_seq.specs.Needs.{Needs};
@@ -136,7 +136,9 @@ impl Ledger {
 
     /// How the run ended, if it did.
     pub fn outcome(&self) -> Option<Outcome>
-        ensures { result ≡ self.now.state.outcome }
+        ensures outcome { result ≡ self.now.state.outcome }
+        // While the run lasts another entry fits.
+        ensures ongoing { IfNone result (length self.now.history < self.now.limits.entries) }
     {
         self.outcome
     }
@@ -254,6 +256,7 @@ impl Ledger {
         requires ongoing { self.old.state.outcome ≡ None }
         requires runs { IsRunning self.old.state.table g m }
         ensures records { Records self.old m Call.Exit (left result) self.new }
+        ensures ends { g.0 ≡ 0 → self.new.state.outcome ≡ Some Outcome.MainEnded }
         ensures table { self.new.state.table ≡ set_status self.old.state.table g Status.Dead }
     {
         self.table.dead(g);
@@ -287,11 +290,14 @@ impl Ledger {
         woken
     }
 
-    /// Lets the clock show this moment, in nanoseconds, unless it showed a later one, and counts those that it wakes.
+    /// Lets the clock show this moment, in nanoseconds, unless it showed a later one.
+    /// It counts those that it wakes, and nobody waits yet.
     pub fn tick(&mut self, m: MNo, moment: u64) -> u64
         requires ongoing { self.old.state.outcome ≡ None }
         requires needs { Needs m (Call.Tick moment) self.old.state }
-        ensures { Records self.old m (Call.Tick moment) (Reply.Woke result) self.new }
+        ensures records { Records self.old m (Call.Tick moment) (Reply.Woke result) self.new }
+        ensures same { self.new.state.table.goroutines ≡ self.old.state.table.goroutines }
+        ensures none { result ≡ 0 }
     {
         self.table.tick(moment);
         enter(

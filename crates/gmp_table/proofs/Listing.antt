@@ -1,10 +1,11 @@
 -- A list of the goroutines whose status passes a test, where one goroutine changes and the list with it.
-use Rattle.std.proofs.Common.{◌≡◌, ℕ, zero, suc, ◌+◌, ◌-◌, ◌<◌, ◌≤◌, ◌==◌, Bool, true, false, ◌&&◌, List, [], ◌∷◌, ◌++◌, Option, Some, None, length, set, drop, replicate, slice_get, count_by, nat_lt, refl, sym, ◌∙◌, ap, arith, length-set, zero-add}
+use Rattle.std.proofs.Common.{◌≡◌, ℕ, zero, suc, ◌+◌, ◌-◌, ◌<◌, ◌≤◌, ◌==◌, Bool, true, false, ◌&&◌, ◌||◌, List, [], ◌∷◌, ◌++◌, Option, Some, None, length, set, drop, replicate, slice_get, count_by, nat_lt, refl, sym, ◌∙◌, ap, arith, length-set, zero-add}
 use Rattle.std.proofs.lemmas.Bool.Decides.{nat_tests}
 use Rattle.std.proofs.lemmas.Grind.{common_steps}
 use Rattle.std.proofs.lemmas.List.Sums.{sum_by-set, sum_by_push, sum_by-cons, count_by-le-length}
 use Rattle.std.proofs.lemmas.List.{length-replicate}
 use Rattle.std.proofs.lemmas.Option.{slice_get_within, get_or_from_slice_get}
+use Rattle.std.specs.List.{list_any}
 use Rattle.std.specs.Option.{option_map_or}
 use Rattle.gmp_base.specs.declared.number.GNo.{GNo}
 use Rattle.gmp_seq.specs.declared.status.Goroutine.{Goroutine}
@@ -74,6 +75,17 @@ pushed test rows g x y list kept at off on = listing-set test rows g.0 x y list 
       rw (off, on) (grind (arith, nat_tests));
 })
 
+-- one that passes from now on goes first
+pub pushed_first : (test : Status → Bool) (rows : List Goroutine) (g : GNo) (x y : Goroutine) (list : List GNo) → IsListing test rows list
+    → slice_get rows g.0 ≡ Some x → test x.status ≡ false → test y.status ≡ true → IsListing test (set rows g.0 y) (g ∷ list)
+pushed_first test rows g x y list kept at off on = listing-set test rows g.0 x y list (g ∷ list) kept at (record {
+  size = rw (off, on) (omega arith);
+  each = λ h.
+      let n = sum_by-cons (λ (z : GNo). tally (z.0 == h)) g list in
+      let e = flip g.0 h in
+      rw (off, on) (grind (arith, nat_tests));
+})
+
 -- one that no longer passes is taken off the front
 pub popped : (test : Status → Bool) (rows : List Goroutine) (g : GNo) (x y : Goroutine) (list : List GNo) → IsListing test rows (g ∷ list)
     → slice_get rows g.0 ≡ Some x → test x.status ≡ true → test y.status ≡ false → IsListing test (set rows g.0 y) list
@@ -129,6 +141,28 @@ listed_fewer test rows g x y list kept at off on =
     let n' : count_status test (set rows g.0 y) + 0 ≡ count_status test rows + 1 = rw (off, on) at n in
     omega (arith, kept.all, n', most, same)
 
+-- Whether somebody is listed
+
+any_counted : {X : Type 0} (p : X → Bool) (xs : List X) → list_any p xs ≡ nat_lt 0 (count_by p xs)
+any_counted p [] = refl
+any_counted p (x ∷ xs) = by_test (p x) refl (any_counted p xs)
+  where
+    by_test : (b : Bool) → p x ≡ b → list_any p xs ≡ nat_lt 0 (count_by p xs) → list_any p (x ∷ xs) ≡ nat_lt 0 (count_by p (x ∷ xs))
+    by_test true is below =
+        let n = sum_by-cons (λ z. tally (p z)) x xs in
+        let one : count_by p (x ∷ xs) ≡ 1 + count_by p xs = n ∙ ap (λ (b : Bool). tally b + count_by p xs) is in
+        let some : nat_lt 0 (1 + count_by p xs) ≡ true = grind (arith, nat_tests) in
+        ap (λ (b : Bool). b || list_any p xs) is ∙ sym (ap (nat_lt 0) one ∙ some)
+    by_test false is below =
+        let n = sum_by-cons (λ z. tally (p z)) x xs in
+        let same : count_by p (x ∷ xs) ≡ count_by p xs = n ∙ (ap (λ (b : Bool). tally b + count_by p xs) is ∙ zero-add (count_by p xs)) in
+        ap (λ (b : Bool). b || list_any p xs) is ∙ (below ∙ ap (nat_lt 0) (sym same))
+
+-- some row passes the test where the list isn't empty
+pub some_listed : (test : Status → Bool) (rows : List Goroutine) (list : List GNo) → IsListing test rows list
+    → list_any (λ (x : Goroutine). test x.status) rows ≡ nat_lt 0 (length list)
+some_listed test rows list kept = any_counted (λ (x : Goroutine). test x.status) rows ∙ ap (nat_lt 0) (sym kept.all)
+
 -- Lists of nobody
 
 -- where nothing is listed, no row passes the test
@@ -156,3 +190,14 @@ dormant_listing test n e = record {
   all = sym (dormant_none (λ (x : Goroutine). test x.status) n e);
   each = λ i. rw (dormant_fails test n i e) refl;
 }
+
+-- a row that fails the test before rows that do
+pub cons_listing : (test : Status → Bool) (x : Goroutine) (rows : List Goroutine) → test x.status ≡ false → IsListing test rows [] → IsListing test (x ∷ rows) []
+cons_listing test x rows off kept =
+    let n = sum_by-cons (λ (z : Goroutine). tally (test z.status)) x rows in
+    let none : tally (test x.status) ≡ 0 = rw off refl in
+    record { all = omega (arith, n, none, kept.all); each = at_place }
+  where
+    at_place : (i : ℕ) → 0 ≡ tally (passes_at test (x ∷ rows) i)
+    at_place zero = rw off refl
+    at_place (suc i) = kept.each i

@@ -22,7 +22,7 @@ use Rattle.gmp_seq.specs.Step.{Ticks}
 use Rattle.gmp_seq.specs.Table.{Table, is_shelved, is_out, is_waiting, woken_with, due_answer}
 use Rattle.gmp_table.specs.Contents.{answer_in, turned, epoch_in}
 use Rattle.gmp_table.specs.Kept.{tally, count_status, passes_at, IsListing, IsTable}
-use Rattle.gmp_table.proofs.Listing.{count_by-set, slice_get-set_same, pushed, popped, passed_by, first_passes, HasRow, row_of, listed_fewer, dormant_none, dormant_listing}
+use Rattle.gmp_table.proofs.Listing.{count_by-set, slice_get-set_same, pushed, popped, passed_by, first_passes, HasRow, row_of, listed_fewer, some_listed, dormant_none, dormant_listing}
 
 -- nobody begins to wait where the row's new status is no wait
 still_set : (rows : List Goroutine) (g : GNo) (x y : Goroutine) → count_status is_waiting rows ≡ 0 → slice_get rows g.0 ≡ Some x → is_waiting y.status ≡ false
@@ -219,22 +219,7 @@ pub dormant_off : (n : ℕ) → 0 < n → IsOff (replicate n dormant) (record { 
 dormant_off zero h = absurd (omega arith)
 dormant_off (suc n) h = refl
 
--- nobody is on an empty shelf
-any_counted : {X : Type 0} (p : X → Bool) (xs : List X) → list_any p xs ≡ nat_lt 0 (count_by p xs)
-any_counted p [] = refl
-any_counted p (x ∷ xs) = by_test (p x) refl (any_counted p xs)
-  where
-    by_test : (b : Bool) → p x ≡ b → list_any p xs ≡ nat_lt 0 (count_by p xs) → list_any p (x ∷ xs) ≡ nat_lt 0 (count_by p (x ∷ xs))
-    by_test true is below =
-        let n = sum_by-cons (λ z. tally (p z)) x xs in
-        let one : count_by p (x ∷ xs) ≡ 1 + count_by p xs = n ∙ ap (λ (b : Bool). tally b + count_by p xs) is in
-        let some : nat_lt 0 (1 + count_by p xs) ≡ true = grind (arith, nat_tests) in
-        ap (λ (b : Bool). b || list_any p xs) is ∙ sym (ap (nat_lt 0) one ∙ some)
-    by_test false is below =
-        let n = sum_by-cons (λ z. tally (p z)) x xs in
-        let same : count_by p (x ∷ xs) ≡ count_by p xs = n ∙ (ap (λ (b : Bool). tally b + count_by p xs) is ∙ zero-add (count_by p xs)) in
-        ap (λ (b : Bool). b || list_any p xs) is ∙ (below ∙ ap (nat_lt 0) (sym same))
-
+-- somebody is on the shelf where it isn't empty
 pub some_on_shelf : (rows : List Goroutine) (shelf : List GNo) (capacity : ℕ) → IsTable rows shelf capacity
     → list_any (λ (x : Goroutine). is_shelved x.status) rows ≡ nat_lt 0 (length shelf)
-some_on_shelf rows shelf capacity kept = any_counted (λ (x : Goroutine). is_shelved x.status) rows ∙ ap (nat_lt 0) (sym kept.listing.all)
+some_on_shelf rows shelf capacity kept = some_listed is_shelved rows shelf kept.listing

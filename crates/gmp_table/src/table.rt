@@ -202,6 +202,7 @@ impl StatusTable {
     /// Lets the clock show this moment, in nanoseconds, unless it showed a later one. Nobody waits, so nobody is woken.
     pub fn tick(&mut self, moment: u64)
         ensures ticks { Ticks moment (Reply.Woke 0) self.old.table self.new.table }
+        ensures same { self.new.table.goroutines ≡ self.old.table.goroutines }
         ensures shelf { self.new.shelf ≡ self.old.shelf }
     {
         self.clock = self.clock.max(moment);
