@@ -11,3 +11,6 @@ mod report;
 pub use ledger::{Exited, Ledger};
 pub use range::in_range;
 pub use report::Report;
+
+#[cfg(test)]
+mod tests;

@@ -1,6 +1,6 @@
 //! The limits that a run may have.
-ghost use Rattle.std.specs.Prelude.{◌≡◌, ◌↔◌, ◌≤◌, IsTrue, nat_le};
-ghost use Rattle.gmp_book.specs.Range.{is_in_range, fits_all};
+ghost use Rattle.std.specs.Prelude.{◌↔◌, ◌≤◌, IsTrue, All, length};
+ghost use Rattle.gmp_seq.specs.Fits.{AreLimits};
 
 use gmp_seq::Limits;
 
@@ -8,24 +8,27 @@ use gmp_seq::Limits;
 const MOST_CAPACITY: u32 = 4096;
 
 fn fit_all(capacities: &[u32]) -> bool
-    ensures { result ≡ fits_all capacities.now }
+    ensures { IsTrue result ↔ All (λ capacity. capacity ≤ 4096) capacities.now }
 {
     capacities.iter().all(|capacity| *capacity <= MOST_CAPACITY)
 }
 
+fn is_between(low: usize, n: usize, high: usize) -> bool
+    ensures { IsTrue result ↔ ((low ≤ n) × (n ≤ high)) }
+{
+    low <= n && n <= high
+}
+
 /// Whether a run may have these limits, so many bodies, and channels of these capacities at its opening.
 pub fn in_range(limits: Limits, bodies: usize, capacities: &[u32]) -> bool
-    ensures { result ≡ is_in_range limits bodies capacities.now }
+    ensures { IsTrue result ↔ AreLimits limits bodies capacities.now }
 {
-    1 <= limits.procs
-        && limits.procs <= 32
-        && limits.procs <= limits.machines
-        && limits.machines <= 64
-        && 1 <= bodies
-        && bodies <= 4096
-        && capacities.len() <= limits.channels as usize
-        && limits.channels <= 1024
-        && fit_all(capacities)
-        && 16 <= limits.entries
-        && limits.entries <= 1_000_000
+    let machines = limits.machines as usize;
+    let channels = limits.channels as usize;
+    is_between(1, limits.procs as usize, 32)
+        & is_between(limits.procs as usize, machines, 64)
+        & is_between(1, bodies, 4096)
+        & is_between(capacities.len(), channels, 1024)
+        & fit_all(capacities)
+        & is_between(16, limits.entries as usize, 1_000_000)
 }

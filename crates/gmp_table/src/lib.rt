@@ -5,3 +5,6 @@ mod rows;
 mod table;
 
 pub use table::StatusTable;
+
+#[cfg(test)]
+mod tests;
