@@ -23,6 +23,8 @@ pub enum WriteError {
 }
 
 impl From<AllocError> for WriteError {
+    ghost from_gives = { λ _ e. e ≡ OutOfMemory };
+
     fn from(_error: AllocError) -> WriteError {
         WriteError::OutOfMemory
     }
