@@ -1,4 +1,5 @@
 pub mod Lines
+pub mod Numbers
 pub mod Said
 pub mod Script
 pub mod Words

@@ -1,14 +1,31 @@
 -- The options among the words of a command line.
-use Rattle.std.specs.Prelude.{ℕ, Bool, ◌||◌, ◌&&◌, ◌==◌, List, drop, take, length, slice_index}
-use Rattle.std.specs.List.{list_any}
+use Rattle.std.specs.Prelude.{ℕ, ◌+◌, Bool, ◌&&◌, ◌==◌, nat_lt, List, [], ◌∷◌, drop, take, length, slice_index, Option, Some, None, if◌then◌else◌}
 use Rattle.std.specs.Str.{bytes_eq}
+use Rattle.gmp_cli.specs.Numbers.{number_of}
 
--- the word is the option, alone or with its value behind a `=`
-abbrev pub names : List ℕ → List ℕ → Bool
-names option word =
-    bytes_eq (take (length option) word) option
-    && (length word == length option || slice_index word (length option) == 61)
+-- the word is the option with its value behind a `=`
+abbrev pub has_value : List ℕ → List ℕ → Bool
+has_value option word =
+    nat_lt (length option) (length word)
+    && (bytes_eq (take (length option) word) option && slice_index word (length option) == 61)
 
--- one of the words is the option
-abbrev pub is_given : {W : Type 0} → (W → List ℕ) → List W → List ℕ → Bool
-is_given text words option = list_any (λ w. names option (text w)) words
+-- the first of these texts
+abbrev pub first_text : {W : Type 0} → (W → List ℕ) → List W → Option (List ℕ)
+first_text text [] = None
+first_text text (word ∷ words) = Some (text word)
+
+-- the text that the words give the option: the next word, or what stands behind its `=`
+abbrev pub given : {W : Type 0} → (W → List ℕ) → List W → List ℕ → Option (List ℕ)
+given text [] option = None
+given text (word ∷ words) option =
+    (if bytes_eq (text word) option then first_text text words
+    else (if has_value option (text word) then Some (drop (length option + 1) (text word))
+    else given text words option))
+
+-- the number that the words give an option, or the default where they don't give it
+abbrev pub number_or : Option (List ℕ) → ℕ → Option ℕ
+number_or None default = Some default
+number_or (Some digits) default = number_of digits
+
+abbrev pub number_given : {W : Type 0} → (W → List ℕ) → List W → List ℕ → ℕ → Option ℕ
+number_given text words option default = number_or (given text words option) default

@@ -2,6 +2,7 @@
 #![tactic(auto)]
 
 mod commands;
+mod digits;
 mod ended;
 mod lines;
 mod numeric;

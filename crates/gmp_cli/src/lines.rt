@@ -1,9 +1,10 @@
 //! Reads a line of a script.
 
-ghost use Rattle.std.specs.Prelude.{◌≡◌, IfOk, map};
-ghost use Rattle.gmp_cli.specs.Lines.{words, number_of, said_alone, said_with, said_by};
+ghost use Rattle.std.specs.Prelude.{◌≡◌, IfOk, map, option_map};
+ghost use Rattle.gmp_cli.specs.Lines.{words, number_below, said_alone, said_with, said_by};
 
 use crate::commands::Command;
+use crate::digits::number;
 use gmp_base::GNo;
 use std::alloc::{AllocError, Global};
 
@@ -26,15 +27,14 @@ fn words<'a>(alloc: Global, line: &'a [u8]) -> Result<Vec<&'a [u8]>, AllocError>
         .collect(alloc)
 }
 
-/// The number that a word is: 1 to 20 digits.
-fn number(word: &[u8]) -> Option<u16>
-    ensures { result ≡ number_of word.now }
+/// The number of a goroutine that a word is: 1 to 20 digits.
+fn goroutine(word: &[u8]) -> Option<GNo>
+    ensures { option_map (λ g. g.0) result ≡ number_below 65536 word.now }
 {
-    // `parse` reads a leading plus too.
-    if word.len() > 20 || matches!(word, [b'+', ..]) {
+    if word.len() > 20 {
         return None;
     }
-    std::str::from_utf8(word).ok()?.parse().ok()
+    Some(GNo(u16::try_from(number(word)?).ok()?))
 }
 
 /// What a line of one word says.
@@ -56,11 +56,11 @@ fn alone(word: &[u8]) -> Option<Line>
 
 /// What a line of two words says.
 fn with_number(word: &[u8], k: &[u8]) -> Option<Line>
-    ensures { result ≡ said_with word.now (number_of k.now) }
+    ensures { result ≡ said_with word.now (number_below 65536 k.now) }
 {
-    let k = number(k)?;
+    let g = goroutine(k)?;
     if word == b"go".as_slice() {
-        Some(Line::Command(Command::Go(GNo(k))))
+        Some(Line::Command(Command::Go(g)))
     } else {
         None
     }

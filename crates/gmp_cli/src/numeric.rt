@@ -1,10 +1,11 @@
 //! Options that take a number.
 
-ghost use Rattle.std.specs.Prelude.{◌≡◌, ◌≤◌, string_bytes, false, IfSome};
-ghost use Rattle.gmp_cli.specs.Words.{names, is_given};
+ghost use Rattle.std.specs.Prelude.{◌≡◌, ◌≤◌, ◌+◌, string_bytes, length, drop, option_map, Some, None, IfSome, if◌then◌else◌};
+ghost use Rattle.gmp_cli.specs.Words.{given, has_value, number_given};
 
+use crate::digits::number;
 use clap::builder::ValueParser;
-use clap::{Arg, ArgAction, ArgMatches, value_parser};
+use clap::{Arg, ArgAction, value_parser};
 use std::alloc::Global;
 
 /// An option that takes a number.
@@ -34,32 +35,47 @@ impl Numeric {
             .value_parser(parser(self.least, self.most))
     }
 
-    /// The number that was given, or the default.
-    pub fn read(&self, matches: &ArgMatches<'_>, words: &[String]) -> Option<u64>
-        ensures in_range { self.now.least ≤ self.now.default → self.now.default ≤ self.now.most → IfSome result (λ n. (self.now.least ≤ n) × (n ≤ self.now.most)) }
-        ensures default { is_given string_bytes words.now self.now.option.now ≡ false → IfSome result (λ n. n ≡ self.now.default) }
+    /// The number that the words give, or the default where they don't give the option.
+    ///
+    /// None where it is out of range, or is not written in digits alone.
+    pub fn read(&self, words: &[String]) -> Option<u64>
+        ensures in_range { IfSome result (λ n. (self.now.least ≤ n) × (n ≤ self.now.most)) }
+        ensures value { IfSome result (λ n. number_given string_bytes words.now self.now.option.now self.now.default ≡ Some n) }
     {
-        if !is_given(self.option.as_bytes(), words) {
-            return Some(self.default);
-        }
-        match matches.get_one::<u64>(self.id) {
-            Some(n) if self.least <= n && n <= self.most => Some(n),
-            _ => None,
+        let n = match given(self.option.as_bytes(), words) {
+            None => self.default,
+            Some(digits) => number(digits)?,
+        };
+        if self.least <= n && n <= self.most {
+            Some(n)
+        } else {
+            None
         }
     }
 }
 
-fn is_option(option: &[u8], word: &[u8]) -> bool
-    ensures { result ≡ names option.now word.now }
+/// What stands behind the option and its `=`, if the word is so.
+fn value_in<'a>(option: &[u8], word: &'a [u8]) -> Option<&'a [u8]>
+    ensures { option_map (λ value. value.now) result ≡ (if has_value option.now word.now then Some (drop (length option.now + 1) word.now) else None) }
 {
-    match word.strip_prefix(option) {
-        None => false,
-        Some(rest) => rest.is_empty() || rest[0] == b'=',
+    match word.strip_prefix(option)? {
+        [b'=', value @ ..] => Some(value),
+        _ => None,
     }
 }
 
-fn is_given(option: &[u8], words: &[String]) -> bool
-    ensures { result ≡ is_given string_bytes words.now option.now }
+/// The text that the words give an option.
+fn given<'a>(option: &[u8], words: &'a [String]) -> Option<&'a [u8]>
+    ensures { option_map (λ value. value.now) result ≡ given string_bytes words.now option.now }
 {
-    words.iter().any(|word| is_option(option, word.as_bytes()))
+    for (i, word) in words.iter().enumerate() {
+        if word.as_bytes() == option {
+            let next = words.get(i + 1)?;
+            return Some(next.as_bytes());
+        }
+        if let Some(value) = value_in(option, word.as_bytes()) {
+            return Some(value);
+        }
+    }
+    None
 }

@@ -9,7 +9,7 @@ ghost use Rattle.gmp_cli.specs.Script.{Commands};
 use crate::commands::{Script, ScriptBody};
 use crate::ended::Ended;
 use crate::lines::{Line, line_of};
-use crate::reading::{MAX_INPUT, input};
+use crate::reading::input;
 use std::alloc::{AllocError, Global};
 use std::io::Read;
 
@@ -42,7 +42,7 @@ fn add(alloc: Global, bodies: &mut Vec<ScriptBody>, line: &[u8]) -> Result<bool,
 
 /// The script that a text is.
 fn parsed(alloc: Global, text: &[u8]) -> Result<Script, Ended>
-    requires { length text.now ≤ MAX_INPUT }
+    requires { length text.now ≤ 1048576 }
     ensures ok { IfOk result (λ s. IsScript (lines text.now) s.bodies.items) }
     ensures kinds { IfErr result (λ e. is_of_script e.said ≡ true) }
     ensures first { IfErr result (λ e. (line : ℕ) → e.said ≡ BadLine line → IsFirstBad (lines text.now) line) }
@@ -68,7 +68,7 @@ pub fn script<R: Read>(alloc: Global, reader: &mut R) -> Result<Script, Ended>
     ensures first { IfErr result (λ e. (line : ℕ) → e.said ≡ BadLine line
         → IfSome (R.remaining reader.old) (λ all. IsFirstBad (lines all) line)) }
     ensures too_long { IfErr result (λ e. e.said ≡ InputTooLong
-        → IfSome (R.remaining reader.old) (λ all. MAX_INPUT < length all)) }
+        → IfSome (R.remaining reader.old) (λ all. 1048576 < length all)) }
 {
     let text = input(alloc, reader)?;
     parsed(alloc, &text)

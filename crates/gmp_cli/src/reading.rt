@@ -16,11 +16,11 @@ pub const MAX_INPUT: usize = 1_048_576;
 /// A read that was interrupted is tried again. On an error the reader is somewhere within its input.
 pub fn input<R: Read>(alloc: Global, reader: &mut R) -> Result<Vec<u8>, Ended>
     ensures whole { IfOk result (λ text. IfSome (R.remaining reader.old) (λ all. text.items ≡ all)) }
-    ensures short { IfOk result (λ text. length text.items ≤ MAX_INPUT) }
+    ensures short { IfOk result (λ text. length text.items ≤ 1048576) }
 
     ensures kinds { IfErr result (λ e. is_of_input e.said ≡ true) }
     ensures too_long { IfErr result (λ e. e.said ≡ InputTooLong
-        → IfSome (R.remaining reader.old) (λ all. MAX_INPUT < length all)) }
+        → IfSome (R.remaining reader.old) (λ all. 1048576 < length all)) }
 {
     let mut text = Vec::new(alloc);
     let mut chunk = [0u8; 4096];

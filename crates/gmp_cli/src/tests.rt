@@ -50,6 +50,7 @@ fn bad_lines_are_refused(rt: HostRuntime) -> Result<(), Fail> {
         ("gmp step --entries 15", 64),
         ("gmp step --entries 1000001", 64),
         ("gmp step --procs 1 --procs 1", 64),
+        ("gmp step --procs +1", 64),
         ("gmp step --procs", 64),
         ("gmp step --word 1", 64),
         ("gmp step extra", 64),

@@ -1,12 +1,14 @@
 //! Reads the words of the command line.
 
-ghost use Rattle.std.specs.Prelude.{◌≡◌, ◌≤◌, string_bytes, codes, true, false, IfOk, IfErr};
+ghost use Rattle.std.specs.Prelude.{◌≡◌, ◌≢◌, ◌⊎◌, ◌≤◌, string_bytes, codes, true, Some, IfOk, IfErr};
 ghost use Rattle.gmp_cli.specs.Said.{is_of_words};
-ghost use Rattle.gmp_cli.specs.Words.{is_given};
+ghost use Rattle.gmp_cli.specs.Words.{number_given};
+ghost use Rattle.clap.specs.Values.{kind_of};
 
 use crate::ended::Ended;
 use crate::numeric::Numeric;
 use crate::options::{Settings, Task};
+use crate::said::Said;
 use clap::Command;
 use clap::error::ErrorKind;
 use std::alloc::{AllocError, Global};
@@ -57,7 +59,10 @@ fn command<'a>(alloc: Global) -> Result<Command<'a>, AllocError> {
 
 /// What a refusal by `clap` ends with: its own text, and for help that was asked for status 0.
 fn refused(alloc: Global, error: &clap::Error) -> Ended
-    ensures { is_of_words result.said ≡ true }
+    ensures said { is_of_words result.said ≡ true }
+    ensures help { kind_of error.now ≡ ErrorKind.DisplayHelp → (result.status ≡ 0) ⊎ (result.said ≡ Said.OutOfMemory) }
+    ensures refusal { kind_of error.now ≢ ErrorKind.DisplayHelp → kind_of error.now ≢ ErrorKind.DisplayVersion
+        → (result.status ≡ 64) ⊎ (result.said ≡ Said.OutOfMemory) }
 {
     if error.kind() == ErrorKind::OutOfMemory {
         return Ended::out_of_memory();
@@ -78,28 +83,29 @@ pub fn settings<'a>(alloc: Global, words: &'a [String]) -> Result<Settings, Ende
     ensures channels { IfOk result (λ s. s.channels ≤ 1024) }
     ensures entries { IfOk result (λ s. (16 ≤ s.entries) × (s.entries ≤ 1000000)) }
 
-    ensures procs_default { is_given string_bytes words.now (codes "--procs") ≡ false → IfOk result (λ s. s.procs ≡ 1) }
-    ensures machines_default { is_given string_bytes words.now (codes "--machines") ≡ false → IfOk result (λ s. s.machines ≡ 1) }
-    ensures channels_default { is_given string_bytes words.now (codes "--channels") ≡ false → IfOk result (λ s. s.channels ≡ 16) }
-    ensures entries_default { is_given string_bytes words.now (codes "--entries") ≡ false → IfOk result (λ s. s.entries ≡ 10000) }
+    // Each is the number that the words give, or the default where they don't give the option.
+    ensures procs_given { IfOk result (λ s. number_given string_bytes words.now (codes "--procs") 1 ≡ Some s.procs) }
+    ensures machines_given { IfOk result (λ s. number_given string_bytes words.now (codes "--machines") 1 ≡ Some s.machines) }
+    ensures channels_given { IfOk result (λ s. number_given string_bytes words.now (codes "--channels") 16 ≡ Some s.channels) }
+    ensures entries_given { IfOk result (λ s. number_given string_bytes words.now (codes "--entries") 10000 ≡ Some s.entries) }
 
     ensures err { IfErr result (λ e. is_of_words e.said ≡ true) }
 {
-    let command: Command<'a> = command(alloc)?;
-    let matches = match command.try_get_matches_from(words) {
-        Ok(matches) => matches,
-        Err(error) => return Err(refused(alloc, &error)),
-    };
-    let Some(("step", step)) = matches.subcommand() else {
-        return Err(Ended::usage(String::new(alloc)));
-    };
+    let mut command: Command<'a> = command(alloc)?;
+    if let Err(error) = command.try_get_matches_from_mut(words) {
+        return Err(refused(alloc, &error));
+    }
     let (Some(procs), Some(machines), Some(channels), Some(entries)) = (
-        PROCS.read(step, words),
-        MACHINES.read(step, words),
-        CHANNELS.read(step, words),
-        ENTRIES.read(step, words),
+        PROCS.read(words),
+        MACHINES.read(words),
+        CHANNELS.read(words),
+        ENTRIES.read(words),
     ) else {
-        return Err(Ended::usage(String::new(alloc)));
+        let error = command.error(
+            ErrorKind::InvalidValue,
+            "a number is written in digits alone",
+        )?;
+        return Err(refused(alloc, &error));
     };
     Ok(Settings {
         task: Task::Step,

@@ -7,9 +7,9 @@ use Rattle.std.proofs.lemmas.Bool.Decides.{nat_tests}
 use Rattle.std.proofs.lemmas.Grind.{common_steps}
 use Rattle.std.proofs.lemmas.Str.{IsUtf8-from_ascii}
 use Rattle.std.proofs.lemmas.Str.Parse.{IsNumeralModel, numerals_by_value, tells_all_ascii_digits, parse_plain, digit_at}
-use Rattle.gmp_cli.specs.Lines.{is_number, number_of}
-use Rattle.gmp_cli.proofs.lines.number.Goals as goal
-use Rattle.gmp_cli.proofs.lines.number.Goals.{in-43, in_default, in_default-2}
+use Rattle.gmp_cli.specs.Numbers.{is_number, number_of}
+use Rattle.gmp_cli.proofs.digits.number.Goals as goal
+use Rattle.gmp_cli.proofs.digits.number.Goals.{in-43, in_default, in_default-2}
 
 own : IsNumeralModel (λ ds. all_ascii_digits ds ≡ true) (digits_value 10)
 own = numerals_by_value (λ ds. all_ascii_digits ds ≡ true) tells_all_ascii_digits
@@ -23,12 +23,12 @@ utf8_digits word h = IsUtf8-from_ascii word (λ i. elim (cases_lt i (length word
 no_number : (word : List ℕ) → all_ascii_digits word ≡ false → number_of word ≡ None
 no_number word h = grind (arith, nat_tests)
 
-parsed : {E : Type 0} (word : List ℕ) (r : Result ℕ E) → length word < 21 → get_or word 0 0 ≢ 43 → ParsesUnsigned 16 10 word r → result_ok r ≡ number_of word
-parsed {E} word (Ok n) short plus h =
-    let k = parse_plain own {E = E} 16 word (Ok n) h plus in
+parsed : {E : Type 0} (word : List ℕ) (r : Result ℕ E) → get_or word 0 0 ≢ 43 → ParsesUnsigned 64 10 word r → result_ok r ≡ number_of word
+parsed {E} word (Ok n) plus h =
+    let k = parse_plain own {E = E} 64 word (Ok n) h plus in
     grind (arith, nat_tests)
-parsed {E} word (Err e) short plus h =
-    let k = parse_plain own {E = E} 16 word (Err e) h plus in
+parsed {E} word (Err e) plus h =
+    let k = parse_plain own {E = E} 64 word (Err e) h plus in
     elim (cases_Bool (all_ascii_digits word)) [
       | inl t ↦ grind (arith, nat_tests)
       | inr f ↦ sym (no_number word f)
@@ -52,10 +52,9 @@ pub returns : goal.returns
 returns c =
     let e = text_is _ c.args.word.now c.from_utf8.result c.in_ok-ok.field-0 c.from_utf8.ensures.cases (sym c.ok.ensures.value ∙ c.in_ok-ok.was) in
     let h = rw e at c.parse.ensures.value.0 in
-    let short : length c.args.word.now < 21 = omega arith in
     let plus : get_or c.args.word.now 0 0 ≢ 43 = elim c.if-matches-2.branch [
       | in-43 w ↦ grind (arith, common_steps)
       | in_default w ↦ grind (arith, common_steps)
       | in_default-2 w ↦ grind (arith, common_steps)
     ] in
-    c.ok-2.ensures.value ∙ parsed c.args.word.now c.parse.result short plus h
+    c.ok-2.ensures.value ∙ parsed c.args.word.now c.parse.result plus h
