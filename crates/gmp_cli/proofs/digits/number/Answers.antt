@@ -1,13 +1,13 @@
-use Rattle.std.proofs.Common.{rules, ◌≡◌, ◌≢◌, ℕ, ◌+◌, ◌<◌, ◌≤◌, ◌^◌, length, Bool, true, false, cond, nat_lt, ◌&&◌, List, [], ◌∷◌, get_or, Option, Some, None, Result, Ok, Err, Bor, refl, ap, sym, ◌∙◌, ◌⊎◌, inl, inr, arith}
-use Rattle.std.specs.Result.{OkIff, MatchResult, result_ok}
-use Rattle.std.specs.Str.{all_ascii_digits, IsUtf8, IsAscii}
-use Rattle.std.specs.Str.Parse.{digits_value, AllDigits, ParsesUnsigned}
+use Rattle.std.proofs.Common.{◌≡◌, ◌≢◌, ℕ, length, true, false, List, get_or, Some, None, Result, Ok, Err, Bor, sym, ◌∙◌, inl, inr, arith}
+use Rattle.std.specs.Result.{MatchResult, result_ok}
+use Rattle.std.specs.Str.{all_ascii_digits, IsUtf8}
+use Rattle.std.specs.Str.Parse.{digits_value, ParsesUnsigned}
 use Rattle.std.proofs.lemmas.Bool.{cases_Bool, cases_lt}
 use Rattle.std.proofs.lemmas.Bool.Decides.{nat_tests}
 use Rattle.std.proofs.lemmas.Grind.{common_steps}
 use Rattle.std.proofs.lemmas.Str.{IsUtf8-from_ascii}
 use Rattle.std.proofs.lemmas.Str.Parse.{IsNumeralModel, numerals_by_value, tells_all_ascii_digits, parse_plain, digit_at}
-use Rattle.gmp_cli.specs.Numbers.{is_number, number_of}
+use Rattle.gmp_cli.specs.Numbers.{number_of}
 use Rattle.gmp_cli.proofs.digits.number.Goals as goal
 use Rattle.gmp_cli.proofs.digits.number.Goals.{in-43, in_default, in_default-2}
 

@@ -1,4 +1,4 @@
-use Rattle.std.proofs.Common.{rules, tests, ◌==◌, ◌≡◌, ℕ, ◌<◌, length, nat_lt, List}
+use Rattle.std.proofs.Common.{rules, tests, ◌==◌, length, nat_lt}
 use Rattle.std.proofs.lemmas.Iterator.Consumers.{map_from_collect, YieldsList-from_filter, YieldsList-at}
 use Rattle.std.proofs.lemmas.Iterator.Splits.{YieldsList-from_slice_split}
 use Rattle.gmp_cli.proofs.lines.words.Goals as goal

@@ -1,7 +1,6 @@
-use Rattle.std.proofs.Common.{rules, ◌≡◌, ◌≤◌, ◌++◌, ◌∷◌, [], ℕ, List, true, false, length, vec_len, ◌+◌, ◌-◌, ◌<◌, arith, take}
+use Rattle.std.proofs.Common.{rules, ◌≡◌, ◌++◌, ◌∷◌, [], true, false, length, vec_len, ◌-◌, ◌<◌, arith}
 use Rattle.std.proofs.lemmas.Grind.{common_steps}
-use Rattle.gmp_cli.specs.Lines.{IsScript}
-use Rattle.gmp_cli.specs.Script.{Commands, begins_again}
+use Rattle.gmp_cli.specs.Script.{begins_again}
 use Rattle.gmp_cli.proofs.Parts.{last_of, last_set}
 use Rattle.gmp_cli.proofs.Scripts.{no_script_with_bad, no_script_with_first, no_script_with_again, script_with_body, script_with_command}
 use Rattle.gmp_cli.proofs.parsing.add.Goals as goal

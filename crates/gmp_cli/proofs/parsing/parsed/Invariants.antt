@@ -1,4 +1,4 @@
-use Rattle.std.proofs.Common.{◌≡◌, ℕ, List, length, map, take}
+use Rattle.std.proofs.Common.{◌≡◌, length, take}
 use Rattle.gmp_cli.specs.Lines.{lines, IsScript}
 use Rattle.gmp_cli.proofs.parsing.parsed.Given as goal
 
