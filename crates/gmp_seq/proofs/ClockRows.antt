@@ -80,6 +80,31 @@ abbrev pub late_2 : List Entry
 late_2 =
     entry 0 8 call.Acquire (reply.Proc (processor 0)) ∷
     entry 0 9 call.Take (reply.Ticket (ticket 0 2)) ∷
+    []
+
+abbrev pub late_after_2 : State
+late_after_2 =
+    record {
+      table = record { goroutines = does (status.Ready Out woke.Late) 2 ∷ []; arrivals = 1; clock = 50 };
+      channels = new_channel 0 ∷ [];
+      machines = record { holders = Some (machine 0) ∷ []; modes = mode.Awake ∷ []; spinning = false ∷ [] };
+      counts = 10 ∷ [];
+      outcome = None;
+    }
+
+late_2_goes : Run (limits 1 1 16 10000) late_after_1 late_2 late_after_2
+late_2_goes = (
+  _,
+  (refl, (refl, ((refl, refl, refl, refl), refl, refl), refl, refl)),
+  (
+    _,
+    (refl, (refl, (refl, ((_, refl, refl), refl, refl)), refl, refl)),
+    refl,
+  ),
+)
+
+abbrev pub late_3 : List Entry
+late_3 =
     entry 0 10 call.Poke reply.Nothing ∷
     entry 0 11 (call.Claim (ticket 0 2)) reply.Held ∷
     entry 0 12 (call.Send (Some (channel 0)) 9) reply.Waits ∷
@@ -98,34 +123,26 @@ late_end =
       outcome = Some outcome.AllAsleep;
     }
 
-late_2_goes : Run (limits 1 1 16 10000) late_after_1 late_2 late_end
-late_2_goes = (
+late_3_goes : Run (limits 1 1 16 10000) late_after_2 late_3 late_end
+late_3_goes = (
   _,
-  (refl, (refl, ((refl, refl, refl, refl), refl, refl), refl, refl)),
+  (refl, (refl, ((refl, refl, refl), refl, refl), refl, refl)),
   (
     _,
-    (refl, (refl, (refl, ((_, refl, refl), refl, refl)), refl, refl)),
+    (refl, (refl, ((refl, refl, refl), refl, ((_, refl, refl), refl, refl)), refl, refl)),
     (
       _,
-      (refl, (refl, ((refl, refl, refl), refl, refl), refl, refl)),
+      (refl, (refl, (goroutine 0, refl, (refl, (refl, refl, refl, refl))), refl, refl)),
       (
         _,
-        (refl, (refl, ((refl, refl, refl), refl, ((_, refl, refl), refl, refl)), refl, refl)),
+        (refl, (refl, (refl, ((refl, refl), refl, refl)), refl, refl)),
         (
           _,
-          (refl, (refl, (goroutine 0, refl, (refl, (refl, refl, refl, refl))), refl, refl)),
+          (refl, (refl, (refl, ((refl, refl, refl), refl, refl)), refl, refl)),
           (
             _,
-            (refl, (refl, (refl, ((refl, refl), refl, refl)), refl, refl)),
-            (
-              _,
-              (refl, (refl, (refl, ((refl, refl, refl), refl, refl)), refl, refl)),
-              (
-                _,
-                (refl, (refl, ((refl, refl, refl), (refl, refl, (refl, refl, refl))), refl, refl)),
-                refl,
-              ),
-            ),
+            (refl, (refl, ((refl, refl, refl), (refl, refl, (refl, refl, refl))), refl, refl)),
+            refl,
           ),
         ),
       ),
@@ -133,10 +150,11 @@ late_2_goes = (
   ),
 )
 
-pub late_is_legal : Run (limits 1 1 16 10000) (opening (limits 1 1 16 10000) 1 (0 ∷ [])) (late_1 ++ late_2) late_end
+pub late_is_legal : Run (limits 1 1 16 10000) (opening (limits 1 1 16 10000) 1 (0 ∷ [])) (late_1 ++ (late_2 ++ late_3)) late_end
 late_is_legal =
-    run_join (limits 1 1 16 10000) (opening (limits 1 1 16 10000) 1 (0 ∷ [])) late_after_1 late_end late_1 (late_2) late_1_goes
-    (late_2_goes)
+    run_join (limits 1 1 16 10000) (opening (limits 1 1 16 10000) 1 (0 ∷ [])) late_after_1 late_end late_1 (late_2 ++ late_3) late_1_goes
+    (run_join (limits 1 1 16 10000) late_after_1 late_after_2 late_end late_2 (late_3) late_2_goes
+    (late_3_goes))
 
 -- two sleeps, the second already due; the clock doesn't go back
 abbrev pub sleeping_1 : List Entry

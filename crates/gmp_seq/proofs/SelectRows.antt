@@ -622,3 +622,98 @@ pub least_case_is_legal : Run (limits 1 1 16 10000) (opening (limits 1 1 16 1000
 least_case_is_legal =
     run_join (limits 1 1 16 10000) (opening (limits 1 1 16 10000) 2 (0 ∷ [])) least_case_after_1 least_case_end least_case_1 (least_case_2) least_case_1_goes
     (least_case_2_goes)
+
+-- a close tells a select its least case on the channel
+abbrev pub least_case_closed_1 : List Entry
+least_case_closed_1 =
+    entry 0 0 call.Acquire (reply.Proc (processor 0)) ∷
+    entry 0 1 call.Take (reply.Ticket (ticket 0 1)) ∷
+    entry 0 2 (call.Claim (ticket 0 1)) reply.Held ∷
+    entry 0 3 (call.Go (goroutine 1)) (reply.Ticket (ticket 1 1)) ∷
+    entry 0 4 call.Poke reply.Nothing ∷
+    entry 0 5 call.Yield (reply.Shelved (ticket 0 2)) ∷
+    entry 0 6 (call.Claim (ticket 1 1)) reply.Held ∷
+    entry 0 7 (call.Select (case.Recv (Some (channel 1)) ∷ case.Send (Some (channel 0)) 3 ∷ case.Recv (Some (channel 0)) ∷ []) false None) reply.Waits ∷
+    []
+
+abbrev pub least_case_closed_after_1 : State
+least_case_closed_after_1 =
+    record {
+      table = record { goroutines = does (status.Ready Shelf woke.Done) 2 ∷ does (status.Waiting (record { arrival = 0; kind = kind.Select; offers = record { case = 0; channel = channel 1; deal = deal.Receive } ∷ record { case = 1; channel = channel 0; deal = deal.Send 3 } ∷ record { case = 2; channel = channel 0; deal = deal.Receive } ∷ []; until = None })) 1 ∷ []; arrivals = 1; clock = 0 };
+      channels = new_channel 0 ∷ new_channel 0 ∷ [];
+      machines = record { holders = Some (machine 0) ∷ []; modes = mode.Awake ∷ []; spinning = false ∷ [] };
+      counts = 8 ∷ [];
+      outcome = None;
+    }
+
+least_case_closed_1_goes : Run (limits 1 1 16 10000) (opening (limits 1 1 16 10000) 2 (0 ∷ 0 ∷ [])) least_case_closed_1 least_case_closed_after_1
+least_case_closed_1_goes = (
+  _,
+  (refl, (refl, ((refl, refl, refl, refl), refl, refl), refl, refl)),
+  (
+    _,
+    (refl, (refl, (refl, ((_, refl, refl), refl, refl)), refl, refl)),
+    (
+      _,
+      (refl, (refl, ((refl, refl, refl), refl, ((_, refl, refl), refl, refl)), refl, refl)),
+      (
+        _,
+        (refl, (refl, (goroutine 0, refl, ((refl, refl, refl), refl, refl)), refl, refl)),
+        (
+          _,
+          (refl, (refl, ((refl, refl, refl), refl, refl), refl, refl)),
+          (
+            _,
+            (refl, (refl, (goroutine 0, refl, ((refl, refl), refl, refl)), refl, refl)),
+            (
+              _,
+              (refl, (refl, ((refl, refl, refl), refl, ((_, refl, refl), refl, refl)), refl, refl)),
+              (
+                _,
+                (refl, (refl, (lit≤ tt, (goroutine 1, refl, (refl, refl, (refl, refl, refl, refl)))), refl, refl)),
+                refl,
+              ),
+            ),
+          ),
+        ),
+      ),
+    ),
+  ),
+)
+
+abbrev pub least_case_closed_2 : List Entry
+least_case_closed_2 =
+    entry 0 8 call.Take (reply.Ticket (ticket 0 2)) ∷
+    entry 0 9 (call.Claim (ticket 0 2)) reply.Held ∷
+    entry 0 10 (call.Close (Some (channel 0))) (reply.Closed 1) ∷
+    []
+
+abbrev pub least_case_closed_end : State
+least_case_closed_end =
+    record {
+      table = record { goroutines = does (status.Running (machine 0)) 2 ∷ does (status.Ready Shelf (woke.Fault fault.SendOnClosed)) 2 ∷ []; arrivals = 1; clock = 0 };
+      channels = record { capacity = 0; items = []; closed = true } ∷ new_channel 0 ∷ [];
+      machines = record { holders = Some (machine 0) ∷ []; modes = mode.Awake ∷ []; spinning = false ∷ [] };
+      counts = 11 ∷ [];
+      outcome = None;
+    }
+
+least_case_closed_2_goes : Run (limits 1 1 16 10000) least_case_closed_after_1 least_case_closed_2 least_case_closed_end
+least_case_closed_2_goes = (
+  _,
+  (refl, (refl, (refl, ((_, refl, refl), refl, refl)), refl, refl)),
+  (
+    _,
+    (refl, (refl, ((refl, refl, refl), refl, ((_, refl, refl), refl, refl)), refl, refl)),
+    (
+      _,
+      (refl, (refl, (goroutine 0, refl, (refl, refl, refl, refl, refl, refl)), refl, refl)),
+      refl,
+    ),
+  ),
+)
+
+pub least_case_closed_is_legal : Run (limits 1 1 16 10000) (opening (limits 1 1 16 10000) 2 (0 ∷ 0 ∷ [])) (least_case_closed_1 ++ least_case_closed_2) least_case_closed_end
+least_case_closed_is_legal =
+    run_join (limits 1 1 16 10000) (opening (limits 1 1 16 10000) 2 (0 ∷ 0 ∷ [])) least_case_closed_after_1 least_case_closed_end least_case_closed_1 (least_case_closed_2) least_case_closed_1_goes
+    (least_case_closed_2_goes)
