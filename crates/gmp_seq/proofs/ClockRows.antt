@@ -472,6 +472,131 @@ ticking_is_legal =
     (run_join (limits 1 1 16 10000) ticking_after_1 ticking_after_2 ticking_end ticking_2 (ticking_3) ticking_2_goes
     (ticking_3_goes))
 
+-- of two deadlines the earlier is minded, and one wakes
+abbrev pub two_deadlines_1 : List Entry
+two_deadlines_1 =
+    entry 0 0 call.Acquire (reply.Proc (processor 0)) ∷
+    entry 0 1 call.Take (reply.Ticket (ticket 0 1)) ∷
+    entry 0 2 (call.Claim (ticket 0 1)) reply.Held ∷
+    entry 0 3 (call.Go (goroutine 1)) (reply.Ticket (ticket 1 1)) ∷
+    entry 0 4 call.Poke reply.Nothing ∷
+    entry 0 5 (call.Sleep 20) reply.Waits ∷
+    entry 0 6 (call.Claim (ticket 1 1)) reply.Held ∷
+    entry 0 7 (call.Sleep 30) reply.Waits ∷
+    []
+
+abbrev pub two_deadlines_after_1 : State
+two_deadlines_after_1 =
+    record {
+      table = record { goroutines = does (status.Waiting (record { arrival = 0; kind = kind.Sleep; offers = []; until = Some 20 })) 1 ∷ does (status.Waiting (record { arrival = 1; kind = kind.Sleep; offers = []; until = Some 30 })) 1 ∷ []; arrivals = 2; clock = 0 };
+      channels = [];
+      machines = record { holders = Some (machine 0) ∷ []; modes = mode.Awake ∷ []; spinning = false ∷ [] };
+      counts = 8 ∷ [];
+      outcome = None;
+    }
+
+two_deadlines_1_goes : Run (limits 1 1 16 10000) (opening (limits 1 1 16 10000) 2 ([])) two_deadlines_1 two_deadlines_after_1
+two_deadlines_1_goes = (
+  _,
+  (refl, (refl, ((refl, refl, refl, refl), refl, refl), refl, refl)),
+  (
+    _,
+    (refl, (refl, (refl, ((_, refl, refl), refl, refl)), refl, refl)),
+    (
+      _,
+      (refl, (refl, ((refl, refl, refl), refl, ((_, refl, refl), refl, refl)), refl, refl)),
+      (
+        _,
+        (refl, (refl, (goroutine 0, refl, ((refl, refl, refl), refl, refl)), refl, refl)),
+        (
+          _,
+          (refl, (refl, ((refl, refl, refl), refl, refl), refl, refl)),
+          (
+            _,
+            (refl, (refl, (goroutine 0, refl, (refl, refl, refl)), refl, refl)),
+            (
+              _,
+              (refl, (refl, ((refl, refl, refl), refl, ((_, refl, refl), refl, refl)), refl, refl)),
+              (
+                _,
+                (refl, (refl, (goroutine 1, refl, (refl, refl, refl)), refl, refl)),
+                refl,
+              ),
+            ),
+          ),
+        ),
+      ),
+    ),
+  ),
+)
+
+abbrev pub two_deadlines_2 : List Entry
+two_deadlines_2 =
+    entry 0 8 call.Take reply.Nothing ∷
+    entry 0 9 call.Declare (reply.Idle (processor 0)) ∷
+    entry 0 10 call.Park (reply.Mind 20) ∷
+    entry 0 11 (call.Tick 25) (reply.Woke 1) ∷
+    entry 0 12 call.Acquire (reply.Proc (processor 0)) ∷
+    entry 0 13 call.Take (reply.Ticket (ticket 0 2)) ∷
+    entry 0 14 call.Poke reply.Nothing ∷
+    entry 0 15 (call.Claim (ticket 0 2)) reply.Held ∷
+    entry 0 16 call.Exit reply.MainEnded ∷
+    []
+
+abbrev pub two_deadlines_end : State
+two_deadlines_end =
+    record {
+      table = record { goroutines = does status.Dead 2 ∷ does (status.Waiting (record { arrival = 1; kind = kind.Sleep; offers = []; until = Some 30 })) 1 ∷ []; arrivals = 2; clock = 25 };
+      channels = [];
+      machines = record { holders = Some (machine 0) ∷ []; modes = mode.Awake ∷ []; spinning = false ∷ [] };
+      counts = 17 ∷ [];
+      outcome = Some outcome.MainEnded;
+    }
+
+two_deadlines_2_goes : Run (limits 1 1 16 10000) two_deadlines_after_1 two_deadlines_2 two_deadlines_end
+two_deadlines_2_goes = (
+  _,
+  (refl, (refl, (refl, ((refl, refl), refl, refl)), refl, refl)),
+  (
+    _,
+    (refl, (refl, (refl, ((refl, refl, refl), refl, refl)), refl, refl)),
+    (
+      _,
+      (refl, (refl, ((refl, refl, refl), (refl, refl, refl, (refl, refl, refl))), refl, refl)),
+      (
+        _,
+        (refl, (refl, (refl, ((refl, refl), refl, refl)), refl, refl)),
+        (
+          _,
+          (refl, (refl, ((refl, refl, refl, refl), refl, refl), refl, refl)),
+          (
+            _,
+            (refl, (refl, (refl, ((_, refl, refl), refl, refl)), refl, refl)),
+            (
+              _,
+              (refl, (refl, ((refl, refl, refl), refl, refl), refl, refl)),
+              (
+                _,
+                (refl, (refl, ((refl, refl, refl), refl, ((_, refl, refl), refl, refl)), refl, refl)),
+                (
+                  _,
+                  (refl, (refl, (goroutine 0, refl, ((refl, refl), refl, refl)), refl, refl)),
+                  refl,
+                ),
+              ),
+            ),
+          ),
+        ),
+      ),
+    ),
+  ),
+)
+
+pub two_deadlines_is_legal : Run (limits 1 1 16 10000) (opening (limits 1 1 16 10000) 2 ([])) (two_deadlines_1 ++ two_deadlines_2) two_deadlines_end
+two_deadlines_is_legal =
+    run_join (limits 1 1 16 10000) (opening (limits 1 1 16 10000) 2 ([])) two_deadlines_after_1 two_deadlines_end two_deadlines_1 (two_deadlines_2) two_deadlines_1_goes
+    (two_deadlines_2_goes)
+
 -- a sleep until the last moment of all
 abbrev pub sleeping_long_1 : List Entry
 sleeping_long_1 =
