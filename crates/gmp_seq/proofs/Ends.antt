@@ -1,7 +1,6 @@
 -- How a run ended, read from its last state.
-use Rattle.std.proofs.Common.{◌≡◌, ◌↔◌, inl, inr, ℕ, zero, suc, ◌-◌, Bool, true, false, cond, Option, None, Some, List, [], ◌∷◌, leb, set, replicate, refl, sym, ap, subst, ◌∙◌}
+use Rattle.std.proofs.Common.{◌≡◌, ◌↔◌, inl, inr, ℕ, Bool, true, false, cond, Option, None, Some, List, [], ◌∷◌, leb, set, refl, sym, ap, subst, ◌∙◌}
 use Rattle.std.specs.List.{slice_get, sum}
-use Rattle.gmp_base.specs.declared.cases.Case.TheVariants as case
 use Rattle.gmp_base.specs.declared.number.GNo.{GNo}
 use Rattle.gmp_base.specs.declared.number.MNo.{MNo}
 use Rattle.gmp_seq.proofs.Epochs.{slice_get-set_same}
@@ -17,10 +16,9 @@ use Rattle.gmp_seq.specs.declared.call.Outcome.TheVariants as outcome
 use Rattle.gmp_seq.specs.declared.call.Reply.{Reply}
 use Rattle.gmp_seq.specs.declared.call.Reply.TheVariants as reply
 use Rattle.gmp_seq.specs.declared.status.Goroutine.{Goroutine}
-use Rattle.gmp_seq.specs.declared.status.Status.{Status}
 use Rattle.gmp_seq.specs.declared.status.Status.TheVariants as status
 use Rattle.gmp_seq.specs.Run.{Run, IsLegal}
-use Rattle.gmp_seq.specs.State.{State, main, opening, first_goroutine, dormant}
+use Rattle.gmp_seq.specs.State.{State, main, opening}
 use Rattle.gmp_seq.specs.Step
 use Rattle.gmp_seq.specs.Table.{Table, IsAsleep, status_at, epoch_at}
 

@@ -26,13 +26,11 @@ use Rattle.gmp_seq.specs.declared.status.Deal.TheVariants as deal
 use Rattle.gmp_seq.specs.declared.status.Direction.TheVariants.{Sending, Receiving}
 use Rattle.gmp_seq.specs.declared.status.Goroutine.{Goroutine}
 use Rattle.gmp_seq.specs.declared.status.Kind.{Kind}
-use Rattle.gmp_seq.specs.declared.status.Kind.TheVariants as kind
 use Rattle.gmp_seq.specs.declared.status.Offer.{Offer}
 use Rattle.gmp_seq.specs.declared.status.Place.{Place}
 use Rattle.gmp_seq.specs.declared.status.Place.TheVariants.{Shelf, Out}
 use Rattle.gmp_seq.specs.declared.status.Status.{Status}
 use Rattle.gmp_seq.specs.declared.status.Status.TheVariants as status
-use Rattle.gmp_seq.specs.declared.status.Transfer.{Transfer}
 use Rattle.gmp_seq.specs.declared.status.Transfer.TheVariants.{Handed, Relayed}
 use Rattle.gmp_seq.specs.declared.status.Wait.{Wait}
 use Rattle.gmp_seq.specs.Fits.{IsWord, FitsCase, FitsCall}

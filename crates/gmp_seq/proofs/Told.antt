@@ -1,5 +1,5 @@
 -- What goroutines are told.
-use Rattle.std.proofs.Common.{◌≡◌, ℕ, Bool, true, false, cond, Option, refl}
+use Rattle.std.proofs.Common.{◌≡◌, ℕ, Bool, false, cond, Option, refl}
 use Rattle.gmp_base.specs.declared.ask.Fault.TheVariants.{SendOnClosed}
 use Rattle.gmp_base.specs.declared.number.Readiness.{Readiness}
 use Rattle.gmp_seq.specs.declared.call.Relay.{Relay}

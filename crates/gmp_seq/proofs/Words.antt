@@ -1,5 +1,5 @@
 -- The values that channels and waits hold are words, and no capacity is above 4096.
-use Rattle.std.proofs.Common.{◌≡◌, ◌≤◌, ◌<◌, inl, inr, lit<, ℕ, zero, suc, ◌-◌, Bool, true, false, cond, Option, None, Some, List, [], ◌∷◌, ◌++◌, min, length, set, map, refl, sym, ap, subst, arith}
+use Rattle.std.proofs.Common.{◌≡◌, ◌≤◌, inl, inr, lit<, ℕ, zero, suc, ◌-◌, Bool, Option, None, Some, List, [], ◌∷◌, ◌++◌, min, map, refl, sym, ap, subst, arith}
 use Rattle.std.proofs.lemmas.List.Elements.{All-head, All-tail}
 use Rattle.std.specs.List.{slice_get, All}
 use Rattle.gmp_base.specs.declared.ask.Fault.TheVariants as fault
