@@ -1,2 +1,4 @@
 pub mod Parts
 pub mod Scripts
+pub mod Tickets
+pub mod Driving

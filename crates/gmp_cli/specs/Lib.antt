@@ -3,3 +3,5 @@ pub mod Numbers
 pub mod Said
 pub mod Script
 pub mod Words
+pub mod Driven
+pub mod Step

@@ -1,9 +1,11 @@
 //! How the program ends.
 
-ghost use Rattle.std.specs.Prelude.{◌≡◌, true};
+ghost use Rattle.std.specs.Prelude.{◌≡◌, ◌≢◌, true};
+ghost use Rattle.gmp_cli.specs.Step.{status_of};
 ghost use Rattle.gmp_cli.specs.Said.{goes_with};
 
 use crate::said::Said;
+use gmp_trace::End;
 use std::alloc::AllocError;
 
 /// The exit status, and what is said: a status goes only with what it stands for.
@@ -14,7 +16,31 @@ pub struct Ended {
     pub ghost paired: { goes_with said status ≡ true },
 }
 
+fn status_of(end: End) -> u8
+    ensures { result ≡ status_of end }
+{
+    match end {
+        End::MainEnded => 0,
+        End::AllAsleep => 2,
+        End::BookFull => 3,
+        End::Running => 4,
+    }
+}
+
 impl Ended {
+    /// The trace was written, and the run ended so.
+    pub fn traced(end: End) -> Self
+        requires { end ≢ End.Running }
+        ensures status { result.status ≡ status_of end }
+        ensures said { result.said ≡ Said.Nothing }
+    {
+        let status = status_of(end);
+        Ended {
+            status,
+            said: Said::Nothing,
+        }
+    }
+
     /// The script's line, numbered from 1, is bad.
     pub fn bad_line(line: u64) -> Self
         ensures status { result.status ≡ 1 }

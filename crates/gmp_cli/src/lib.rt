@@ -5,11 +5,13 @@ mod commands;
 mod digits;
 mod ended;
 mod lines;
+mod machine;
 mod numeric;
 mod options;
 mod parsing;
 mod reading;
 mod said;
+mod stepping;
 mod words;
 
 pub use commands::{Command, Script, ScriptBody};
@@ -18,6 +20,7 @@ pub use options::{Settings, Task};
 pub use parsing::script;
 pub use reading::{MAX_INPUT, input};
 pub use said::Said;
+pub use stepping::step;
 pub use words::settings;
 
 #[cfg(test)]

@@ -1,0 +1,31 @@
+//! The program `gmp`: runs scripts of goroutines, and prints what was done.
+#![tactic(auto)]
+
+use gmp_cli::{Ended, Task, settings, step};
+use std::io;
+use std::process::ExitCode;
+
+/// Says how it ended, on standard error, or at status 0 on standard output, and gives the exit code.
+fn finish(rt: &(impl Print + Eprint), ended: &Ended) -> ExitCode {
+    let said = &ended.said;
+    let told = if ended.status == 0 {
+        print!(rt; "{said}")
+    } else {
+        eprint!(rt; "{said}")
+    };
+    // Where the last words cannot be written, the status still says how it ended.
+    let _ = told;
+    ExitCode::from(ended.status)
+}
+
+fn main(rt: HostRuntime) -> io::Result<ExitCode> {
+    let alloc = rt.alloc();
+    let words: Vec<String> = std::env::args(&rt)?.collect(alloc)?;
+    let ended = match settings(alloc, &words) {
+        Err(ended) => ended,
+        Ok(settings) => match settings.task {
+            Task::Step => step(alloc, &settings, &mut rt.reader(), &mut io::writer(&rt)),
+        },
+    };
+    Ok(finish(&rt, &ended))
+}

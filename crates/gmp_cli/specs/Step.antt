@@ -1,0 +1,41 @@
+-- What `step` writes.
+use Rattle.std.specs.Prelude.{◌≡◌, ℕ, List, Option, IsSome}
+use Rattle.std.specs.Io.KnownBytes.{Appends}
+use Rattle.gmp_cli.specs.declared.options.Settings.{Settings}
+use Rattle.gmp_seq.specs.declared.call.Limits.{Limits}
+use Rattle.gmp_seq.specs.Fits.{AreLimits}
+use Rattle.gmp_seq.specs.Run.{IsLegal}
+use Rattle.gmp_seq.specs.State.{State}
+use Rattle.gmp_trace.specs.declared.trace.End.{End}
+use Rattle.gmp_trace.specs.declared.trace.End.TheVariants.{MainEnded, AllAsleep, BookFull, Running}
+use Rattle.gmp_trace.specs.HasText.{HasText}
+use Rattle.gmp_trace.specs.Text.{Content, text, end_of}
+
+-- the limits that the command line gives
+abbrev pub limits_of : Settings → Limits
+limits_of s = record { procs = s.procs; machines = s.machines; channels = s.channels; entries = s.entries }
+
+-- the exit status where a run ended so
+abbrev pub status_of : End → ℕ
+status_of MainEnded = 0
+status_of AllAsleep = 2
+status_of BookFull = 3
+status_of Running = 4
+
+-- The trace of a run that was opened with these limits: its entries are a legal run from the opening state, and its end is the outcome of the state
+-- that they lead to.
+pub record IsTraceOf (limits : Limits) (x : Content) : Type 0 where
+  pub opened : x.limits ≡ limits
+  pub within : AreLimits x.limits x.bodies x.capacities
+  pub last : State
+  pub legal : IsLegal x.limits x.bodies x.capacities x.entries last
+  pub over : IsSome last.outcome
+  pub ended : x.end ≡ end_of last.outcome
+
+-- what was written is the text of such a trace, and the status tells its end
+pub record WritesTrace (limits : Limits) (status : ℕ) (old new : Option (List ℕ)) : Type 0 where
+  pub trace : Content
+  pub of_run : IsTraceOf limits trace
+  pub has_text : HasText trace
+  pub written : Appends old new (text trace)
+  pub told : status ≡ status_of trace.end

@@ -1,0 +1,84 @@
+//! One run of a script.
+
+ghost use Rattle.std.specs.Prelude.{◌≡◌, ◌≢◌, ◌||◌, ℕ, true, length, IfOk, IfErr, IfSome, Some};
+ghost use Rattle.gmp_cli.specs.Lines.{lines, IsFirstBad};
+ghost use Rattle.gmp_cli.specs.Said.{is_of_input, is_of_script};
+ghost use Rattle.gmp_cli.specs.Step.{limits_of, status_of, IsTraceOf, WritesTrace};
+ghost use Rattle.gmp_trace.specs.Text.{content};
+
+use crate::commands::ScriptBody;
+use crate::ended::Ended;
+use crate::machine::Machine;
+use crate::options::Settings;
+use crate::parsing::script;
+use crate::said::Said;
+use gmp_book::in_range;
+use gmp_seq::Limits;
+use gmp_trace::{End, Trace, WriteError, write};
+use std::alloc::Global;
+use std::io::{Read, Write};
+
+fn limits_of(settings: &Settings) -> Limits
+    ensures { result ≡ limits_of settings.now }
+{
+    Limits {
+        procs: settings.procs,
+        machines: settings.machines,
+        channels: settings.channels,
+        entries: settings.entries,
+    }
+}
+
+/// Runs the bodies on one machine with one processor.
+fn run(alloc: Global, limits: Limits, bodies: Vec<ScriptBody>) -> Result<Trace, Ended>
+    ensures ok { IfOk result (λ x. IsTraceOf limits (content x)) }
+    ensures over { IfOk result (λ x. x.end ≢ End.Running) }
+    ensures err { IfErr result (λ e. e.said ≢ Said.Nothing) }
+{
+    if limits.procs != 1 || limits.machines != 1 || !in_range(limits, bodies.len(), &[]) {
+        return Err(Ended::bad_limits());
+    }
+    let mut machine = Machine::open(alloc, limits, bodies)?;
+    machine.run();
+    let report = machine.into_report();
+    Ok(Trace {
+        limits: report.limits,
+        bodies: report.bodies,
+        capacities: report.capacities,
+        entries: report.history,
+        end: End::of(report.outcome),
+    })
+}
+
+/// The trace of the script that is read.
+fn traced<R: Read>(alloc: Global, settings: &Settings, reader: &mut R) -> Result<Trace, Ended>
+    ensures ok { IfOk result (λ x. IsTraceOf (limits_of settings.now) (content x)) }
+    ensures over { IfOk result (λ x. x.end ≢ End.Running) }
+    ensures err { IfErr result (λ e. e.said ≢ Said.Nothing) }
+{
+    let script = script(alloc, reader)?;
+    run(alloc, limits_of(settings), script.bodies)
+}
+
+/// Reads a script, runs it on one machine with one processor, and writes the trace.
+///
+/// It ends with what is wrong where something is: the input, the script's first bad line, the limits, the output, or memory.
+pub fn step<R: Read, W: Write>(
+    alloc: Global,
+    settings: &Settings,
+    reader: &mut R,
+    writer: &mut W,
+) -> Ended
+    ensures traced { result.said ≡ Said.Nothing
+        → WritesTrace (limits_of settings.now) result.status (W.contents writer.old) (W.contents writer.new) }
+{
+    let trace = match traced(alloc, settings, reader) {
+        Ok(trace) => trace,
+        Err(ended) => return ended,
+    };
+    match write(alloc, &trace, writer) {
+        Ok(()) => Ended::traced(trace.end),
+        Err(WriteError::Device) => Ended::output_failed(),
+        Err(WriteError::OutOfMemory) => Ended::out_of_memory(),
+    }
+}
