@@ -24,4 +24,6 @@ pub use stepping::step;
 pub use words::settings;
 
 #[cfg(test)]
+mod step_tests;
+#[cfg(test)]
 mod tests;
