@@ -1,10 +1,10 @@
 -- The machine keeps what it keeps by each call of its program.
-use Rattle.std.proofs.Common.{◌≡◌, ◌≢◌, ℕ, zero, suc, ◌+◌, ◌-◌, ◌<◌, ◌≤◌, Bool, true, false, List, [], ◌∷◌, ◌++◌, Option, Some, None, Ok, Err, length, length-set, set, replicate, slice_get, refl, sym, ◌∙◌, ap, subst, arith}
+use Rattle.std.proofs.Common.{◌≡◌, ℕ, zero, suc, ◌+◌, ◌-◌, ◌<◌, ◌≤◌, true, false, List, [], ◌∷◌, ◌++◌, Option, Some, None, length, length-set, replicate, slice_get, refl, sym, ◌∙◌, ap, arith}
 use Rattle.std.proofs.lemmas.Bool.{false≢true}
 use Rattle.std.proofs.lemmas.Grind.{common_steps}
 use Rattle.std.proofs.lemmas.List.{length-map, length-replicate}
 use Rattle.std.proofs.lemmas.Option.{slice_get_within}
-use Rattle.std.specs.Prelude.{map, is_none, unwrap_or}
+use Rattle.std.specs.Prelude.{is_none, unwrap_or}
 use Rattle.std.specs.List.{list_any}
 use Rattle.circular_buffer.specs.Buffer.{keep_last}
 use Rattle.gmp_base.specs.declared.ask.Fault.{Fault}
@@ -16,34 +16,30 @@ use Rattle.gmp_base.specs.declared.number.MNo.{MNo}
 use Rattle.gmp_base.specs.declared.number.PNo.{PNo}
 use Rattle.gmp_base.specs.declared.number.Readiness.{Readiness}
 use Rattle.gmp_book.specs.declared.ledger.Exited.{Exited}
-use Rattle.gmp_book.specs.declared.ledger.Exited.TheVariants as exited
 use Rattle.gmp_book.specs.Log.{Log, Records, opening_log}
-use Rattle.gmp_book.specs.Replies.{acquired, taken, started, left, poked}
+use Rattle.gmp_book.specs.Replies.{acquired, left, poked}
 use Rattle.gmp_seq.specs.declared.call.Call.TheVariants as call
 use Rattle.gmp_seq.specs.declared.call.Limits.{Limits}
-use Rattle.gmp_seq.specs.declared.call.Outcome.{Outcome}
 use Rattle.gmp_seq.specs.declared.call.Outcome.TheVariants as outcome
 use Rattle.gmp_seq.specs.declared.call.Reply.TheVariants as reply
 use Rattle.gmp_seq.specs.declared.status.Goroutine.{Goroutine}
 use Rattle.gmp_seq.specs.declared.status.Mode.{Mode}
 use Rattle.gmp_seq.specs.declared.status.Mode.TheVariants.{Awake}
 use Rattle.gmp_seq.specs.declared.status.Place.TheVariants.{Shelf, Out}
-use Rattle.gmp_seq.specs.declared.status.Status.{Status}
 use Rattle.gmp_seq.specs.declared.status.Status.TheVariants as status
 use Rattle.gmp_seq.specs.Fits.{AreLimits}
-use Rattle.gmp_seq.specs.Machines.{Machines, Pokes, Acquires, IsAwake, has_processor, some_idle, spins, is_held_by}
+use Rattle.gmp_seq.specs.Machines.{Machines, Pokes, IsAwake, has_processor, spins, is_held_by}
 use Rattle.gmp_seq.specs.Needs.{Needs}
-use Rattle.gmp_seq.specs.State.{State, opening, dormant, first_goroutine}
-use Rattle.gmp_seq.specs.Step.{Takes, Claims, Starts}
-use Rattle.gmp_seq.specs.Table.{Table, IsReady, IsRunning, status_at, epoch_at, set_status, made_ready, is_out, is_running_on}
+use Rattle.gmp_seq.specs.State.{dormant, first_goroutine}
+use Rattle.gmp_seq.specs.Step.{Starts}
+use Rattle.gmp_seq.specs.Table.{Table, IsRunning, epoch_at, set_status, made_ready, is_out, is_running_on}
 use Rattle.gmp_seq.proofs.Epochs.{at_set}
 use Rattle.gmp_seq.proofs.Needed.{held_from}
-use Rattle.gmp_table.specs.Kept.{IsListing, passes_at}
 use Rattle.gmp_table.proofs.Listing.{slice_get-set_same, dormant_listing, listed_fewer, cons_listing}
 use Rattle.gmp_cli.specs.declared.machine.Place.{Place}
 use Rattle.gmp_cli.specs.declared.machine.Place.TheVariants as place
 use Rattle.gmp_cli.specs.Driven.{IsDriven, AreTickets, HoldsAt, machine, owners, in_hand, runner, is_live}
-use Rattle.gmp_cli.proofs.Tickets.{Turns, IsRow, row_with, taken_tickets, claimed_tickets, started_tickets, parted_tickets, runs_listed, runs_nothing, first_out, live_turned, main_shelved}
+use Rattle.gmp_cli.proofs.Tickets.{Turns, row_with, taken_tickets, claimed_tickets, started_tickets, parted_tickets, runs_listed, runs_nothing, first_out, live_turned, main_shelved}
 
 -- what is known of a row stays, where the table stays
 unmoved : (old new : Log) (queue : List Readiness) (capacity n : ℕ) (from to : Place) → IsDriven old queue capacity from n → new.state.table ≡ old.state.table → old.state.outcome ≡ None

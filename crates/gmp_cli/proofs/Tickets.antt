@@ -1,5 +1,5 @@
 -- The tickets that are out, and who runs, where one goroutine changes.
-use Rattle.std.proofs.Common.{◌≡◌, ◌≢◌, ℕ, zero, suc, ◌+◌, ◌-◌, ◌<◌, ◌≤◌, ◌==◌, Bool, true, false, ◌&&◌, List, [], ◌∷◌, ◌++◌, Option, Some, None, length, set, map, nat_lt, slice_get, refl, sym, ◌∙◌, ap, subst, arith}
+use Rattle.std.proofs.Common.{◌≡◌, ℕ, ◌+◌, ◌==◌, Bool, true, false, List, [], ◌∷◌, ◌++◌, Option, Some, None, set, slice_get, refl, sym, ◌∙◌, ap, arith}
 use Rattle.std.proofs.lemmas.Bool.{false≢true}
 use Rattle.std.proofs.lemmas.Bool.Decides.{nat_tests}
 use Rattle.std.proofs.lemmas.List.{map-append}
@@ -16,11 +16,11 @@ use Rattle.gmp_seq.specs.declared.status.Place.TheVariants.{Shelf, Out}
 use Rattle.gmp_seq.specs.declared.status.Status.{Status}
 use Rattle.gmp_seq.specs.declared.status.Status.TheVariants as status
 use Rattle.gmp_seq.specs.Step.{Takes, Claims, Starts}
-use Rattle.gmp_seq.specs.Table.{Table, IsReady, IsRunning, RunsNothing, status_at, epoch_at, next_of, some_status, is_out, is_shelved, is_running_on, set_status, made_ready}
+use Rattle.gmp_seq.specs.Table.{Table, IsRunning, RunsNothing, status_at, epoch_at, some_status, is_out, is_shelved, is_running_on}
 use Rattle.gmp_seq.specs.Needs.{IsOut}
 use Rattle.gmp_seq.proofs.Asleep.{fails_at}
 use Rattle.gmp_table.specs.Kept.{tally, times, passes_at, IsListing}
-use Rattle.gmp_table.proofs.Listing.{slice_get-set_same, slice_get-set_other, pushed, pushed_first, popped, passed_by, first_passes, HasRow, row_of, some_listed, listed_fewer, nobody_passes}
+use Rattle.gmp_table.proofs.Listing.{slice_get-set_same, slice_get-set_other, pushed, pushed_first, popped, passed_by, first_passes, row_of, some_listed, nobody_passes}
 use Rattle.gmp_cli.specs.Driven.{AreTickets, AreIssued, owners, machine, is_live}
 
 -- One row of a table changes

@@ -1,5 +1,5 @@
 -- What one machine keeps while it drives a run.
-use Rattle.std.specs.Prelude.{◌≡◌, ℕ, ◌+◌, ◌≤◌, ◌||◌, Bool, true, false, Option, None, Some, List, [], ◌∷◌, ◌++◌, length, map}
+use Rattle.std.specs.Prelude.{◌≡◌, ℕ, ◌+◌, ◌≤◌, Bool, true, false, None, List, [], ◌∷◌, ◌++◌, length, map}
 use Rattle.gmp_base.specs.declared.number.GNo.{GNo}
 use Rattle.gmp_base.specs.declared.number.MNo.{MNo}
 use Rattle.gmp_base.specs.declared.number.Readiness.{Readiness}
@@ -13,7 +13,7 @@ use Rattle.gmp_seq.specs.Run.{IsLegal}
 use Rattle.gmp_seq.specs.Table.{Table, epoch_at, is_out, is_running_on}
 use Rattle.gmp_table.specs.Kept.{IsListing, passes_at}
 use Rattle.gmp_cli.specs.declared.machine.Place.{Place}
-use Rattle.gmp_cli.specs.declared.machine.Place.TheVariants.{Start, Look, Claim, Run, Poke}
+use Rattle.gmp_cli.specs.declared.machine.Place.TheVariants.{Start, Claim, Run, Poke}
 
 -- the run that the book keeps, and where the machine stands
 pub record Standing : Type 0 where

@@ -1,5 +1,5 @@
 -- A status table is kept where one goroutine changes, and the shelf with it.
-use Rattle.std.proofs.Common.{◌≡◌, ℕ, zero, suc, ◌+◌, ◌-◌, ◌<◌, ◌≤◌, ◌==◌, Bool, true, false, ◌&&◌, ◌||◌, List, [], ◌∷◌, ◌++◌, Option, Some, None, length, set, drop, map, replicate, slice_get, count_by, nat_lt, max, is_some, refl, sym, ◌∙◌, ap, arith, length-set, zero-add}
+use Rattle.std.proofs.Common.{◌≡◌, ℕ, zero, suc, ◌+◌, ◌-◌, ◌<◌, ◌==◌, Bool, true, false, ◌&&◌, List, [], ◌∷◌, ◌++◌, Option, Some, None, length, set, drop, map, replicate, slice_get, count_by, nat_lt, max, is_some, refl, sym, ◌∙◌, ap, arith, length-set, zero-add}
 use Rattle.std.proofs.lemmas.Bool.Decides.{nat_tests}
 use Rattle.std.proofs.lemmas.Grind.{common_steps}
 use Rattle.std.proofs.lemmas.List.Sums.{sum_by-cons}
@@ -15,13 +15,13 @@ use Rattle.gmp_seq.specs.declared.status.Goroutine.{Goroutine}
 use Rattle.gmp_seq.specs.declared.status.Place.{Place}
 use Rattle.gmp_seq.specs.declared.status.Place.TheVariants.{Shelf, Out}
 use Rattle.gmp_seq.specs.declared.status.Status.{Status}
-use Rattle.gmp_seq.specs.declared.status.Status.TheVariants.{Dormant, Ready, Running, Calling, Waiting, Dead}
+use Rattle.gmp_seq.specs.declared.status.Status.TheVariants.{Ready, Waiting}
 use Rattle.gmp_seq.specs.State.{dormant, first_goroutine}
 use Rattle.gmp_seq.specs.declared.call.Reply.TheVariants as reply
 use Rattle.gmp_seq.specs.Step.{Ticks}
 use Rattle.gmp_seq.specs.Table.{Table, is_shelved, is_out, is_waiting, woken_with, due_answer}
 use Rattle.gmp_table.specs.Contents.{answer_in, turned, epoch_in}
-use Rattle.gmp_table.specs.Kept.{tally, count_status, passes_at, IsListing, IsTable}
+use Rattle.gmp_table.specs.Kept.{tally, count_status, IsListing, IsTable}
 use Rattle.gmp_table.proofs.Listing.{count_by-set, slice_get-set_same, pushed, popped, passed_by, first_passes, HasRow, row_of, listed_fewer, some_listed, dormant_none, dormant_listing}
 
 -- nobody begins to wait where the row's new status is no wait

@@ -1,4 +1,4 @@
-use Rattle.std.proofs.Common.{ap, subst, refl, sym, length, ◌∙◌}
+use Rattle.std.proofs.Common.{ap, subst, length, ◌∙◌}
 use Rattle.gmp_cli.specs.declared.machine.Place.{Place}
 use Rattle.gmp_cli.specs.Driven.{IsDriven}
 use Rattle.gmp_cli.proofs.Driving.{poked_driven, claim_needs, claimed_driven}

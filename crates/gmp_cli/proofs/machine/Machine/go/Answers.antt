@@ -6,7 +6,7 @@ use Rattle.gmp_seq.specs.declared.call.Call.TheVariants.{Go}
 use Rattle.gmp_book.specs.Log.{Records}
 use Rattle.gmp_book.specs.Replies.{started}
 use Rattle.gmp_cli.specs.Driven.{machine}
-use Rattle.std.proofs.Common.{ap, subst, refl, sym, length, ◌∙◌}
+use Rattle.std.proofs.Common.{ap, subst, length, ◌∙◌}
 use Rattle.gmp_cli.specs.declared.machine.Place.{Place}
 use Rattle.gmp_cli.specs.Driven.{IsDriven}
 use Rattle.gmp_cli.proofs.Driving.{runs_at, gone_driven, faulted_driven}

@@ -6,7 +6,7 @@ use Rattle.gmp_book.specs.Replies.{taken}
 use Rattle.gmp_table.proofs.Moves.{empty_of}
 use Rattle.gmp_cli.specs.declared.machine.Place.TheVariants.{Look as look}
 use Rattle.gmp_cli.specs.Driven.{machine}
-use Rattle.std.proofs.Common.{ap, subst, refl, sym, length, ◌∙◌}
+use Rattle.std.proofs.Common.{ap, subst, sym, length, ◌∙◌}
 use Rattle.gmp_cli.specs.declared.machine.Place.{Place}
 use Rattle.gmp_cli.specs.Driven.{IsDriven}
 use Rattle.gmp_cli.proofs.Driving.{takes_some, taken_driven}

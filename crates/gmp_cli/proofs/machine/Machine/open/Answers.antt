@@ -1,9 +1,7 @@
 use Rattle.std.proofs.Common.{◌≡◌, [], rules}
 use Rattle.circular_buffer.specs.Buffer.{buffer}
 use Rattle.gmp_book.specs.Log.{opening_log}
-use Rattle.std.proofs.Common.{ap, subst, refl, sym, length, ◌∙◌}
-use Rattle.gmp_cli.specs.declared.machine.Place.{Place}
-use Rattle.gmp_cli.specs.Driven.{IsDriven}
+use Rattle.std.proofs.Common.{length}
 use Rattle.gmp_cli.proofs.Driving.{opening_driven}
 use Rattle.gmp_cli.proofs.machine.Machine.open.Goals as goal
 

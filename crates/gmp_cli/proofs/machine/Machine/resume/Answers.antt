@@ -1,5 +1,5 @@
 use Rattle.std.proofs.Common.{arith, length-set}
-use Rattle.std.proofs.Common.{ap, subst, refl, sym, length, ◌∙◌}
+use Rattle.std.proofs.Common.{ap, subst, length, ◌∙◌}
 use Rattle.gmp_cli.specs.declared.machine.Place.{Place}
 use Rattle.gmp_cli.specs.Driven.{IsDriven}
 use Rattle.gmp_cli.proofs.Driving.{has_body, yielded_driven, exited_driven}
