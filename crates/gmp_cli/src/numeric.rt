@@ -1,6 +1,6 @@
 //! Options that take a number.
 
-ghost use Rattle.std.specs.Prelude.{◌≡◌, ◌≤◌, ◌+◌, string_bytes, length, drop, option_map, Some, None, IfSome, if◌then◌else◌};
+ghost use Rattle.std.specs.Prelude.{◌≡◌, ℕ, IsSome, ◌≤◌, ◌+◌, string_bytes, length, drop, option_map, Some, None, IfSome, if◌then◌else◌};
 ghost use Rattle.gmp_cli.specs.Words.{given, has_value, number_given};
 
 use crate::digits::number;
@@ -41,6 +41,8 @@ impl Numeric {
     pub fn read(&self, words: &[String]) -> Option<u64>
         ensures in_range { IfSome result (λ n. (self.now.least ≤ n) × (n ≤ self.now.most)) }
         ensures value { IfSome result (λ n. number_given string_bytes words.now self.now.option.now self.now.default ≡ Some n) }
+        ensures succeeds { (n : ℕ) → number_given string_bytes words.now self.now.option.now self.now.default ≡ Some n
+            → self.now.least ≤ n → n ≤ self.now.most → IsSome result }
     {
         let n = match given(self.option.as_bytes(), words) {
             None => self.default,
