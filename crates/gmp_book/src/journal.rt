@@ -1,5 +1,5 @@
 //! The history, and how many of its entries are each machine's.
-ghost use Rattle.std.specs.Prelude.{◌≡◌, ◌+◌, ◌<◌, ◌^◌, [], ◌∷◌, ◌++◌, length, replicate, slice_index, slice_set, sum, IfOk};
+ghost use Rattle.std.specs.Prelude.{◌≡◌, ◌+◌, [], ◌∷◌, ◌++◌, length, replicate, slice_index, slice_set, sum, IfOk};
 ghost use Rattle.gmp_book.specs.Written.{HasRoomFor};
 
 use gmp_base::MNo;
@@ -9,7 +9,7 @@ use std::marker::Model;
 
 /// The entries so far. A contract sees them, each machine's count of them, and for how many there is room.
 ///
-/// An entry takes some 250 bytes, so in fresh memory every sixteenth costs a page fault.
+/// An entry takes at most 256 bytes, so in fresh memory every sixteenth costs a page fault.
 #[derive(Drop)]
 pub(crate) struct Journal {
     entries: Vec<Entry>,

@@ -1,7 +1,8 @@
 //! The run so far, and the calls that go on with it.
-ghost use Rattle.std.specs.Prelude.{◌≡◌, ◌+◌, ◌<◌, ◌^◌, ◌≢◌, None, Some, [], ◌∷◌, ◌++◌, length, slice_index, slice_set, IfOk, IfNone};
+ghost use Rattle.std.specs.Prelude.{◌≡◌, ◌+◌, ◌<◌, ◌^◌, ◌≢◌, None, Some, [], ◌∷◌, ◌++◌, length, slice_index, slice_set, IfOk, IfNone, IfSome, is_none, position};
 ghost use Rattle.gmp_base.specs.declared.number.GNo.{GNo};
 ghost use Rattle.gmp_seq.specs.Fits.{AreLimits};
+ghost use Rattle.gmp_seq.specs.Machines.{is_parked};
 ghost use Rattle.gmp_seq.specs.Needs.{Needs};
 ghost use Rattle.gmp_seq.specs.Run.{IsLegal};
 ghost use Rattle.gmp_seq.specs.declared.status.Place.TheVariants.{Shelf, Out};
@@ -163,7 +164,8 @@ impl Ledger {
     pub fn acquire(&mut self, m: MNo) -> Option<PNo>
         requires ongoing { self.old.state.outcome ≡ None }
         requires needs { Needs m Call.Acquire self.old.state }
-        ensures { Records self.old m Call.Acquire (acquired result) self.new }
+        ensures records { Records self.old m Call.Acquire (acquired result) self.new }
+        ensures least { IfSome result (λ p. position is_none self.old.state.machines.holders ≡ Some p.0) }
     {
         let p = self.machines.acquire(m);
         enter(
@@ -177,7 +179,7 @@ impl Ledger {
         p
     }
 
-    /// Gives out the ticket of the goroutine that is on the shelf for longest.
+    /// Gives out the ticket of the goroutine that is on the shelf for longest, as `StatusTable::unshelve` does.
     pub fn take(&mut self, m: MNo) -> Option<Readiness>
         requires ongoing { self.old.state.outcome ≡ None }
         requires needs { Needs m Call.Take self.old.state }
@@ -272,11 +274,12 @@ impl Ledger {
         exited
     }
 
-    /// Wakes a parked machine, where nobody spins and a processor is idle.
+    /// Wakes the least parked machine, where nobody spins and a processor is idle.
     pub fn poke(&mut self, m: MNo) -> Option<MNo>
         requires ongoing { self.old.state.outcome ≡ None }
         requires needs { Needs m Call.Poke self.old.state }
-        ensures { Records self.old m Call.Poke (poked result) self.new }
+        ensures records { Records self.old m Call.Poke (poked result) self.new }
+        ensures least { IfSome result (λ n. position is_parked self.old.state.machines.modes ≡ Some n.0) }
     {
         let woken = self.machines.poke(m);
         enter(

@@ -1,5 +1,5 @@
 //! Processors and machines, in plain tables: who holds each processor, what each machine does, which of them spin.
-ghost use Rattle.std.specs.Prelude.{◌≡◌, ◌<◌, ◌^◌, true, false, None, Some, length, replicate, is_none, position, IfOk, IfSome};
+ghost use Rattle.std.specs.Prelude.{◌≡◌, false, None, Some, replicate, is_none, position, IfOk, IfSome};
 ghost use Rattle.std.specs.List.{list_any};
 ghost use Rattle.gmp_seq.specs.declared.status.Mode.{Mode};
 ghost use Rattle.gmp_seq.specs.Machines.{Acquires, Pokes, IsAwake, has_processor, is_parked, wants_poke};
@@ -10,6 +10,7 @@ use gmp_seq::Mode;
 use std::alloc::{AllocError, Global};
 use std::marker::Model;
 
+/// A contract sees the three tables.
 #[derive(Drop)]
 pub(crate) struct Machines {
     holders: Vec<Option<MNo>>,

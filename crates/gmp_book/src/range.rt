@@ -1,5 +1,5 @@
 //! The limits that a run may have.
-ghost use Rattle.std.specs.Prelude.{◌↔◌, ◌≤◌, IsTrue, All, length};
+ghost use Rattle.std.specs.Prelude.{◌↔◌, ◌≤◌, IsTrue, All};
 ghost use Rattle.gmp_seq.specs.Fits.{AreLimits};
 
 use gmp_seq::Limits;

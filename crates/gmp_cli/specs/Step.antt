@@ -1,11 +1,13 @@
 -- What `step` writes.
-use Rattle.std.specs.Prelude.{◌≡◌, ℕ, List, Option, IsSome}
+use Rattle.std.specs.Prelude.{◌≡◌, ℕ, List, [], Option, IsSome, IfSome, length}
 use Rattle.std.specs.Io.KnownBytes.{Appends}
 use Rattle.gmp_cli.specs.declared.options.Settings.{Settings}
 use Rattle.gmp_seq.specs.declared.call.Limits.{Limits}
 use Rattle.gmp_seq.specs.Fits.{AreLimits}
 use Rattle.gmp_seq.specs.Run.{IsLegal}
 use Rattle.gmp_seq.specs.State.{State}
+use Rattle.gmp_cli.specs.Lines.{lines, IsScript}
+use Rattle.gmp_cli.specs.Script.{Commands}
 use Rattle.gmp_trace.specs.declared.trace.End.{End}
 use Rattle.gmp_trace.specs.declared.trace.End.TheVariants.{MainEnded, AllAsleep, BookFull, Running}
 use Rattle.gmp_trace.specs.HasText.{HasText}
@@ -32,10 +34,18 @@ pub record IsTraceOf (limits : Limits) (x : Content) : Type 0 where
   pub over : IsSome last.outcome
   pub ended : x.end ≡ end_of last.outcome
 
+-- the trace has as many goroutines as the script that was read has bodies, and no channel at its opening
+pub record IsStockOf (all : List ℕ) (x : Content) : Type 0 where
+  pub bodies : List Commands
+  pub script : IsScript (lines all) bodies
+  pub stock : x.bodies ≡ length bodies
+  pub channels : x.capacities ≡ []
+
 -- what was written is the text of such a trace, and the status tells its end
-pub record WritesTrace (limits : Limits) (status : ℕ) (old new : Option (List ℕ)) : Type 0 where
+pub record WritesTrace (limits : Limits) (input : Option (List ℕ)) (status : ℕ) (old new : Option (List ℕ)) : Type 0 where
   pub trace : Content
   pub of_run : IsTraceOf limits trace
+  pub of_script : IfSome input (λ all. IsStockOf all trace)
   pub has_text : HasText trace
   pub written : Appends old new (text trace)
   pub told : status ≡ status_of trace.end

@@ -66,7 +66,8 @@ impl ScriptBody {
 
     /// The commands, in order.
     pub fn commands(&self) -> &[Command]
-        ensures { result.now ≡ self.now.commands }
+        ensures value { result.now ≡ self.now.commands }
+        ensures begin { begins_again self.now.commands ≡ false }
     {
         &self.commands
     }

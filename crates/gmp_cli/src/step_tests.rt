@@ -1,5 +1,4 @@
 use super::*;
-use gmp_trace::End;
 use std::alloc::Global;
 use std::io;
 use std::io::{ErrorKind, Read, Write};
@@ -121,10 +120,15 @@ fn faults_come_in_order(rt: HostRuntime) -> Result<(), Fail> {
     Ok(())
 }
 
-/// A script of so many bodies without commands.
+/// A script in which main starts all others, of so many bodies, yields and exits.
 fn stock(alloc: Global, bodies: usize) -> Result<Vec<u8>, Fail> {
     let mut text = Vec::new(alloc);
-    for _ in 0..bodies {
+    text.extend_from_slice(b"body\n")?;
+    for k in 1..bodies {
+        text.extend_from_slice(format!(in alloc; "go {k}\n")?.as_bytes())?;
+    }
+    text.extend_from_slice(b"yield\nexit\n")?;
+    for _ in 1..bodies {
         text.extend_from_slice(b"body\n")?;
     }
     Ok(text)
@@ -133,12 +137,14 @@ fn stock(alloc: Global, bodies: usize) -> Result<Vec<u8>, Fail> {
 #[test]
 fn bodies_have_a_limit(rt: HostRuntime) -> Result<(), Fail> {
     let alloc = rt.alloc();
-    let settings = settings_of(&rt, alloc, "gmp step")?;
-    for (bodies, status) in [(4096, 0), (4097, 64)] {
-        let mut out = Vec::new(alloc);
+    let settings = settings_of(&rt, alloc, "gmp step --entries 20000")?;
+    // 4,095 times go and poke, then claim and exit; a tick after each 16 of the 4,096 claims before main's last; and 7 more.
+    for (bodies, status, lines) in [(4096, 0, 16_643 + 4), (4097, 64, 0)] {
+        let mut writer = Counts::with_room(u64::MAX);
         let text = stock(alloc, bodies)?;
-        let ended = step(alloc, &settings, &mut text.as_slice(), &mut out);
+        let ended = step(alloc, &settings, &mut text.as_slice(), &mut writer);
         assert_eq!(rt; ended.status, status, "{bodies}");
+        assert_eq!(rt; writer.lines, lines, "{bodies}");
     }
     Ok(())
 }
@@ -161,7 +167,7 @@ impl Read for Broken<'_> {
     }
 }
 
-/// A writer that takes so many bytes and then fails. It counts the bytes and the lines.
+/// A writer that takes so many bytes, the last of them as a part, and then fails. It counts the bytes and the lines.
 #[derive(Drop)]
 struct Counts {
     room: u64,
@@ -169,17 +175,30 @@ struct Counts {
     lines: u64,
 }
 
+impl Counts {
+    fn with_room(room: u64) -> Self {
+        Counts {
+            room,
+            bytes: 0,
+            lines: 0,
+        }
+    }
+}
+
 impl Write for Counts {
     fn write(&mut self, buf: &[u8]) -> io::Result<usize> {
-        let len = buf.len() as u64;
-        if len > self.room {
+        let taken = (buf.len() as u64).min(self.room);
+        if taken == 0 && !buf.is_empty() {
             return Err(io::Error::from(ErrorKind::StorageFull));
         }
-        self.room -= len;
-        self.bytes = self.bytes.wrapping_add(len);
-        let lines = buf.iter().filter(|byte| **byte == b'\n').count();
+        self.room -= taken;
+        self.bytes = self.bytes.wrapping_add(taken);
+        let lines = buf[..taken as usize]
+            .iter()
+            .filter(|byte| **byte == b'\n')
+            .count();
         self.lines = self.lines.wrapping_add(lines as u64);
-        Ok(buf.len())
+        Ok(taken as usize)
     }
 
     fn flush(&mut self) -> io::Result<()> {
@@ -188,7 +207,7 @@ impl Write for Counts {
 }
 
 #[test]
-fn input_and_output_may_fail(rt: HostRuntime) -> Result<(), Fail> {
+fn input_may_fail(rt: HostRuntime) -> Result<(), Fail> {
     let alloc = rt.alloc();
     let settings = settings_of(&rt, alloc, "gmp step")?;
     for text in ["", "body\n", "body\nsend 0\n"] {
@@ -201,22 +220,35 @@ fn input_and_output_may_fail(rt: HostRuntime) -> Result<(), Fail> {
         assert!(rt; matches!(ended.said, Said::InputUnreadable), "{text}");
         assert!(rt; out.is_empty(), "{text}");
     }
+    // Too long comes before the bad line in it.
+    let mut out = Vec::new(alloc);
+    let text = vec![in alloc; b'x'; MAX_INPUT + 1]?;
+    let ended = step(alloc, &settings, &mut text.as_slice(), &mut out);
+    assert!(rt; matches!(ended.said, Said::InputTooLong));
+    Ok(())
+}
+
+#[test]
+fn output_may_fail(rt: HostRuntime) -> Result<(), Fail> {
+    let alloc = rt.alloc();
+    let script = "body\nyield\nagain".as_bytes();
+    let settings = settings_of(&rt, alloc, "gmp step")?;
     // The trace of 10,000 entries goes out in parts.
-    for room in [0, 100_000] {
-        let mut writer = Counts {
-            room,
-            bytes: 0,
-            lines: 0,
-        };
-        let ended = step(
-            alloc,
-            &settings,
-            &mut "body\nyield\nagain".as_bytes(),
-            &mut writer,
-        );
+    let mut whole = Counts::with_room(u64::MAX);
+    let ended = step(alloc, &settings, &mut &script[..], &mut whole);
+    assert_eq!(rt; ended.status, 3);
+    assert_eq!(rt; whole.lines, 10_004);
+    for room in [0, 1, 65_536, 100_000, whole.bytes.saturating_sub(1)] {
+        let mut writer = Counts::with_room(room);
+        let ended = step(alloc, &settings, &mut &script[..], &mut writer);
         assert_eq!(rt; ended.status, 1, "{room}");
         assert!(rt; matches!(ended.said, Said::OutputFailed), "{room}");
     }
+    // Bad limits come before a failing output.
+    let settings = settings_of(&rt, alloc, "gmp step --procs 2")?;
+    let mut writer = Counts::with_room(0);
+    let ended = step(alloc, &settings, &mut &script[..], &mut writer);
+    assert!(rt; matches!(ended.said, Said::BadLimits));
     Ok(())
 }
 
@@ -224,27 +256,10 @@ fn input_and_output_may_fail(rt: HostRuntime) -> Result<(), Fail> {
 fn a_million_entries(rt: HostRuntime) -> Result<(), Fail> {
     let alloc = rt.alloc();
     let settings = settings_of(&rt, alloc, "gmp step --entries 1000000")?;
-    let mut writer = Counts {
-        room: u64::MAX,
-        bytes: 0,
-        lines: 0,
-    };
-    let ended = step(
-        alloc,
-        &settings,
-        &mut "body\nyield\nagain".as_bytes(),
-        &mut writer,
-    );
+    let mut writer = Counts::with_room(u64::MAX);
+    let script = "body\nyield\nagain".as_bytes();
+    let ended = step(alloc, &settings, &mut &script[..], &mut writer);
     assert_eq!(rt; ended.status, 3);
     assert_eq!(rt; writer.lines, 1_000_004);
     Ok(())
-}
-
-#[test]
-fn ends_have_a_status(rt: HostRuntime) {
-    for (end, status) in [(End::MainEnded, 0), (End::AllAsleep, 2), (End::BookFull, 3)] {
-        if end != End::Running {
-            assert_eq!(rt; Ended::traced(end).status, status);
-        }
-    }
 }

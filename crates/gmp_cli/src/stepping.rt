@@ -1,9 +1,9 @@
 //! One run of a script.
 
-ghost use Rattle.std.specs.Prelude.{◌≡◌, ◌≢◌, ◌||◌, ℕ, true, length, IfOk, IfErr, IfSome, Some};
+ghost use Rattle.std.specs.Prelude.{◌≡◌, ◌≢◌, ◌<◌, ◌⊎◌, ℕ, [], length, IfOk, IfErr, IfSome};
+ghost use Rattle.gmp_cli.specs.declared.said.Said.TheVariants.{BadLine, InputTooLong};
 ghost use Rattle.gmp_cli.specs.Lines.{lines, IsFirstBad};
-ghost use Rattle.gmp_cli.specs.Said.{is_of_input, is_of_script};
-ghost use Rattle.gmp_cli.specs.Step.{limits_of, status_of, IsTraceOf, WritesTrace};
+ghost use Rattle.gmp_cli.specs.Step.{limits_of, IsTraceOf, IsStockOf, WritesTrace};
 ghost use Rattle.gmp_trace.specs.Text.{content};
 
 use crate::commands::ScriptBody;
@@ -11,6 +11,7 @@ use crate::ended::Ended;
 use crate::machine::Machine;
 use crate::options::Settings;
 use crate::parsing::script;
+use crate::reading::MAX_INPUT;
 use crate::said::Said;
 use gmp_book::in_range;
 use gmp_seq::Limits;
@@ -32,8 +33,10 @@ fn limits_of(settings: &Settings) -> Limits
 /// Runs the bodies on one machine with one processor.
 fn run(alloc: Global, limits: Limits, bodies: Vec<ScriptBody>) -> Result<Trace, Ended>
     ensures ok { IfOk result (λ x. IsTraceOf limits (content x)) }
+    ensures stock { IfOk result (λ x. x.bodies ≡ length bodies.items) }
+    ensures channels { IfOk result (λ x. x.capacities.items ≡ []) }
     ensures over { IfOk result (λ x. x.end ≢ End.Running) }
-    ensures err { IfErr result (λ e. e.said ≢ Said.Nothing) }
+    ensures err { IfErr result (λ e. (e.said ≡ Said.BadLimits) ⊎ (e.said ≡ Said.OutOfMemory)) }
 {
     if limits.procs != 1 || limits.machines != 1 || !in_range(limits, bodies.len(), &[]) {
         return Err(Ended::bad_limits());
@@ -53,11 +56,19 @@ fn run(alloc: Global, limits: Limits, bodies: Vec<ScriptBody>) -> Result<Trace, 
 /// The trace of the script that is read.
 fn traced<R: Read>(alloc: Global, settings: &Settings, reader: &mut R) -> Result<Trace, Ended>
     ensures ok { IfOk result (λ x. IsTraceOf (limits_of settings.now) (content x)) }
+    ensures script { IfOk result (λ x. IfSome (R.remaining reader.old) (λ all. IsStockOf all (content x))) }
     ensures over { IfOk result (λ x. x.end ≢ End.Running) }
+
     ensures err { IfErr result (λ e. e.said ≢ Said.Nothing) }
+    ensures first { IfErr result (λ e. (line : ℕ) → e.said ≡ BadLine line
+        → IfSome (R.remaining reader.old) (λ all. IsFirstBad (lines all) line)) }
+    ensures too_long { IfErr result (λ e. e.said ≡ InputTooLong
+        → IfSome (R.remaining reader.old) (λ all. MAX_INPUT < length all)) }
 {
-    let script = script(alloc, reader)?;
-    run(alloc, limits_of(settings), script.bodies)
+    match script(alloc, reader) {
+        Ok(script) => run(alloc, limits_of(settings), script.bodies),
+        Err(ended) => Err(ended),
+    }
 }
 
 /// Reads a script, runs it on one machine with one processor, and writes the trace.
@@ -70,7 +81,12 @@ pub fn step<R: Read, W: Write>(
     writer: &mut W,
 ) -> Ended
     ensures traced { result.said ≡ Said.Nothing
-        → WritesTrace (limits_of settings.now) result.status (W.contents writer.old) (W.contents writer.new) }
+        → WritesTrace (limits_of settings.now) (R.remaining reader.old) result.status (W.contents writer.old) (W.contents writer.new) }
+
+    ensures first { (line : ℕ) → result.said ≡ BadLine line
+        → IfSome (R.remaining reader.old) (λ all. IsFirstBad (lines all) line) }
+    ensures too_long { result.said ≡ InputTooLong
+        → IfSome (R.remaining reader.old) (λ all. MAX_INPUT < length all) }
 {
     let trace = match traced(alloc, settings, reader) {
         Ok(trace) => trace,

@@ -1,5 +1,5 @@
 //! The rows of the table.
-ghost use Rattle.std.specs.Prelude.{◌≡◌, ℕ, ◌+◌, ◌<◌, ◌^◌, List, replicate, length, slice_get, slice_set, option_copied, IfOk};
+ghost use Rattle.std.specs.Prelude.{◌≡◌, ◌+◌, ◌<◌, ◌^◌, replicate, length, slice_get, option_copied, IfOk};
 ghost use Rattle.gmp_seq.specs.State.{dormant};
 ghost use Rattle.gmp_table.specs.Contents.{epoch_in, answer_in, turned, risen};
 

@@ -1,9 +1,10 @@
 //! The status table.
-ghost use Rattle.std.specs.Prelude.{◌≡◌, ℕ, ◌+◌, ◌<◌, ◌^◌, true, false, None, Some, [], ◌∷◌, ◌++◌, slice_get, option_copied, max, List, length, IsTrue, ◌↔◌, IfOk, IfSome, IfNone};
+ghost use Rattle.std.specs.Prelude.{◌≡◌, ◌<◌, ◌^◌, true, Some, [], ◌∷◌, ◌++◌, slice_get, option_copied, length, IsTrue, ◌↔◌, IfOk, IfSome, IfNone};
 ghost use Rattle.gmp_base.specs.declared.ask.Woke.{Woke};
 ghost use Rattle.gmp_seq.specs.declared.call.Reply.{Reply};
 ghost use Rattle.gmp_seq.specs.Step.{Takes, Puts, Claims, Starts, Ticks};
-ghost use Rattle.gmp_seq.specs.Table.{Table, IsReady, IsOffShelf, status_at, epoch_at, next_of, some_status, is_shelved, is_outstanding, is_running_on, set_status, made_ready};
+ghost use Rattle.gmp_seq.specs.Table.{IsReady, IsOffShelf, status_at, epoch_at, next_of, some_status, is_shelved, is_outstanding, set_status, made_ready};
+ghost use Rattle.gmp_table.specs.Kept.{IsListing};
 ghost use Rattle.gmp_table.specs.Contents.{Contents, opening_contents};
 
 use crate::rows::Rows;
@@ -67,7 +68,9 @@ impl StatusTable {
 
     /// Whether somebody is on the shelf.
     pub fn has_shelved(&self) -> bool
-        ensures { result ≡ some_status is_shelved self.now.table }
+        ensures some { result ≡ some_status is_shelved self.now.table }
+        // The shelf has each goroutine on it once, and no other.
+        ensures listing { IsListing is_shelved self.now.table.goroutines self.now.shelf }
     {
         !self.shelf.is_empty()
     }

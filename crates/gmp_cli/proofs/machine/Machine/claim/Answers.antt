@@ -9,7 +9,7 @@ invariant_of-self c =
     let i = c.self.inside in
     let n = length i.bodies.items in
     let kept = subst (λ (p : Place). IsDriven i.book i.queue.items i.queue.capacity p n) (ap (λ v. v.place) c.self.view_is ∙ c.requires.place) c.self.invariant in
-    rw (ap (λ v. v.place) c.self.view_is ∙ c.requires.place) (poked_driven i.book c.poke.new.self c.poke.result c.args.r i.queue.items i.queue.capacity n c.poke.ensures kept)
+    rw (ap (λ v. v.place) c.self.view_is ∙ c.requires.place) (poked_driven i.book c.poke.new.self c.poke.result c.args.r i.queue.items i.queue.capacity n c.poke.ensures.records kept)
 
 pub claim-woke-requires-clause-needs : goal.claim-woke-requires-clause-needs
 claim-woke-requires-clause-needs c =

@@ -9,4 +9,4 @@ invariant_of-self c =
     let i = c.self.inside in
     let n = length i.bodies.items in
     let kept = subst (λ (p : Place). IsDriven i.book i.queue.items i.queue.capacity p n) (ap (λ v. v.place) c.self.view_is ∙ c.requires.place) c.self.invariant in
-    started_driven i.book c.acquire.new.self c.acquire.result i.queue.items i.queue.capacity n c.acquire.ensures kept
+    started_driven i.book c.acquire.new.self c.acquire.result i.queue.items i.queue.capacity n c.acquire.ensures.records kept
