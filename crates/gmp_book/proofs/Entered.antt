@@ -34,6 +34,14 @@ awake_counted log space m kept awake =
     let within = slice_get_within log.state.machines.modes m.0 Awake awake in
     omega (arith, within, sizes.modes, sizes.counts)
 
+-- a machine that is awake is there
+pub awake_machine : (old now : Log) (space : ℕ) (m : MNo) → old ≡ now → IsKept old space → IsAwake now.state.machines m → m.0 < old.limits.machines
+awake_machine old now space m is kept awake =
+    let wakes : IsAwake old.state.machines m = subst (λ (l : Log). IsAwake l.state.machines m) (sym is) awake in
+    let sizes = legal_sizes old.limits old.bodies old.capacities old.history old.state kept.within kept.legal in
+    let within = slice_get_within old.state.machines.modes m.0 Awake wakes in
+    omega (arith, within, sizes.modes)
+
 -- a machine that runs a goroutine is awake
 pub runner_awake : (log : Log) (space : ℕ) (m : MNo) (g : GNo) → IsKept log space → IsRunning log.state.table g m → IsAwake log.state.machines m
 runner_awake log space m g kept runs = ((in_order log space kept).runner g m runs).0

@@ -1,4 +1,5 @@
 pub mod Places
+pub mod Running
 pub mod Entered
 pub mod Holding
 pub mod Answered

@@ -6,6 +6,7 @@ use Rattle.gmp_book.specs.Log.{Log}
 
 abbrev pub log_of : Inside → Log
 log_of l = record {
+  run = l.run;
   limits = l.limits;
   bodies = l.bodies;
   capacities = l.capacities.items;

@@ -1,5 +1,6 @@
 pub mod Written
 pub mod Replies
 pub mod Log
+pub mod Refusals
 pub mod Kept
 pub mod LedgerView

@@ -45,6 +45,13 @@ impl Journal {
         self.entries.len()
     }
 
+    /// How many entries are m's.
+    pub(crate) fn calls(&self, m: MNo) -> u64
+        ensures { result ≡ slice_index self.now.counts m.0 }
+    {
+        self.counts.get(m.0 as usize).copied().unwrap_or(0)
+    }
+
     pub(crate) fn entries(&self) -> &[Entry]
         ensures { result.now ≡ self.now.entries }
     {

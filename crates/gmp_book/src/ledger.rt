@@ -9,13 +9,16 @@ ghost use Rattle.gmp_seq.specs.declared.status.Place.TheVariants.{Shelf, Out};
 ghost use Rattle.gmp_seq.specs.Step.{Starts, outcome_after};
 ghost use Rattle.gmp_seq.specs.Table.{IsReady, IsRunning, epoch_at, is_outstanding, set_status, made_ready};
 ghost use Rattle.gmp_book.specs.Written.{HasRoomFor};
-ghost use Rattle.gmp_book.specs.Log.{Records, opening_log};
+ghost use Rattle.gmp_book.specs.Log.{Enters, opening_log};
 ghost use Rattle.gmp_book.specs.Replies.{acquired, taken, started, left, poked};
+
+mod refusing;
 
 use crate::journal::Journal;
 use crate::machines::Machines;
 use crate::replies;
 use crate::report::Report;
+use crate::runners::Runners;
 use gmp_base::{Fault, GNo, MNo, PNo, Readiness, Woke};
 use gmp_seq::{Call, Entry, Limits, Outcome, Reply, Status};
 use gmp_table::StatusTable;
@@ -48,11 +51,13 @@ impl Exited {
 /// The history is a legal run from the opening to the present state, whatever is called. Only the opening takes memory.
 #[derive(Drop)]
 pub struct Ledger {
+    run: u64,
     limits: Limits,
     bodies: u16,
     capacities: Vec<u32>,
     table: StatusTable,
     machines: Machines,
+    runners: Runners,
     journal: Journal,
     outcome: Option<Outcome>,
 }
@@ -60,7 +65,7 @@ pub struct Ledger {
 impl Model for Ledger {
     ghost use Rattle.gmp_book.specs.Written.{HasRoomFor};
     ghost use Rattle.gmp_book.specs.Log.{Log};
-    ghost use Rattle.gmp_book.specs.Kept.{IsKept};
+    ghost use Rattle.gmp_book.specs.Kept.{IsKept, AreRunners};
 
     ghost Value = { Log };
 
@@ -68,7 +73,7 @@ impl Model for Ledger {
 
     ghost view = { log_of };
 
-    ghost invariant = { λ l. IsKept (log_of l) l.journal.room };
+    ghost invariant = { λ l. IsKept (log_of l) l.journal.room × AreRunners l.table.table l.limits.machines l.runners };
 }
 
 /// Makes the entry of a call that was answered so, and ends the run where the reply or the last entry does.
@@ -114,22 +119,26 @@ impl Ledger {
     /// A run that has made no call yet.
     pub fn open(
         alloc: Global,
+        run: u64,
         limits: Limits,
         bodies: u16,
         capacities: Vec<u32>,
     ) -> Result<Self, AllocError>
         requires { AreLimits limits bodies capacities.items }
-        ensures { IfOk result (λ l. l ≡ opening_log limits bodies capacities.items) }
+        ensures { IfOk result (λ l. l ≡ opening_log run limits bodies capacities.items) }
     {
         let table = StatusTable::open(alloc, bodies)?;
         let machines = Machines::awake(alloc, limits.procs, limits.machines)?;
+        let runners = Runners::none(alloc, limits.machines)?;
         let journal = Journal::with_room(alloc, limits.machines, limits.entries)?;
         Ok(Ledger {
+            run,
             limits,
             bodies,
             capacities,
             table,
             machines,
+            runners,
             journal,
             outcome: None,
         })
@@ -164,7 +173,7 @@ impl Ledger {
     pub fn acquire(&mut self, m: MNo) -> Option<PNo>
         requires ongoing { self.old.state.outcome ≡ None }
         requires needs { Needs m Call.Acquire self.old.state }
-        ensures records { Records self.old m Call.Acquire (acquired result) self.new }
+        ensures records { Enters self.old m Call.Acquire (acquired result) self.new }
         ensures least { IfSome result (λ p. position is_none self.old.state.machines.holders ≡ Some p.0) }
     {
         let p = self.machines.acquire(m);
@@ -183,7 +192,7 @@ impl Ledger {
     pub fn take(&mut self, m: MNo) -> Option<Readiness>
         requires ongoing { self.old.state.outcome ≡ None }
         requires needs { Needs m Call.Take self.old.state }
-        ensures { Records self.old m Call.Take (taken result) self.new }
+        ensures { Enters self.old m Call.Take (taken result) self.new }
     {
         let r = self.table.unshelve();
         enter(
@@ -197,14 +206,32 @@ impl Ledger {
         r
     }
 
+    /// Puts a ticket that is out onto the shelf, last.
+    pub fn put(&mut self, m: MNo, r: Readiness)
+        requires ongoing { self.old.state.outcome ≡ None }
+        requires needs { Needs m (Call.Put r) self.old.state }
+        ensures { Enters self.old m (Call.Put r) Reply.Shelf self.new }
+    {
+        self.table.shelve(r);
+        enter(
+            &mut self.journal,
+            &mut self.outcome,
+            self.limits,
+            m,
+            Call::Put(r),
+            Reply::Shelf,
+        );
+    }
+
     /// Spends a ticket: m runs its goroutine, which is to be told the answer.
     pub fn claim(&mut self, m: MNo, r: Readiness) -> Woke
         requires ongoing { self.old.state.outcome ≡ None }
         requires needs { Needs m (Call.Claim r) self.old.state }
-        ensures records { Records self.old m (Call.Claim r) Reply.Held self.new }
+        ensures records { Enters self.old m (Call.Claim r) Reply.Held self.new }
         ensures woke { IsReady self.old.state.table r Out result }
     {
         let woke = self.table.claim(m, r);
+        self.runners.set(m, Some(r.g));
         enter(
             &mut self.journal,
             &mut self.outcome,
@@ -220,7 +247,7 @@ impl Ledger {
     pub fn go(&mut self, m: MNo, body: GNo) -> Result<Readiness, Fault>
         requires ongoing { self.old.state.outcome ≡ None }
         requires needs { Needs m (Call.Go body) self.old.state }
-        ensures { Records self.old m (Call.Go body) (started result) self.new }
+        ensures { Enters self.old m (Call.Go body) (started result) self.new }
     {
         let started = start(&mut self.table, body);
         enter(
@@ -238,10 +265,11 @@ impl Ledger {
     pub fn yield_to(&mut self, m: MNo, g: GNo) -> Readiness
         requires ongoing { self.old.state.outcome ≡ None }
         requires runs { IsRunning self.old.state.table g m }
-        ensures records { Records self.old m Call.Yield (Reply.Shelved result) self.new }
+        ensures records { Enters self.old m Call.Yield (Reply.Shelved result) self.new }
         ensures table { self.new.state.table ≡ made_ready self.old.state.table g Shelf Woke.Done }
     {
         let r = self.table.requeue(g, Woke::Done);
+        self.runners.set(m, None);
         enter(
             &mut self.journal,
             &mut self.outcome,
@@ -257,11 +285,12 @@ impl Ledger {
     pub fn exit(&mut self, m: MNo, g: GNo) -> Exited
         requires ongoing { self.old.state.outcome ≡ None }
         requires runs { IsRunning self.old.state.table g m }
-        ensures records { Records self.old m Call.Exit (left result) self.new }
+        ensures records { Enters self.old m Call.Exit (left result) self.new }
         ensures ends { g.0 ≡ 0 → self.new.state.outcome ≡ Some Outcome.MainEnded }
         ensures table { self.new.state.table ≡ set_status self.old.state.table g Status.Dead }
     {
         self.table.dead(g);
+        self.runners.set(m, None);
         let exited = Exited::of(g);
         enter(
             &mut self.journal,
@@ -278,7 +307,7 @@ impl Ledger {
     pub fn poke(&mut self, m: MNo) -> Option<MNo>
         requires ongoing { self.old.state.outcome ≡ None }
         requires needs { Needs m Call.Poke self.old.state }
-        ensures records { Records self.old m Call.Poke (poked result) self.new }
+        ensures records { Enters self.old m Call.Poke (poked result) self.new }
         ensures least { IfSome result (λ n. position is_parked self.old.state.machines.modes ≡ Some n.0) }
     {
         let woken = self.machines.poke(m);
@@ -298,7 +327,7 @@ impl Ledger {
     pub fn tick(&mut self, m: MNo, moment: u64) -> u64
         requires ongoing { self.old.state.outcome ≡ None }
         requires needs { Needs m (Call.Tick moment) self.old.state }
-        ensures records { Records self.old m (Call.Tick moment) (Reply.Woke result) self.new }
+        ensures records { Enters self.old m (Call.Tick moment) (Reply.Woke result) self.new }
         ensures same { self.new.state.table.goroutines ≡ self.old.state.table.goroutines }
         ensures none { result ≡ 0 }
     {
@@ -325,11 +354,13 @@ impl Ledger {
         ensures within { AreLimits self.limits self.bodies self.capacities }
     {
         let Ledger {
+            run: _,
             limits,
             bodies,
             capacities,
             table: _,
             machines: _,
+            runners: _,
             journal,
             outcome,
         } = self;

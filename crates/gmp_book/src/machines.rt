@@ -1,8 +1,10 @@
 //! Processors and machines, in plain tables: who holds each processor, what each machine does, which of them spin.
-ghost use Rattle.std.specs.Prelude.{◌≡◌, false, None, Some, replicate, is_none, position, IfOk, IfSome};
+ghost use Rattle.std.specs.Prelude.{◌≡◌, false, None, Some, replicate, is_none, position, slice_get, IfOk, IfSome};
+ghost use Rattle.std.specs.Option.{option_map_or};
 ghost use Rattle.std.specs.List.{list_any};
 ghost use Rattle.gmp_seq.specs.declared.status.Mode.{Mode};
-ghost use Rattle.gmp_seq.specs.Machines.{Acquires, Pokes, IsAwake, has_processor, is_parked, wants_poke};
+ghost use Rattle.gmp_seq.specs.Machines.{Acquires, Pokes, IsAwake, has_processor, is_held_by, is_parked, spins, wants_poke};
+ghost use Rattle.gmp_book.specs.Refusals.{is_awake_mode, is_calling_mode};
 ghost use Rattle.gmp_book.specs.Replies.{acquired, poked};
 
 use gmp_base::{MNo, PNo};
@@ -55,6 +57,22 @@ fn has_parked(modes: &[Mode]) -> bool
     modes.iter().any(|mode| matches!(mode, Mode::Parked))
 }
 
+fn is_held_by(m: MNo, holder: Option<MNo>) -> bool
+    ensures { result ≡ is_held_by m holder }
+{
+    match holder {
+        Some(n) => m.0 == n.0,
+        None => false,
+    }
+}
+
+/// Whether m is one of the holders.
+fn holds_any(holders: &[Option<MNo>], m: MNo) -> bool
+    ensures { result ≡ list_any (is_held_by m) holders.now }
+{
+    holders.iter().any(|holder| is_held_by(m, *holder))
+}
+
 impl Machines {
     /// No processor is held, all machines are awake, and nobody spins.
     pub(crate) fn awake(alloc: Global, procs: u8, machines: u8) -> Result<Self, AllocError>
@@ -65,6 +83,43 @@ impl Machines {
             modes: vec![in alloc; Mode::Awake; machines as usize]?,
             spinning: vec![in alloc; false; machines as usize]?,
         })
+    }
+
+    /// Whether m is neither parked nor in a blocking call.
+    pub(crate) fn is_awake(&self, m: MNo) -> bool
+        ensures { result ≡ option_map_or is_awake_mode (slice_get self.now.modes m.0) false }
+    {
+        matches!(self.modes.get(m.0 as usize), Some(Mode::Awake))
+    }
+
+    /// Whether m is in a blocking call.
+    pub(crate) fn calls_some(&self, m: MNo) -> bool
+        ensures { result ≡ option_map_or is_calling_mode (slice_get self.now.modes m.0) false }
+    {
+        matches!(self.modes.get(m.0 as usize), Some(Mode::Calling))
+    }
+
+    pub(crate) fn spins(&self, m: MNo) -> bool
+        ensures { result ≡ spins self.now m }
+    {
+        self.spinning.get(m.0 as usize).copied().unwrap_or(false)
+    }
+
+    /// Whether m holds p.
+    pub(crate) fn holds(&self, m: MNo, p: PNo) -> bool
+        ensures { result ≡ option_map_or (is_held_by m) (slice_get self.now.holders p.0) false }
+    {
+        match self.holders.get(p.0 as usize) {
+            Some(Some(n)) => m.0 == n.0,
+            _ => false,
+        }
+    }
+
+    /// Whether m holds a processor: there are 32 at most to look at.
+    pub(crate) fn has_processor(&self, m: MNo) -> bool
+        ensures { result ≡ has_processor self.now m }
+    {
+        holds_any(&self.holders, m)
     }
 
     /// Lets m, which holds none, hold the least idle processor.

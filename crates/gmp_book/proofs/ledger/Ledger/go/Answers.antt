@@ -1,3 +1,4 @@
+use Rattle.gmp_book.proofs.Running.{starts_runners}
 use Rattle.std.proofs.Common.{refl, subst, sym}
 use Rattle.gmp_book.specs.Log.{Log}
 use Rattle.gmp_seq.specs.Needs.{Needs}
@@ -9,17 +10,20 @@ use Rattle.gmp_book.proofs.ledger.Ledger.go.Goals as goal
 pub start-started-requires : goal.start-started-requires
 start-started-requires c =
     let i = c.self.inside in
-    young (log_of i) c.args.self.now i.journal.room c.args.body c.self.view_is c.self.invariant
+    young (log_of i) c.args.self.now i.journal.room c.args.body c.self.view_is c.self.invariant.0
 
 pub enter-requires : goal.enter-requires
 enter-requires c =
     let i = c.self.inside in
-    has_room (log_of i) c.args.self.now i.journal c.args.m c.self.view_is c.self.invariant refl refl c.requires.ongoing (runner_wakes (log_of i) c.args.self.now i.journal.room c.args.m c.requires.needs.0 c.self.view_is c.self.invariant c.requires.needs.1)
+    has_room (log_of i) c.args.self.now i.journal c.args.m c.self.view_is c.self.invariant.0 refl refl c.requires.ongoing (runner_wakes (log_of i) c.args.self.now i.journal.room c.args.m c.requires.needs.0 c.self.view_is c.self.invariant.0 c.requires.needs.1)
 
 pub invariant_of-self : goal.invariant_of-self
 invariant_of-self c =
     let i = c.self.inside in
     let needs = subst (λ (l : Log). Needs c.args.m (call.Go c.args.body) l.state) (sym c.self.view_is) c.requires.needs in
+    (
     kept_on (log_of i) c.args.self.now i.journal.room c.enter.new.journal.room c.args.m (call.Go c.args.body) c.started.result c.enter.new.journal.entries
-    (record (log_of i).state { table = c.start-started.new.table.table; counts = c.enter.new.journal.counts; outcome = c.enter.new.outcome }) c.self.view_is c.self.invariant c.requires.ongoing (runner_wakes (log_of i) c.args.self.now i.journal.room c.args.m c.requires.needs.0 c.self.view_is c.self.invariant c.requires.needs.1)
-    (needs.0, needs.1, (rw c.started.ensures c.start-started.ensures, refl, refl)) c.enter.ensures.entries c.enter.ensures.counts c.enter.ensures.outcome c.enter.ensures.room
+    (record (log_of i).state { table = c.start-started.new.table.table; counts = c.enter.new.journal.counts; outcome = c.enter.new.outcome }) c.self.view_is c.self.invariant.0 c.requires.ongoing (runner_wakes (log_of i) c.args.self.now i.journal.room c.args.m c.requires.needs.0 c.self.view_is c.self.invariant.0 c.requires.needs.1)
+    (needs.0, needs.1, (rw c.started.ensures c.start-started.ensures, refl, refl)) c.enter.ensures.entries c.enter.ensures.counts c.enter.ensures.outcome c.enter.ensures.room,
+      starts_runners i.table.table i.limits.machines i.runners c.self.invariant.1 c.args.body c.started.result c.start-started.new.table.table (rw c.started.ensures c.start-started.ensures),
+    )

@@ -1,0 +1,50 @@
+//! A machine's pass.
+ghost use Rattle.std.specs.Prelude.{◌≡◌, ◌+◌, ◌<◌, ◌^◌};
+
+use crate::number::MNo;
+
+/// The right of a machine to make calls, one after another. It can't be copied, and it can't be let go.
+pub struct Pass {
+    /// The run that it is of.
+    pub run: u64,
+    pub m: MNo,
+    /// How many calls of the machine were accepted.
+    pub calls: u64,
+    /// How many entries the history had after the last of them.
+    pub seen: u64,
+}
+
+impl Pass {
+    pub fn of(run: u64, m: MNo, calls: u64, seen: u64) -> Self
+        ensures { result ≡ record { run = run; m = m; calls = calls; seen = seen } }
+    {
+        Pass {
+            run,
+            m,
+            calls,
+            seen,
+        }
+    }
+
+    /// Its run, its machine, the calls and what it has seen.
+    pub fn open(self) -> (u64, MNo, u64, u64)
+        ensures { result ≡ record { 0 = self.run; 1 = self.m; 2 = self.calls; 3 = self.seen } }
+    {
+        let Pass {
+            run,
+            m,
+            calls,
+            seen,
+        } = self;
+        (run, m, calls, seen)
+    }
+
+    /// One more call was accepted, and the history has so many entries now.
+    pub fn advance(&mut self, length: u64)
+        requires { self.old.calls < 2 ^ 63 }
+        ensures { self.new ≡ record self.old { calls = self.old.calls + 1; seen = length } }
+    {
+        self.calls += 1;
+        self.seen = length;
+    }
+}

@@ -1,0 +1,116 @@
+//! Values that must be spent: each has to be handed to a call, or opened. None can be copied, and none can be let go.
+//!
+//! The book gives them out and takes them back. `of` and `open` are for the crates that keep their parts.
+ghost use Rattle.std.specs.Prelude.{◌≡◌};
+
+use crate::ask::Woke;
+use crate::number::{GNo, PNo, Readiness};
+
+/// The right to claim a ready goroutine, once.
+pub struct Ticket {
+    /// The run that it is of.
+    pub run: u64,
+    pub g: GNo,
+    pub epoch: u64,
+}
+
+impl Ticket {
+    ghost use Rattle.gmp_base.specs.Values.{readiness_of};
+
+    pub fn of(run: u64, g: GNo, epoch: u64) -> Self
+        ensures { result ≡ record { run = run; g = g; epoch = epoch } }
+    {
+        Ticket { run, g, epoch }
+    }
+
+    /// Its run, its goroutine and its epoch.
+    pub fn open(self) -> (u64, GNo, u64)
+        ensures { result ≡ record { 0 = self.run; 1 = self.g; 2 = self.epoch } }
+    {
+        let Ticket { run, g, epoch } = self;
+        (run, g, epoch)
+    }
+
+    /// The readiness that it stands for.
+    pub fn readiness(&self) -> Readiness
+        ensures { result ≡ readiness_of self.now }
+    {
+        Readiness {
+            g: self.g,
+            epoch: self.epoch,
+        }
+    }
+}
+
+/// A goroutine that a machine runs, with its body and what the body is to be told.
+pub struct Held<T> {
+    /// The run that it is of.
+    pub run: u64,
+    pub g: GNo,
+    pub woke: Woke,
+    pub body: T,
+}
+
+impl<T> Held<T> {
+    pub fn of(run: u64, g: GNo, woke: Woke, body: T) -> Self
+        ensures { result ≡ record { run = run; g = g; woke = woke; body = body } }
+    {
+        Held { run, g, woke, body }
+    }
+
+    /// Its run, its goroutine, what is to be told, and the body.
+    pub fn open(self) -> (u64, GNo, Woke, T)
+        ensures { result ≡ record { 0 = self.run; 1 = self.g; 2 = self.woke; 3 = self.body } }
+    {
+        let Held { run, g, woke, body } = self;
+        (run, g, woke, body)
+    }
+}
+
+/// A goroutine whose blocking call a machine makes, with its body.
+pub struct Called<T> {
+    /// The run that it is of.
+    pub run: u64,
+    pub g: GNo,
+    pub body: T,
+}
+
+impl<T> Called<T> {
+    pub fn of(run: u64, g: GNo, body: T) -> Self
+        ensures { result ≡ record { run = run; g = g; body = body } }
+    {
+        Called { run, g, body }
+    }
+
+    /// Its run, its goroutine, and the body.
+    pub fn open(self) -> (u64, GNo, T)
+        ensures { result ≡ record { 0 = self.run; 1 = self.g; 2 = self.body } }
+    {
+        let Called { run, g, body } = self;
+        (run, g, body)
+    }
+}
+
+/// A processor that a machine holds, with its owner: what goes along with the processor, as the own end of its queue.
+pub struct Proc<Q> {
+    /// The run that it is of.
+    pub run: u64,
+    pub p: PNo,
+    pub owner: Q,
+}
+
+impl<Q> Proc<Q> {
+    pub fn of(run: u64, p: PNo, owner: Q) -> Self
+        ensures { result ≡ record { run = run; p = p; owner = owner } }
+    {
+        Proc { run, p, owner }
+    }
+
+    /// Its run, its processor, and the owner.
+    pub fn open(self) -> (u64, PNo, Q)
+        ensures { result ≡ record { 0 = self.run; 1 = self.p; 2 = self.owner } }
+    {
+        let Proc { run, p, owner } = self;
+        (run, p, owner)
+    }
+}
