@@ -41,7 +41,7 @@ impl Pass {
 
     /// One more call was accepted, and the history has so many entries now.
     pub fn advance(&mut self, length: u64)
-        requires { self.old.calls < 2 ^ 63 }
+        requires { self.old.calls + 1 < 2 ^ 64 }
         ensures { self.new ≡ record self.old { calls = self.old.calls + 1; seen = length } }
     {
         self.calls += 1;

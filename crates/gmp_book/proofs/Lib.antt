@@ -3,3 +3,4 @@ pub mod Running
 pub mod Entered
 pub mod Holding
 pub mod Answered
+pub mod Allowed

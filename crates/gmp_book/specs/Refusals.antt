@@ -148,6 +148,7 @@ refusal_of log pass asked values = first_refusal (turn_lines log pass values ++ 
 pub record IsCurrent (log : Log) (pass : Pass) : Type 0 where
   pub machine : pass.m.0 < log.limits.machines
   pub turn : pass.calls ≡ calls_of log pass.m
+  pub few : pass.calls ≤ length log.history
   pub seen : pass.seen ≤ length log.history
   pub lasts : log.state.outcome ≡ None
 

@@ -1,5 +1,5 @@
 //! The history, and how many of its entries are each machine's.
-ghost use Rattle.std.specs.Prelude.{◌≡◌, ◌+◌, [], ◌∷◌, ◌++◌, length, replicate, slice_index, slice_set, sum, IfOk};
+ghost use Rattle.std.specs.Prelude.{◌≡◌, ◌+◌, ◌≤◌, [], ◌∷◌, ◌++◌, length, replicate, slice_index, slice_set, sum, IfOk};
 ghost use Rattle.gmp_book.specs.Written.{HasRoomFor};
 
 use gmp_base::MNo;
@@ -47,7 +47,8 @@ impl Journal {
 
     /// How many entries are m's.
     pub(crate) fn calls(&self, m: MNo) -> u64
-        ensures { result ≡ slice_index self.now.counts m.0 }
+        ensures count { result ≡ slice_index self.now.counts m.0 }
+        ensures few { result ≤ length self.now.entries }
     {
         self.counts.get(m.0 as usize).copied().unwrap_or(0)
     }

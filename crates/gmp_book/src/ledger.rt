@@ -12,6 +12,7 @@ ghost use Rattle.gmp_book.specs.Written.{HasRoomFor};
 ghost use Rattle.gmp_book.specs.Log.{Enters, opening_log};
 ghost use Rattle.gmp_book.specs.Replies.{acquired, taken, started, left, poked};
 
+mod passing;
 mod refusing;
 
 use crate::journal::Journal;
