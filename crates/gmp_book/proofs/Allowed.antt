@@ -1,6 +1,6 @@
 -- What a call needs holds where no line refuses it.
-use Rattle.std.proofs.Common.{◌≡◌, ℕ, ◌+◌, ◌<◌, ◌≤◌, Bool, true, false, not, ◌||◌, ◌&&◌, ◌==◌, Option, None, Some, List, [], ◌∷◌, ◌++◌, length, slice_get, refl, sym, ap, subst, ◌∙◌, arith}
-use Rattle.std.proofs.lemmas.Bool.{eqb-true, false≢true, or_parts, and_parts}
+use Rattle.std.proofs.Common.{◌≡◌, ℕ, ◌+◌, ◌<◌, Bool, true, false, not, ◌&&◌, ◌==◌, Option, None, Some, [], ◌∷◌, length, slice_get, refl, sym, ap, ◌∙◌, arith}
+use Rattle.std.proofs.lemmas.Bool.{eqb-true, or_parts, and_parts}
 use Rattle.std.proofs.lemmas.Grind.{common_steps}
 use Rattle.std.specs.List.{list_any}
 use Rattle.std.specs.Option.{option_map_or}
@@ -14,7 +14,6 @@ use Rattle.gmp_seq.specs.declared.call.Reply.{Reply}
 use Rattle.gmp_seq.specs.declared.status.Goroutine.{Goroutine}
 use Rattle.gmp_seq.specs.declared.status.Mode.{Mode}
 use Rattle.gmp_seq.specs.declared.status.Mode.TheVariants as mode
-use Rattle.gmp_seq.specs.declared.status.Place.{Place}
 use Rattle.gmp_seq.specs.declared.status.Place.TheVariants.{Shelf, Out}
 use Rattle.gmp_seq.specs.declared.status.Status.{Status}
 use Rattle.gmp_seq.specs.declared.status.Status.TheVariants as status
@@ -22,7 +21,6 @@ use Rattle.gmp_seq.specs.Machines.{IsAwake}
 use Rattle.gmp_seq.specs.Needs.{Needs, IsOut}
 use Rattle.gmp_seq.specs.State.{State}
 use Rattle.gmp_seq.specs.Table.{Table, IsRunning, is_out, is_outstanding, is_running_on, status_at}
-use Rattle.gmp_book.specs.declared.handed.Handed.{Handed}
 use Rattle.gmp_book.specs.declared.handed.Handed.TheVariants as handed
 use Rattle.gmp_book.specs.Log.{Log, Enters, Records}
 use Rattle.gmp_book.specs.Refusals.{IsAllowed, IsCurrent, is_awake, is_awake_mode, is_anothers, is_spent}

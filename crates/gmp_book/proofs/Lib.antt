@@ -4,3 +4,6 @@ pub mod Entered
 pub mod Holding
 pub mod Answered
 pub mod Allowed
+pub mod Bodies
+pub mod OpeningBook
+pub mod Placed

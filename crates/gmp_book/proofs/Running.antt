@@ -1,5 +1,5 @@
 -- Who runs on each machine, where one goroutine changes.
-use Rattle.std.proofs.Common.{◌≡◌, ℕ, zero, suc, ◌<◌, Bool, true, false, Option, None, Some, List, ◌∷◌, ◌+◌, ◌-◌, set, length, length-set, slice_get, replicate, refl, sym, ap, subst, ◌∙◌, ◌⊎◌, inl, inr, arith}
+use Rattle.std.proofs.Common.{◌≡◌, ℕ, zero, suc, ◌<◌, Bool, true, false, Option, None, Some, List, ◌∷◌, ◌+◌, ◌-◌, set, length, length-set, slice_get, replicate, refl, sym, ap, subst, ◌∙◌, inl, inr}
 use Rattle.std.proofs.lemmas.List.{length-replicate}
 use Rattle.std.proofs.lemmas.Option.{slice_get_within}
 use Rattle.std.proofs.lemmas.Bool.{eqb-true, eq-eqb, false≢true, cases_eq}
@@ -66,15 +66,15 @@ module _ (t : Table) (machines : ℕ) (runners : List (Option GNo)) (kept : AreR
   other_runners new g x y at is no_x no_y = record {
     each = kept.each;
     told = λ m h found.
-      let runs = kept.told m h found in
-      subst (λ (gs : List Goroutine). status_of (slice_get gs h.0) ≡ Some (status.Running m)) (sym is)
-      (at_set (λ (o : Option Goroutine). status_of o ≡ Some (status.Running m)) t.goroutines g.0 h.0 y
-      (λ e. absurd (no_x m (status_at_row t.goroutines g.0 h.0 x m at e runs))) runs);
+        let runs = kept.told m h found in
+        subst (λ (gs : List Goroutine). status_of (slice_get gs h.0) ≡ Some (status.Running m)) (sym is)
+        (at_set (λ (o : Option Goroutine). status_of o ≡ Some (status.Running m)) t.goroutines g.0 h.0 y
+        (λ e. absurd (no_x m (status_at_row t.goroutines g.0 h.0 x m at e runs))) runs);
     all = λ m h runs.
-      elim (status_set t.goroutines g.0 x y h.0 (status.Running m) at (subst (λ (gs : List Goroutine). status_of (slice_get gs h.0) ≡ Some (status.Running m)) is runs)) [
-        | inl here ↦ absurd (no_y m here.1)
-        | inr there ↦ kept.all m h there.1
-      ];
+        elim (status_set t.goroutines g.0 x y h.0 (status.Running m) at (subst (λ (gs : List Goroutine). status_of (slice_get gs h.0) ≡ Some (status.Running m)) is runs)) [
+          | inl here ↦ absurd (no_y m here.1)
+          | inr there ↦ kept.all m h there.1
+        ];
   }
 
   -- a machine that ran none runs g from now on
@@ -83,31 +83,31 @@ module _ (t : Table) (machines : ℕ) (runners : List (Option GNo)) (kept : AreR
   claimed_runners new m g x y at is no_x runs_y free within = record {
     each = length-set runners m.0 (Some g) ∙ kept.each;
     told = λ n h found.
-      elim (cases_eq n.0 m.0) [
-        | inl same ↦
-            let here = slice_get-set_same runners m.0 (Some g) in_runners in
-            let e : Some (Some g) ≡ Some (Some h) = sym here ∙ subst (λ (k : ℕ). slice_get (set runners m.0 (Some g)) k ≡ Some (Some h)) same found in
-            let is_h : g ≡ h = cc in
-            let row : slice_get (set t.goroutines g.0 y) g.0 ≡ Some y = slice_get-set_same t.goroutines g.0 y (within_rows x at) in
-            let is_m : m ≡ n = same_machine m n (sym same) in
-            let told : status_of (slice_get (set t.goroutines g.0 y) g.0) ≡ Some (status.Running m) = ap status_of row ∙ ap Some runs_y in
-            rw (is, sym is_h, sym is_m) told
-        | inr apart ↦
-            let runs = kept.told n h (sym (slice_get-set_other runners m.0 n.0 (Some g) apart) ∙ found) in
-            subst (λ (gs : List Goroutine). status_of (slice_get gs h.0) ≡ Some (status.Running n)) (sym is)
-            (at_set (λ (o : Option Goroutine). status_of o ≡ Some (status.Running n)) t.goroutines g.0 h.0 y
-            (λ e. absurd (no_x n (status_at_row t.goroutines g.0 h.0 x n at e runs))) runs)
-      ];
+        elim (cases_eq n.0 m.0) [
+          | inl same ↦
+              let here = slice_get-set_same runners m.0 (Some g) in_runners in
+              let e : Some (Some g) ≡ Some (Some h) = sym here ∙ subst (λ (k : ℕ). slice_get (set runners m.0 (Some g)) k ≡ Some (Some h)) same found in
+              let is_h : g ≡ h = cc in
+              let row : slice_get (set t.goroutines g.0 y) g.0 ≡ Some y = slice_get-set_same t.goroutines g.0 y (within_rows x at) in
+              let is_m : m ≡ n = same_machine m n (sym same) in
+              let told : status_of (slice_get (set t.goroutines g.0 y) g.0) ≡ Some (status.Running m) = ap status_of row ∙ ap Some runs_y in
+              rw (is, sym is_h, sym is_m) told
+          | inr apart ↦
+              let runs = kept.told n h (sym (slice_get-set_other runners m.0 n.0 (Some g) apart) ∙ found) in
+              subst (λ (gs : List Goroutine). status_of (slice_get gs h.0) ≡ Some (status.Running n)) (sym is)
+              (at_set (λ (o : Option Goroutine). status_of o ≡ Some (status.Running n)) t.goroutines g.0 h.0 y
+              (λ e. absurd (no_x n (status_at_row t.goroutines g.0 h.0 x n at e runs))) runs)
+        ];
     all = λ n h runs.
-      elim (status_set t.goroutines g.0 x y h.0 (status.Running n) at (subst (λ (gs : List Goroutine). status_of (slice_get gs h.0) ≡ Some (status.Running n)) is runs)) [
-        | inl here ↦
-            let e : status.Running m ≡ status.Running n = sym runs_y ∙ here.1 in
-            let is_n : m ≡ n = cc in
-            rw (sym is_n, same_goroutine h g here.0) (slice_get-set_same runners m.0 (Some g) in_runners)
-        | inr there ↦
-            slice_get-set_other runners m.0 n.0 (Some g)
-            (λ e. free h (subst (λ (k : MNo). IsRunning t h k) (same_machine n m e) there.1)) ∙ kept.all n h there.1
-      ];
+        elim (status_set t.goroutines g.0 x y h.0 (status.Running n) at (subst (λ (gs : List Goroutine). status_of (slice_get gs h.0) ≡ Some (status.Running n)) is runs)) [
+          | inl here ↦
+              let e : status.Running m ≡ status.Running n = sym runs_y ∙ here.1 in
+              let is_n : m ≡ n = cc in
+              rw (sym is_n, same_goroutine h g here.0) (slice_get-set_same runners m.0 (Some g) in_runners)
+          | inr there ↦
+              slice_get-set_other runners m.0 n.0 (Some g)
+              (λ e. free h (subst (λ (k : MNo). IsRunning t h k) (same_machine n m e) there.1)) ∙ kept.all n h there.1
+        ];
   }
     where
       in_runners : m.0 < length runners
@@ -125,25 +125,25 @@ module _ (t : Table) (machines : ℕ) (runners : List (Option GNo)) (kept : AreR
       record {
         each = length-set runners m.0 None ∙ kept.each;
         told = λ n h found.
-          elim (cases_eq n.0 m.0) [
-            | inl same ↦
-                let here = slice_get-set_same runners m.0 None (slice_get_within runners m.0 (Some g) first) in
-                let e : Some None ≡ Some (Some h) = sym here ∙ subst (λ (k : ℕ). slice_get (set runners m.0 None) k ≡ Some (Some h)) same found in
-                absurd cc
-            | inr apart ↦
-                let runs = kept.told n h (sym (slice_get-set_other runners m.0 n.0 None apart) ∙ found) in
-                subst (λ (gs : List Goroutine). status_of (slice_get gs h.0) ≡ Some (status.Running n)) (sym is)
-                (at_set (λ (o : Option Goroutine). status_of o ≡ Some (status.Running n)) t.goroutines g.0 h.0 y
-                (λ e. absurd (apart (running_is n m (sym (status_at_row t.goroutines g.0 h.0 row.0 n row.1 e runs) ∙ row.2)))) runs)
-          ];
+            elim (cases_eq n.0 m.0) [
+              | inl same ↦
+                  let here = slice_get-set_same runners m.0 None (slice_get_within runners m.0 (Some g) first) in
+                  let e : Some None ≡ Some (Some h) = sym here ∙ subst (λ (k : ℕ). slice_get (set runners m.0 None) k ≡ Some (Some h)) same found in
+                  absurd cc
+              | inr apart ↦
+                  let runs = kept.told n h (sym (slice_get-set_other runners m.0 n.0 None apart) ∙ found) in
+                  subst (λ (gs : List Goroutine). status_of (slice_get gs h.0) ≡ Some (status.Running n)) (sym is)
+                  (at_set (λ (o : Option Goroutine). status_of o ≡ Some (status.Running n)) t.goroutines g.0 h.0 y
+                  (λ e. absurd (apart (running_is n m (sym (status_at_row t.goroutines g.0 h.0 row.0 n row.1 e runs) ∙ row.2)))) runs)
+            ];
         all = λ n h runs.
-          elim (status_set t.goroutines g.0 row.0 y h.0 (status.Running n) row.1 (subst (λ (gs : List Goroutine). status_of (slice_get gs h.0) ≡ Some (status.Running n)) is runs)) [
-            | inl here ↦ absurd (no_y n here.1)
-            | inr there ↦
-                slice_get-set_other runners m.0 n.0 None
-                (λ e. there.0 (sym (one_of (slice_get runners m.0) g h first (subst (λ (k : ℕ). slice_get runners k ≡ Some (Some h)) e (kept.all n h there.1)))))
-                ∙ kept.all n h there.1
-          ];
+            elim (status_set t.goroutines g.0 row.0 y h.0 (status.Running n) row.1 (subst (λ (gs : List Goroutine). status_of (slice_get gs h.0) ≡ Some (status.Running n)) is runs)) [
+              | inl here ↦ absurd (no_y n here.1)
+              | inr there ↦
+                  slice_get-set_other runners m.0 n.0 None
+                  (λ e. there.0 (sym (one_of (slice_get runners m.0) g h first (subst (λ (k : ℕ). slice_get runners k ≡ Some (Some h)) e (kept.all n h there.1)))))
+                  ∙ kept.all n h there.1
+            ];
       }
 
   free_told : (m : MNo) → ((g : GNo) → slice_get runners m.0 ≡ Some (Some g) → ⊥) → false ≡ some_status (is_running_on m) t

@@ -4,3 +4,5 @@ pub mod Log
 pub mod Refusals
 pub mod Kept
 pub mod LedgerView
+pub mod Book
+pub mod Went

@@ -1,13 +1,11 @@
 -- When a call is refused, and why.
-use Rattle.std.specs.Prelude.{◌≡◌, ℕ, ◌==◌, ◌<◌, ◌≤◌, ◌^◌, Bool, true, false, not, ◌||◌, if◌then◌else◌, nat_lt, nat_le, is_some, List, [], ◌∷◌, ◌++◌, length, slice_get, Option, Some, None, Result, Ok, Err}
+use Rattle.std.specs.Prelude.{◌≡◌, ℕ, ◌==◌, ◌<◌, ◌≤◌, Bool, true, false, not, ◌||◌, if◌then◌else◌, nat_lt, nat_le, is_some, List, [], ◌∷◌, ◌++◌, length, slice_get, Option, Some, None, Result, Ok, Err}
 use Rattle.std.specs.List.{list_any}
 use Rattle.std.specs.Option.{option_map_or}
-use Rattle.gmp_base.specs.declared.number.GNo.{GNo}
 use Rattle.gmp_base.specs.declared.number.MNo.{MNo}
-use Rattle.gmp_base.specs.declared.number.PNo.{PNo}
 use Rattle.gmp_base.specs.declared.pass.Pass.{Pass}
 use Rattle.gmp_base.specs.declared.refusal.Refusal.{Refusal}
-use Rattle.gmp_base.specs.declared.refusal.Refusal.TheVariants.{Over, WrongRun, OutOfTurn, Behind, NotOutstanding, NoProcessor, Busy, NotHeld, NotOver}
+use Rattle.gmp_base.specs.declared.refusal.Refusal.TheVariants.{Over, WrongRun, OutOfTurn, Behind, NotOutstanding, NoProcessor, Busy, NotHeld}
 use Rattle.gmp_base.specs.declared.refusal.Refused.{Refused}
 use Rattle.gmp_base.specs.declared.value.Held.{Held}
 use Rattle.gmp_base.specs.declared.value.Ticket.{Ticket}
@@ -18,9 +16,9 @@ use Rattle.gmp_seq.specs.declared.status.Mode.{Mode}
 use Rattle.gmp_seq.specs.declared.status.Mode.TheVariants as mode
 use Rattle.gmp_seq.specs.declared.status.Status.{Status}
 use Rattle.gmp_seq.specs.declared.status.Status.TheVariants as status
-use Rattle.gmp_seq.specs.Machines.{Machines, has_processor, is_held_by, spins}
+use Rattle.gmp_seq.specs.Machines.{has_processor, is_held_by, spins}
 use Rattle.gmp_seq.specs.State.{State}
-use Rattle.gmp_seq.specs.Table.{Table, is_outstanding, is_running_on, some_status, status_at}
+use Rattle.gmp_seq.specs.Table.{is_outstanding, is_running_on, some_status, status_at}
 use Rattle.gmp_book.specs.declared.handed.Handed.{Handed}
 use Rattle.gmp_book.specs.declared.handed.Handed.TheVariants as handed
 use Rattle.gmp_book.specs.Log.{Log, calls_of}

@@ -7,7 +7,7 @@ ghost use Rattle.gmp_seq.specs.Needs.{Needs};
 ghost use Rattle.gmp_seq.specs.Run.{IsLegal};
 ghost use Rattle.gmp_seq.specs.declared.status.Place.TheVariants.{Shelf, Out};
 ghost use Rattle.gmp_seq.specs.Step.{Starts, outcome_after};
-ghost use Rattle.gmp_seq.specs.Table.{IsReady, IsRunning, epoch_at, is_outstanding, set_status, made_ready};
+ghost use Rattle.gmp_seq.specs.Table.{IsReady, IsRunning, epoch_at, is_outstanding, next_of, set_status, made_ready};
 ghost use Rattle.gmp_book.specs.Written.{HasRoomFor};
 ghost use Rattle.gmp_book.specs.Log.{Enters, opening_log};
 ghost use Rattle.gmp_book.specs.Replies.{acquired, taken, started, left, poked};
@@ -18,7 +18,6 @@ mod refusing;
 use crate::journal::Journal;
 use crate::machines::Machines;
 use crate::replies;
-use crate::report::Report;
 use crate::runners::Runners;
 use gmp_base::{Fault, GNo, MNo, PNo, Readiness, Woke};
 use gmp_seq::{Call, Entry, Limits, Outcome, Reply, Status};
@@ -51,7 +50,7 @@ impl Exited {
 ///
 /// The history is a legal run from the opening to the present state, whatever is called. Only the opening takes memory.
 #[derive(Drop)]
-pub struct Ledger {
+pub(crate) struct Ledger {
     run: u64,
     limits: Limits,
     bodies: u16,
@@ -118,7 +117,7 @@ fn start(table: &mut StatusTable, body: GNo) -> Result<Readiness, Fault>
 
 impl Ledger {
     /// A run that has made no call yet.
-    pub fn open(
+    pub(crate) fn open(
         alloc: Global,
         run: u64,
         limits: Limits,
@@ -145,8 +144,15 @@ impl Ledger {
         })
     }
 
+    /// The run's number.
+    pub(crate) fn run(&self) -> u64
+        ensures { result ≡ self.now.run }
+    {
+        self.run
+    }
+
     /// How the run ended, if it did.
-    pub fn outcome(&self) -> Option<Outcome>
+    pub(crate) fn outcome(&self) -> Option<Outcome>
         ensures outcome { result ≡ self.now.state.outcome }
         // While the run lasts another entry fits.
         ensures ongoing { IfNone result (length self.now.history < self.now.limits.entries) }
@@ -155,7 +161,7 @@ impl Ledger {
     }
 
     /// Every accepted call with its reply, in order: a legal run.
-    pub fn history(&self) -> &[Entry]
+    pub(crate) fn history(&self) -> &[Entry]
         ensures entries { result.now ≡ self.now.history }
         ensures legal { IsLegal self.now.limits self.now.bodies self.now.capacities self.now.history self.now.state }
         ensures within { AreLimits self.now.limits self.now.bodies self.now.capacities }
@@ -164,14 +170,14 @@ impl Ledger {
     }
 
     /// Whether the ticket of this readiness is given out, and not yet claimed or put back.
-    pub fn is_outstanding(&self, r: Readiness) -> bool
+    pub(crate) fn is_outstanding(&self, r: Readiness) -> bool
         ensures { result ≡ is_outstanding self.now.state.table r }
     {
         self.table.is_outstanding(r)
     }
 
     /// m, which holds no processor, holds the least idle one.
-    pub fn acquire(&mut self, m: MNo) -> Option<PNo>
+    pub(crate) fn acquire(&mut self, m: MNo) -> Option<PNo>
         requires ongoing { self.old.state.outcome ≡ None }
         requires needs { Needs m Call.Acquire self.old.state }
         ensures records { Enters self.old m Call.Acquire (acquired result) self.new }
@@ -190,7 +196,7 @@ impl Ledger {
     }
 
     /// Gives out the ticket of the goroutine that is on the shelf for longest, as `StatusTable::unshelve` does.
-    pub fn take(&mut self, m: MNo) -> Option<Readiness>
+    pub(crate) fn take(&mut self, m: MNo) -> Option<Readiness>
         requires ongoing { self.old.state.outcome ≡ None }
         requires needs { Needs m Call.Take self.old.state }
         ensures { Enters self.old m Call.Take (taken result) self.new }
@@ -208,7 +214,7 @@ impl Ledger {
     }
 
     /// Puts a ticket that is out onto the shelf, last.
-    pub fn put(&mut self, m: MNo, r: Readiness)
+    pub(crate) fn put(&mut self, m: MNo, r: Readiness)
         requires ongoing { self.old.state.outcome ≡ None }
         requires needs { Needs m (Call.Put r) self.old.state }
         ensures { Enters self.old m (Call.Put r) Reply.Shelf self.new }
@@ -225,7 +231,7 @@ impl Ledger {
     }
 
     /// Spends a ticket: m runs its goroutine, which is to be told the answer.
-    pub fn claim(&mut self, m: MNo, r: Readiness) -> Woke
+    pub(crate) fn claim(&mut self, m: MNo, r: Readiness) -> Woke
         requires ongoing { self.old.state.outcome ≡ None }
         requires needs { Needs m (Call.Claim r) self.old.state }
         ensures records { Enters self.old m (Call.Claim r) Reply.Held self.new }
@@ -245,7 +251,7 @@ impl Ledger {
     }
 
     /// The goroutine that m runs starts a body, whose ticket is given out.
-    pub fn go(&mut self, m: MNo, body: GNo) -> Result<Readiness, Fault>
+    pub(crate) fn go(&mut self, m: MNo, body: GNo) -> Result<Readiness, Fault>
         requires ongoing { self.old.state.outcome ≡ None }
         requires needs { Needs m (Call.Go body) self.old.state }
         ensures { Enters self.old m (Call.Go body) (started result) self.new }
@@ -263,9 +269,10 @@ impl Ledger {
     }
 
     /// The goroutine g that m runs goes onto the shelf, last.
-    pub fn yield_to(&mut self, m: MNo, g: GNo) -> Readiness
+    pub(crate) fn yield_to(&mut self, m: MNo, g: GNo) -> Readiness
         requires ongoing { self.old.state.outcome ≡ None }
         requires runs { IsRunning self.old.state.table g m }
+        ensures ticket { result ≡ next_of self.old.state.table g }
         ensures records { Enters self.old m Call.Yield (Reply.Shelved result) self.new }
         ensures table { self.new.state.table ≡ made_ready self.old.state.table g Shelf Woke.Done }
     {
@@ -283,7 +290,7 @@ impl Ledger {
     }
 
     /// The goroutine g that m runs ends, and with goroutine 0 the run.
-    pub fn exit(&mut self, m: MNo, g: GNo) -> Exited
+    pub(crate) fn exit(&mut self, m: MNo, g: GNo) -> Exited
         requires ongoing { self.old.state.outcome ≡ None }
         requires runs { IsRunning self.old.state.table g m }
         ensures records { Enters self.old m Call.Exit (left result) self.new }
@@ -305,7 +312,7 @@ impl Ledger {
     }
 
     /// Wakes the least parked machine, where nobody spins and a processor is idle.
-    pub fn poke(&mut self, m: MNo) -> Option<MNo>
+    pub(crate) fn poke(&mut self, m: MNo) -> Option<MNo>
         requires ongoing { self.old.state.outcome ≡ None }
         requires needs { Needs m Call.Poke self.old.state }
         ensures records { Enters self.old m Call.Poke (poked result) self.new }
@@ -325,7 +332,7 @@ impl Ledger {
 
     /// Lets the clock show this moment, in nanoseconds, unless it showed a later one.
     /// It counts those that it wakes, and nobody waits yet.
-    pub fn tick(&mut self, m: MNo, moment: u64) -> u64
+    pub(crate) fn tick(&mut self, m: MNo, moment: u64) -> u64
         requires ongoing { self.old.state.outcome ≡ None }
         requires needs { Needs m (Call.Tick moment) self.old.state }
         ensures records { Enters self.old m (Call.Tick moment) (Reply.Woke result) self.new }
@@ -344,33 +351,25 @@ impl Ledger {
         0
     }
 
-    /// What the run was opened with, its history in the room that it has, and its outcome.
-    pub fn into_report(self) -> Report
-        ensures limits { result.limits ≡ self.limits }
-        ensures bodies { result.bodies ≡ self.bodies }
-        ensures capacities { result.capacities.items ≡ self.capacities }
-        ensures history { result.history.items ≡ self.history }
-        ensures outcome { result.outcome ≡ self.state.outcome }
+    /// What the run was opened with, and its history in the room that it has.
+    pub(crate) fn into_parts(self) -> (Limits, Vec<u32>, Vec<Entry>)
+        ensures limits { result.0 ≡ self.limits }
+        ensures capacities { result.1.items ≡ self.capacities }
+        ensures history { result.2.items ≡ self.history }
         ensures legal { IsLegal self.limits self.bodies self.capacities self.history self.state }
         ensures within { AreLimits self.limits self.bodies self.capacities }
     {
         let Ledger {
             run: _,
             limits,
-            bodies,
+            bodies: _,
             capacities,
             table: _,
             machines: _,
             runners: _,
             journal,
-            outcome,
+            outcome: _,
         } = self;
-        Report {
-            limits,
-            bodies,
-            capacities,
-            history: journal.into_entries(),
-            outcome,
-        }
+        (limits, capacities, journal.into_entries())
     }
 }

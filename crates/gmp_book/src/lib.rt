@@ -1,18 +1,23 @@
-//! The book: the scheduler's state, and the history that leads to it. What it keeps is always a legal run.
+//! The book: every call of the scheduler, made whole by a pass or refused. What it keeps is always a legal run.
 #![tactic(auto)]
 
+mod book;
 mod handed;
 mod journal;
 mod ledger;
 mod machines;
+mod opening;
 mod range;
 mod replies;
 mod report;
 mod runners;
+mod went;
 
-pub use ledger::{Exited, Ledger};
-pub use range::in_range;
+pub use book::Book;
+pub use ledger::Exited;
+pub use opening::Unopened;
 pub use report::Report;
+pub use went::Went;
 
 #[cfg(test)]
 mod tests;

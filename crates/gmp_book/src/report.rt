@@ -2,15 +2,15 @@
 
 use gmp_seq::{Entry, Limits, Outcome};
 
-/// What a run was opened with, its history, and how it ended, if it did.
-#[derive(Debug, Drop)]
-pub struct Report {
+/// What a run was opened with, its history, how it ended, and all bodies and owners, in order.
+#[derive(Drop)]
+pub struct Report<T, Q> {
     pub limits: Limits,
-    /// How many bodies there were.
-    pub bodies: u16,
     /// What the channels of the opening could hold.
     pub capacities: Vec<u32>,
     /// Every accepted call with its reply, in order.
     pub history: Vec<Entry>,
-    pub outcome: Option<Outcome>,
+    pub outcome: Outcome,
+    pub bodies: Vec<T>,
+    pub owners: Vec<Q>,
 }

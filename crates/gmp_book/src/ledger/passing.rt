@@ -2,7 +2,7 @@
 ghost use Rattle.std.specs.Prelude.{◌≡◌, ◌+◌, ◌<◌, None, Some, [], ◌∷◌, length, is_none, position, OnOk, OnErr, IfOk, IfSome};
 ghost use Rattle.gmp_seq.specs.declared.status.Place.TheVariants.{Shelf, Out};
 ghost use Rattle.gmp_seq.specs.Machines.{is_parked};
-ghost use Rattle.gmp_seq.specs.Table.{IsReady, made_ready, set_status};
+ghost use Rattle.gmp_seq.specs.Table.{IsReady, IsRunning, made_ready, next_of, set_status};
 ghost use Rattle.gmp_book.specs.Log.{Records};
 ghost use Rattle.gmp_book.specs.Refusals.{refusal_of, refusal_in};
 ghost use Rattle.gmp_book.specs.Replies.{acquired, taken, started, left, poked};
@@ -110,6 +110,8 @@ impl Ledger {
         ensures refused { refusal_in result ≡ refusal_of self.old pass.old Call.Yield (Handed.Held run g ∷ []) }
         ensures err { OnErr result ((self.new ≡ self.old) × (pass.new ≡ pass.old)) }
         ensures records { IfOk result (λ r. Records self.old pass.old Call.Yield (Reply.Shelved r) self.new pass.new) }
+        ensures ticket { IfOk result (λ r. r ≡ next_of self.old.state.table g) }
+        ensures runs { OnOk result (IsRunning self.old.state.table g pass.old.m) }
         ensures table { OnOk result (self.new.state.table ≡ made_ready self.old.state.table g Shelf Woke.Done) }
     {
         if let Some(why) = self.refusal(pass, &Call::Yield, &[Handed::Held(run, g)]) {
@@ -124,6 +126,7 @@ impl Ledger {
         ensures refused { refusal_in result ≡ refusal_of self.old pass.old Call.Exit (Handed.Held run g ∷ []) }
         ensures err { OnErr result ((self.new ≡ self.old) × (pass.new ≡ pass.old)) }
         ensures records { IfOk result (λ e. Records self.old pass.old Call.Exit (left e) self.new pass.new) }
+        ensures runs { OnOk result (IsRunning self.old.state.table g pass.old.m) }
         ensures table { OnOk result (self.new.state.table ≡ set_status self.old.state.table g Status.Dead) }
     {
         if let Some(why) = self.refusal(pass, &Call::Exit, &[Handed::Held(run, g)]) {

@@ -54,9 +54,7 @@ impl Ledger {
     fn is_foreign(&self, pass: &Pass, values: &[Handed]) -> bool
         ensures { result ≡ is_foreign self.now pass.now values.now }
     {
-        pass.run != self.run
-            || pass.m.0 >= self.limits.machines
-            || names_other(values, self.run)
+        pass.run != self.run || pass.m.0 >= self.limits.machines || names_other(values, self.run)
     }
 
     /// Does the state allow what the machine asks?

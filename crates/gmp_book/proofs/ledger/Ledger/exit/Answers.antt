@@ -17,11 +17,10 @@ enter-requires c =
 pub invariant_of-self : goal.invariant_of-self
 invariant_of-self c =
     let i = c.self.inside in
-    let runs = subst (λ (l : Log). IsRunning l.state.table c.args.g c.args.m) (sym c.self.view_is) c.requires.runs in
-    (
-    kept_on (log_of i) c.args.self.now i.journal.room c.enter.new.journal.room c.args.m call.Exit c.left.result c.enter.new.journal.entries
-    (record (log_of i).state { table = c.dead.new.self.table; counts = c.enter.new.journal.counts; outcome = c.enter.new.outcome }) c.self.view_is c.self.invariant.0 c.requires.ongoing (runner_wakes (log_of i) c.args.self.now i.journal.room c.args.m c.args.g c.self.view_is c.self.invariant.0 c.requires.runs)
-    (c.args.g, runs, (rw c.left.ensures (exits_of c.args.g c.of-exited.result i.table.table c.dead.new.self.table c.of-exited.ensures.dead c.of-exited.ensures.main c.dead.ensures.table), refl, refl)) c.enter.ensures.entries c.enter.ensures.counts c.enter.ensures.outcome c.enter.ensures.room,
+    let runs = subst (λ (l : Log). IsRunning l.state.table c.args.g c.args.m) (sym c.self.view_is) c.requires.runs in (
+      kept_on (log_of i) c.args.self.now i.journal.room c.enter.new.journal.room c.args.m call.Exit c.left.result c.enter.new.journal.entries
+          (record (log_of i).state { table = c.dead.new.self.table; counts = c.enter.new.journal.counts; outcome = c.enter.new.outcome }) c.self.view_is c.self.invariant.0 c.requires.ongoing (runner_wakes (log_of i) c.args.self.now i.journal.room c.args.m c.args.g c.self.view_is c.self.invariant.0 c.requires.runs)
+          (c.args.g, runs, (rw c.left.ensures (exits_of c.args.g c.of-exited.result i.table.table c.dead.new.self.table c.of-exited.ensures.dead c.of-exited.ensures.main c.dead.ensures.table), refl, refl)) c.enter.ensures.entries c.enter.ensures.counts c.enter.ensures.outcome c.enter.ensures.room,
       rw c.set.ensures (exits_runners i.table.table i.limits.machines i.runners c.self.invariant.1 c.args.m c.args.g c.dead.new.self.table runs c.dead.ensures.table),
     )
 

@@ -23,11 +23,10 @@ enter-requires c =
 pub invariant_of-self : goal.invariant_of-self
 invariant_of-self c =
     let i = c.self.inside in
-    let runs = subst (λ (l : Log). IsRunning l.state.table c.args.g c.args.m) (sym c.self.view_is) c.requires.runs in
-    (
-    kept_on (log_of i) c.args.self.now i.journal.room c.enter.new.journal.room c.args.m call.Yield (reply.Shelved c.requeue-r.result) c.enter.new.journal.entries
-    (record (log_of i).state { table = c.requeue-r.new.self.table; counts = c.enter.new.journal.counts; outcome = c.enter.new.outcome }) c.self.view_is c.self.invariant.0 c.requires.ongoing (runner_wakes (log_of i) c.args.self.now i.journal.room c.args.m c.args.g c.self.view_is c.self.invariant.0 c.requires.runs)
-    (c.args.g, runs, ((c.requeue-r.ensures.ticket, c.requeue-r.ensures.table), refl, refl)) c.enter.ensures.entries c.enter.ensures.counts c.enter.ensures.outcome c.enter.ensures.room,
+    let runs = subst (λ (l : Log). IsRunning l.state.table c.args.g c.args.m) (sym c.self.view_is) c.requires.runs in (
+      kept_on (log_of i) c.args.self.now i.journal.room c.enter.new.journal.room c.args.m call.Yield (reply.Shelved c.requeue-r.result) c.enter.new.journal.entries
+          (record (log_of i).state { table = c.requeue-r.new.self.table; counts = c.enter.new.journal.counts; outcome = c.enter.new.outcome }) c.self.view_is c.self.invariant.0 c.requires.ongoing (runner_wakes (log_of i) c.args.self.now i.journal.room c.args.m c.args.g c.self.view_is c.self.invariant.0 c.requires.runs)
+          (c.args.g, runs, ((c.requeue-r.ensures.ticket, c.requeue-r.ensures.table), refl, refl)) c.enter.ensures.entries c.enter.ensures.counts c.enter.ensures.outcome c.enter.ensures.room,
       rw c.set.ensures (yields_runners i.table.table i.limits.machines i.runners c.self.invariant.1 c.args.m c.args.g woke.Done c.requeue-r.new.self.table runs c.requeue-r.ensures.table),
     )
 

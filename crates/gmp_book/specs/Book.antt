@@ -1,0 +1,128 @@
+-- What a contract sees of a book, and what its calls do to it.
+use Rattle.std.specs.Prelude.{◌≡◌, ℕ, ◌==◌, Bool, true, false, not, ◌&&◌, List, [], ◌∷◌, length, map, Option, Some, None, is_some, is_none, slice_get, slice_set}
+use Rattle.std.specs.List.{range_with_len}
+use Rattle.gmp_base.specs.declared.pass.Pass.{Pass}
+use Rattle.gmp_base.specs.declared.refusal.Refusal.{Refusal}
+use Rattle.gmp_base.specs.declared.refusal.Refusal.TheVariants.{WrongRun, NotOver, Busy, BadLimits, OutOfMemory}
+use Rattle.gmp_base.specs.declared.value.Held.{Held}
+use Rattle.gmp_base.specs.declared.value.Proc.{Proc}
+use Rattle.gmp_seq.specs.declared.call.Limits.{Limits}
+use Rattle.gmp_seq.specs.declared.status.Goroutine.{Goroutine}
+use Rattle.gmp_seq.specs.declared.status.Status.{Status}
+use Rattle.gmp_seq.specs.declared.status.Status.TheVariants.{Running, Calling}
+use Rattle.gmp_seq.specs.Fits.{AreLimits}
+use Rattle.gmp_seq.specs.Machines.{Machines}
+use Rattle.gmp_seq.specs.Run.{IsLegal}
+use Rattle.gmp_seq.specs.Table.{Table}
+use Rattle.gmp_slots.specs.Slots.{all_filled}
+use Rattle.gmp_book.specs.declared.report.Report.{Report}
+use Rattle.gmp_book.specs.Log.{Log, opening_log}
+use Rattle.gmp_book.specs.Refusals.{Line, line}
+
+-- the run, and the bodies and owners that are in the book
+pub record Contents (T Q : Type 0) : Type 0 where
+  pub log : Log
+  pub bodies : List (Option T)
+  pub owners : List (Option Q)
+
+-- What the book keeps
+
+-- its body is out
+abbrev pub is_held : Status → Bool
+is_held (Running m) = true
+is_held (Calling m) = true
+is_held _ = false
+
+-- the bodies are in the book, but for those of goroutines that run or make a blocking call
+abbrev pub BodiesIn : {T : Type 0} → Table → List (Option T) → Type 0
+BodiesIn t bodies = map is_some bodies ≡ map (λ (x : Goroutine). not (is_held x.status)) t.goroutines
+
+-- the owners are in the book, but for those of processors that are held
+abbrev pub OwnersIn : {Q : Type 0} → Machines → List (Option Q) → Type 0
+OwnersIn w owners = map is_some owners ≡ map is_none w.holders
+
+-- a place for each body and owner; while the run lasts the empty ones are those of what is held
+pub record IsBook {T Q : Type 0} (book : Contents T Q) : Type 0 where
+  pub bodies_count : length book.bodies ≡ book.log.bodies
+  pub owners_count : length book.owners ≡ book.log.limits.procs
+  pub bodies : book.log.state.outcome ≡ None → BodiesIn book.log.state.table book.bodies
+  pub owners : book.log.state.outcome ≡ None → OwnersIn book.log.state.machines book.owners
+
+-- What a call does with bodies and owners
+
+-- they stay
+pub record SameValues {T Q : Type 0} (old now : Contents T Q) : Type 0 where
+  pub bodies : now.bodies ≡ old.bodies
+  pub owners : now.owners ≡ old.owners
+
+-- held has the body of its goroutine, out of its place
+pub record HandsOut {T Q : Type 0} (old now : Contents T Q) (held : Held T) : Type 0 where
+  pub run : held.run ≡ old.log.run
+  pub body : slice_get old.bodies held.g.0 ≡ Some (Some held.body)
+  pub bodies : now.bodies ≡ slice_set old.bodies held.g.0 None
+  pub owners : now.owners ≡ old.owners
+
+-- the body of held is back in its place
+pub record TakesBack {T Q : Type 0} (old now : Contents T Q) (held : Held T) : Type 0 where
+  pub bodies : now.bodies ≡ slice_set old.bodies held.g.0 (Some held.body)
+  pub owners : now.owners ≡ old.owners
+
+-- proc has the owner of its processor, out of its place
+pub record HandsOutOwner {T Q : Type 0} (old now : Contents T Q) (proc : Proc Q) : Type 0 where
+  pub run : proc.run ≡ old.log.run
+  pub owner : slice_get old.owners proc.p.0 ≡ Some (Some proc.owner)
+  pub owners : now.owners ≡ slice_set old.owners proc.p.0 None
+  pub bodies : now.bodies ≡ old.bodies
+
+-- The opening
+
+-- the limits are in range, and there is an owner for each processor
+abbrev pub MayOpen : Limits → ℕ → List ℕ → ℕ → Type 0
+MayOpen limits bodies capacities owners = AreLimits limits bodies capacities × (owners ≡ limits.procs)
+
+-- limits out of range are told before want of memory
+abbrev pub WhyUnopened : Type 0 → Refusal → Type 0
+WhyUnopened may BadLimits = may → ⊥
+WhyUnopened may OutOfMemory = may
+WhyUnopened may _ = ⊥
+
+-- no call was made, and all bodies and owners are in
+abbrev pub opening_book : {T Q : Type 0} → ℕ → Limits → List ℕ → List T → List Q → Contents T Q
+opening_book run limits capacities bodies owners = record {
+  log = opening_log run limits (length bodies) capacities;
+  bodies = map Some bodies;
+  owners = map Some owners;
+}
+
+-- each machine's pass before its first call
+abbrev pub opening_passes : ℕ → ℕ → List Pass
+opening_passes run machines = map (λ (m : ℕ). record { run = run; m = record { 0 = m }; calls = 0; seen = 0 }) (range_with_len 0 machines)
+
+-- The end
+
+-- when a surrender is refused: its value is of another run, the run lasts, or astray: the value has no place to go to
+abbrev pub surrender_lines : Log → ℕ → Bool → Refusal → List Line
+surrender_lines log run astray why =
+    line (not (run == log.run)) WrongRun
+    ∷ line (is_none log.state.outcome) NotOver
+    ∷ line astray why
+    ∷ []
+
+-- when a report is refused: the run lasts, or a body or an owner is out
+abbrev pub report_lines : {T Q : Type 0} → Contents T Q → List Line
+report_lines book =
+    line (is_none book.log.state.outcome) NotOver
+    ∷ line (not (all_filled book.bodies && all_filled book.owners)) Busy
+    ∷ []
+
+-- the report tells the run, whose history is legal, and has all bodies and owners in order
+pub record IsReport {T Q : Type 0} (book : Contents T Q) (report : Report T Q) : Type 0 where
+  pub limits : report.limits ≡ book.log.limits
+  pub capacities : report.capacities.items ≡ book.log.capacities
+  pub history : report.history.items ≡ book.log.history
+  pub outcome : Some report.outcome ≡ book.log.state.outcome
+  pub bodies : map Some report.bodies.items ≡ book.bodies
+  pub owners : map Some report.owners.items ≡ book.owners
+  pub stock : length report.bodies.items ≡ book.log.bodies
+  pub legal : IsLegal book.log.limits book.log.bodies book.log.capacities book.log.history book.log.state
+  pub within : AreLimits book.log.limits book.log.bodies book.log.capacities
