@@ -7,3 +7,4 @@ pub mod Allowed
 pub mod Bodies
 pub mod OpeningBook
 pub mod Placed
+pub mod Granted

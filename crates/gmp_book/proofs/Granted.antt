@@ -1,0 +1,111 @@
+-- A call is refused only where a line says so: where its needs are met by a pass that may call, none does.
+use Rattle.std.proofs.Common.{◌≡◌, ℕ, ◌==◌, ◌<◌, ◌≤◌, Bool, true, false, not, ◌||◌, ◌&&◌, if◌then◌else◌, nat_lt, nat_le, is_some, Option, None, Some, List, [], ◌∷◌, ◌++◌, length, slice_get, refl, sym, ap, ◌∙◌, arith}
+use Rattle.std.proofs.lemmas.Bool.{eq-eqb}
+use Rattle.std.proofs.lemmas.Bool.Decides.{nat_tests}
+use Rattle.std.proofs.lemmas.Grind.{common_steps}
+use Rattle.std.specs.List.{list_any}
+use Rattle.std.specs.Option.{option_map_or}
+use Rattle.gmp_base.specs.declared.number.GNo.{GNo}
+use Rattle.gmp_base.specs.declared.number.MNo.{MNo}
+use Rattle.gmp_base.specs.declared.number.Readiness.{Readiness}
+use Rattle.gmp_base.specs.declared.pass.Pass.{Pass}
+use Rattle.gmp_base.specs.declared.refusal.Refusal.{Refusal}
+use Rattle.gmp_seq.specs.declared.call.Call.{Call}
+use Rattle.gmp_seq.specs.declared.call.Call.TheVariants as call
+use Rattle.gmp_seq.specs.declared.call.Outcome.{Outcome}
+use Rattle.gmp_seq.specs.declared.status.Goroutine.{Goroutine}
+use Rattle.gmp_seq.specs.declared.status.Mode.{Mode}
+use Rattle.gmp_seq.specs.declared.status.Status.{Status}
+use Rattle.gmp_seq.specs.Machines.{IsAwake}
+use Rattle.gmp_seq.specs.Needs.{Needs, IsOut}
+use Rattle.gmp_seq.specs.State.{State}
+use Rattle.gmp_seq.specs.Table.{Table, IsRunning, is_out, is_outstanding, is_running_on, status_at}
+use Rattle.gmp_book.specs.declared.handed.Handed.{Handed}
+use Rattle.gmp_book.specs.declared.handed.Handed.TheVariants as handed
+use Rattle.gmp_book.specs.Log.{Log, calls_of}
+use Rattle.gmp_book.specs.Refusals.{IsCurrent, Line, first_refusal, turn_lines, need_lines, refusal_of, is_awake, is_awake_mode, is_busy, lacks_processor, is_foreign, is_spent, is_anothers, run_of}
+
+-- none of the lines holds
+abbrev NoneHolds : List Line → Type 0
+NoneHolds [] = Unit {0}
+NoneHolds (l ∷ ls) = (l.test ≡ false) × NoneHolds ls
+
+none_refuses : (ls : List Line) → NoneHolds ls → first_refusal ls ≡ None
+none_refuses [] none = refl
+none_refuses (l ∷ ls) none = ap (λ (b : Bool). if b then Some l.why else first_refusal ls) none.0 ∙ none_refuses ls none.1
+
+or_false : (a b : Bool) → a ≡ false → b ≡ false → a || b ≡ false
+or_false a b ea eb = rw (ea, eb) refl
+
+not_true : (b : Bool) → b ≡ true → not b ≡ false
+not_true b e = ap not e
+
+same_run : (n k : ℕ) → n ≡ k → not (n == k) ≡ false
+same_run n k e = not_true (n == k) (eq-eqb n k e)
+
+none_is : (o : Option Outcome) → o ≡ None → is_some o ≡ false
+none_is o e = ap is_some e
+
+-- what the tests of the lines are where what is needed holds
+
+awake_test : (s : State) (m : MNo) → IsAwake s.machines m → not (is_awake s m) ≡ false
+awake_test s m awake = not_true (is_awake s m) (ap (λ (o : Option Mode). option_map_or is_awake_mode o false) awake)
+
+out_test : (t : Table) (r : Readiness) → IsOut t r → is_outstanding t r ≡ true
+out_test t r out = ap (λ (o : Option Goroutine). option_map_or (λ (x : Goroutine). is_out x.status && (x.epoch == r.epoch)) o false) out.1 ∙ eq-eqb r.epoch r.epoch refl
+
+runs_test : (t : Table) (g : GNo) (m : MNo) → IsRunning t g m → option_map_or (is_running_on m) (status_at t g) false ≡ true
+runs_test t g m runs = ap (λ (o : Option Status). option_map_or (is_running_on m) o false) runs ∙ eq-eqb m.0 m.0 refl
+
+module _ (log : Log) (pass : Pass) (run : pass.run ≡ log.run) (current : IsCurrent log pass) where
+  -- no line refuses
+  pub granted : (asked : Call) (values : List Handed) → list_any (λ (v : Handed). not (run_of v == log.run)) values ≡ false → is_busy log.state pass.m asked ≡ false
+      → lacks_processor log.state pass.m asked ≡ false → list_any (is_spent log.state) values ≡ false → list_any (is_anothers log.state pass.m) values ≡ false
+      → refusal_of log pass asked values ≡ None
+  granted asked values runs free equipped unspent own =
+      let there : nat_le log.limits.machines pass.m.0 ≡ false = (let within = current.machine in grind (arith, nat_tests, within)) in
+      let seen : nat_lt (length log.history) pass.seen ≡ false = (let most = current.seen in grind (arith, nat_tests, most)) in
+      let foreign : is_foreign log pass values ≡ false = or_false _ _ (or_false _ _ (same_run pass.run log.run run) there) runs in
+      let turn : not (pass.calls == calls_of log pass.m) ≡ false = same_run pass.calls (calls_of log pass.m) current.turn in
+      none_refuses (turn_lines log pass values ++ need_lines log.state pass.m asked values)
+      (foreign, (turn, (seen, (none_is log.state.outcome current.lasts, (free, (equipped, (unspent, (own, tt))))))))
+
+  pub acquire_granted : Needs pass.m call.Acquire log.state → refusal_of log pass call.Acquire [] ≡ None
+  acquire_granted needs = granted call.Acquire [] refl (or_false _ _ (awake_test log.state pass.m needs.0) needs.1) refl refl refl
+
+  pub take_granted : Needs pass.m call.Take log.state → refusal_of log pass call.Take [] ≡ None
+  take_granted needs = granted call.Take [] refl (awake_test log.state pass.m needs) refl refl refl
+
+  pub poke_granted : Needs pass.m call.Poke log.state → refusal_of log pass call.Poke [] ≡ None
+  poke_granted needs = granted call.Poke [] refl (awake_test log.state pass.m needs) refl refl refl
+
+  pub tick_granted : (moment : ℕ) → Needs pass.m (call.Tick moment) log.state → refusal_of log pass (call.Tick moment) [] ≡ None
+  tick_granted moment needs = granted (call.Tick moment) [] refl (awake_test log.state pass.m needs) refl refl refl
+
+  pub put_granted : (r : Readiness) → Needs pass.m (call.Put r) log.state → refusal_of log pass (call.Put r) (handed.Ticket log.run r ∷ []) ≡ None
+  put_granted r needs =
+      granted (call.Put r) (handed.Ticket log.run r ∷ []) (or_false _ _ (same_run log.run log.run refl) refl) (awake_test log.state pass.m needs.0) refl
+      (or_false _ _ (not_true _ (out_test log.state.table r needs.1)) refl) refl
+
+  pub claim_granted : (r : Readiness) → Needs pass.m (call.Claim r) log.state → refusal_of log pass (call.Claim r) (handed.Ticket log.run r ∷ []) ≡ None
+  claim_granted r needs =
+      let may = needs.0 in
+      granted (call.Claim r) (handed.Ticket log.run r ∷ []) (or_false _ _ (same_run log.run log.run refl) refl)
+      (or_false _ _ (or_false _ _ (awake_test log.state pass.m may.0) may.1) may.2) (not_true _ needs.1)
+      (or_false _ _ (not_true _ (out_test log.state.table r needs.2)) refl) refl
+
+  -- a goroutine's call, by the goroutine that the machine runs
+  held_own : (g : GNo) → IsRunning log.state.table g pass.m → list_any (is_anothers log.state pass.m) (handed.Held log.run g ∷ []) ≡ false
+  held_own g runs = or_false _ _ (not_true _ (runs_test log.state.table g pass.m runs)) refl
+
+  held_run : (g : GNo) → list_any (λ (v : Handed). not (run_of v == log.run)) (handed.Held log.run g ∷ []) ≡ false
+  held_run g = or_false _ _ (same_run log.run log.run refl) refl
+
+  pub go_granted : (g k : GNo) → IsRunning log.state.table g pass.m → refusal_of log pass (call.Go k) (handed.Held log.run g ∷ []) ≡ None
+  go_granted g k runs = granted (call.Go k) (handed.Held log.run g ∷ []) (held_run g) refl refl refl (held_own g runs)
+
+  pub yield_granted : (g : GNo) → IsRunning log.state.table g pass.m → refusal_of log pass call.Yield (handed.Held log.run g ∷ []) ≡ None
+  yield_granted g runs = granted call.Yield (handed.Held log.run g ∷ []) (held_run g) refl refl refl (held_own g runs)
+
+  pub exit_granted : (g : GNo) → IsRunning log.state.table g pass.m → refusal_of log pass call.Exit (handed.Held log.run g ∷ []) ≡ None
+  exit_granted g runs = granted call.Exit (handed.Held log.run g ∷ []) (held_run g) refl refl refl (held_own g runs)
