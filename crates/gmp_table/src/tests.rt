@@ -1,5 +1,5 @@
 use super::*;
-use gmp_base::{GNo, MNo, Readiness};
+use gmp_base::{GNo, MNo, Readiness, Woke};
 use std::test::Fail;
 
 #[test]
@@ -20,5 +20,22 @@ fn opens(rt: HostRuntime) -> Result<(), Fail> {
     table.tick(7);
     table.tick(3);
     assert_eq!(rt; table.clock(), 7);
+    Ok(())
+}
+
+#[test]
+fn claims(rt: HostRuntime) -> Result<(), Fail> {
+    let mut table = StatusTable::open(rt.alloc(), 2)?;
+    let main = Readiness {
+        g: GNo(0),
+        epoch: 1,
+    };
+    assert_eq!(rt; table.unshelve(), Some(main));
+    assert!(rt; table.is_outstanding(main));
+    assert_eq!(rt; table.claim(MNo(1), main), Woke::First);
+    assert_eq!(rt; table.len(), 2);
+    assert!(rt; table.runs(MNo(1), GNo(0)));
+    assert!(rt; !table.runs(MNo(0), GNo(0)));
+    assert!(rt; !table.runs(MNo(1), GNo(1)));
     Ok(())
 }
