@@ -1,5 +1,5 @@
 -- A call is refused only where a line says so: where its needs are met by a pass that may call, none does.
-use Rattle.std.proofs.Common.{◌≡◌, ℕ, ◌==◌, ◌<◌, ◌≤◌, Bool, true, false, not, ◌||◌, ◌&&◌, if◌then◌else◌, nat_lt, nat_le, is_some, Option, None, Some, List, [], ◌∷◌, ◌++◌, length, slice_get, refl, sym, ap, ◌∙◌, arith}
+use Rattle.std.proofs.Common.{◌≡◌, ℕ, ◌==◌, ◌<◌, ◌≤◌, Bool, true, false, not, ◌||◌, ◌&&◌, if◌then◌else◌, nat_lt, nat_le, is_some, is_none, Option, None, Some, List, [], ◌∷◌, ◌++◌, length, slice_get, refl, sym, ap, ◌∙◌, arith}
 use Rattle.std.proofs.lemmas.Bool.{eq-eqb}
 use Rattle.std.proofs.lemmas.Bool.Decides.{nat_tests}
 use Rattle.std.proofs.lemmas.Grind.{common_steps}
@@ -22,6 +22,8 @@ use Rattle.gmp_seq.specs.State.{State}
 use Rattle.gmp_seq.specs.Table.{Table, IsRunning, is_out, is_outstanding, is_running_on, status_at}
 use Rattle.gmp_book.specs.declared.handed.Handed.{Handed}
 use Rattle.gmp_book.specs.declared.handed.Handed.TheVariants as handed
+use Rattle.gmp_slots.specs.Slots.{all_filled}
+use Rattle.gmp_book.specs.Book.{Contents, surrender_lines, report_lines}
 use Rattle.gmp_book.specs.Log.{Log, calls_of}
 use Rattle.gmp_book.specs.Refusals.{IsCurrent, Line, first_refusal, turn_lines, need_lines, refusal_of, is_awake, is_awake_mode, is_busy, lacks_processor, is_foreign, is_spent, is_anothers, run_of}
 
@@ -51,10 +53,10 @@ none_is o e = ap is_some e
 awake_test : (s : State) (m : MNo) → IsAwake s.machines m → not (is_awake s m) ≡ false
 awake_test s m awake = not_true (is_awake s m) (ap (λ (o : Option Mode). option_map_or is_awake_mode o false) awake)
 
-out_test : (t : Table) (r : Readiness) → IsOut t r → is_outstanding t r ≡ true
+pub out_test : (t : Table) (r : Readiness) → IsOut t r → is_outstanding t r ≡ true
 out_test t r out = ap (λ (o : Option Goroutine). option_map_or (λ (x : Goroutine). is_out x.status && (x.epoch == r.epoch)) o false) out.1 ∙ eq-eqb r.epoch r.epoch refl
 
-runs_test : (t : Table) (g : GNo) (m : MNo) → IsRunning t g m → option_map_or (is_running_on m) (status_at t g) false ≡ true
+pub runs_test : (t : Table) (g : GNo) (m : MNo) → IsRunning t g m → option_map_or (is_running_on m) (status_at t g) false ≡ true
 runs_test t g m runs = ap (λ (o : Option Status). option_map_or (is_running_on m) o false) runs ∙ eq-eqb m.0 m.0 refl
 
 module _ (log : Log) (pass : Pass) (run : pass.run ≡ log.run) (current : IsCurrent log pass) where
@@ -109,3 +111,15 @@ module _ (log : Log) (pass : Pass) (run : pass.run ≡ log.run) (current : IsCur
 
   pub exit_granted : (g : GNo) → IsRunning log.state.table g pass.m → refusal_of log pass call.Exit (handed.Held log.run g ∷ []) ≡ None
   exit_granted g runs = granted call.Exit (handed.Held log.run g ∷ []) (held_run g) refl refl refl (held_own g runs)
+
+-- Surrenders and the report
+
+pub surrender_granted : (log : Log) (run : ℕ) (astray : Bool) (why : Refusal) → run ≡ log.run → is_none log.state.outcome ≡ false → astray ≡ false
+    → first_refusal (surrender_lines log run astray why) ≡ None
+surrender_granted log run astray why same over here =
+    none_refuses (surrender_lines log run astray why) (same_run run log.run same, (over, (here, tt)))
+
+pub report_granted : {T Q : Type 0} (book : Contents T Q) → is_none book.log.state.outcome ≡ false → all_filled book.bodies ≡ true → all_filled book.owners ≡ true
+    → first_refusal (report_lines book) ≡ None
+report_granted book over bodies owners =
+    none_refuses (report_lines book) (over, (not_true _ (rw (bodies, owners) refl), tt))

@@ -1,5 +1,5 @@
 //! The book.
-ghost use Rattle.std.specs.Prelude.{◌≡◌, [], ◌∷◌, None, Some, not, length, map, slice_set, is_none, position, option_map, OnOk, OnErr, IfOk, IfErr, IfSome, MatchOption};
+ghost use Rattle.std.specs.Prelude.{◌≡◌, ◌↔◌, ◌<◌, [], ◌∷◌, None, Some, not, length, map, slice_set, is_none, position, option_map, OnOk, OnErr, IfOk, IfErr, IfSome, IfNone, MatchOption};
 ghost use Rattle.gmp_seq.specs.declared.status.Place.TheVariants.{Shelf, Out};
 ghost use Rattle.gmp_seq.specs.Fits.{AreLimits};
 ghost use Rattle.gmp_seq.specs.Machines.{is_parked};
@@ -139,7 +139,9 @@ impl<T, Q> Book<T, Q> {
 
     /// How the run ended, if it did.
     pub fn outcome(&self) -> Option<Outcome>
-        ensures { result ≡ self.now.log.state.outcome }
+        ensures outcome { result ≡ self.now.log.state.outcome }
+        // While the run lasts another entry fits.
+        ensures ongoing { IfNone result (length self.now.log.history < self.now.log.limits.entries) }
     {
         self.ledger.outcome()
     }
@@ -271,6 +273,7 @@ impl<T, Q> Book<T, Q> {
         ensures back { IfErr result (λ r. r.back ≡ held) }
         ensures err { OnErr result ((self.new ≡ self.old) × (pass.new ≡ pass.old)) }
         ensures entry { IfOk result (λ e. Records self.old.log pass.old Call.Exit (left e) self.new.log pass.new) }
+        ensures main { IfOk result (λ e. e ≡ Exited.MainEnded ↔ (held.g.0 ≡ 0)) }
         ensures dead { OnOk result (self.new.log.state.table ≡ set_status self.old.log.state.table held.g Status.Dead) }
         ensures body { OnOk result (TakesBack self.old self.new held) }
     {
@@ -302,6 +305,7 @@ impl<T, Q> Book<T, Q> {
         ensures refused { refusal_in result ≡ refusal_of self.old.log pass.old (Call.Tick now) [] }
         ensures err { OnErr result ((self.new ≡ self.old) × (pass.new ≡ pass.old)) }
         ensures entry { IfOk result (λ n. Records self.old.log pass.old (Call.Tick now) (Reply.Woke n) self.new.log pass.new) }
+        ensures nobody { IfOk result (λ n. (n ≡ 0) × (self.new.log.state.table.goroutines ≡ self.old.log.state.table.goroutines)) }
         ensures values { OnOk result (SameValues self.old self.new) }
     {
         let _ = &self.bodies;

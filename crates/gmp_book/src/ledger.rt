@@ -1,5 +1,5 @@
 //! The run so far, and the calls that go on with it.
-ghost use Rattle.std.specs.Prelude.{◌≡◌, ◌+◌, ◌<◌, ◌^◌, ◌≢◌, None, Some, [], ◌∷◌, ◌++◌, length, slice_index, slice_set, IfOk, IfNone, IfSome, is_none, position};
+ghost use Rattle.std.specs.Prelude.{◌≡◌, ◌↔◌, ◌+◌, ◌<◌, ◌^◌, ◌≢◌, None, Some, [], ◌∷◌, ◌++◌, length, slice_index, slice_set, IfOk, IfNone, IfSome, is_none, position};
 ghost use Rattle.gmp_base.specs.declared.number.GNo.{GNo};
 ghost use Rattle.gmp_seq.specs.Fits.{AreLimits};
 ghost use Rattle.gmp_seq.specs.Machines.{is_parked};
@@ -294,6 +294,7 @@ impl Ledger {
         requires ongoing { self.old.state.outcome ≡ None }
         requires runs { IsRunning self.old.state.table g m }
         ensures records { Enters self.old m Call.Exit (left result) self.new }
+        ensures main { result ≡ Exited.MainEnded ↔ (g.0 ≡ 0) }
         ensures ends { g.0 ≡ 0 → self.new.state.outcome ≡ Some Outcome.MainEnded }
         ensures table { self.new.state.table ≡ set_status self.old.state.table g Status.Dead }
     {

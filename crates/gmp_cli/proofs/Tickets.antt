@@ -139,6 +139,19 @@ parted_tickets old new g y tickets becomes runs off idle kept =
       runs = rw becomes (popped (is_running_on machine) old.goroutines g row.row y [] kept.runs row.at was_on idle);
     }
 
+-- no row changes
+issued_same : (old new : Table) (tickets : List Readiness) → new.goroutines ≡ old.goroutines → AreIssued old tickets → AreIssued new tickets
+issued_same old new [] same issued = tt
+issued_same old new (r ∷ tickets) same issued =
+    (ap (λ (gs : List Goroutine). option_map_or (λ (z : Goroutine). z.epoch) (slice_get gs r.g.0) 0) same ∙ issued.0, issued_same old new tickets same issued.1)
+
+pub ticked_tickets : (old new : Table) (tickets : List Readiness) → new.goroutines ≡ old.goroutines → AreTickets old tickets [] → AreTickets new tickets []
+ticked_tickets old new tickets same kept = record {
+  outs = rw same kept.outs;
+  issued = issued_same old new tickets same kept.issued;
+  runs = rw same kept.runs;
+}
+
 -- Who runs, and which ticket is out
 
 -- the goroutine that is listed as running runs

@@ -1,24 +1,24 @@
 -- What one machine keeps while it drives a run.
-use Rattle.std.specs.Prelude.{◌≡◌, ℕ, ◌+◌, ◌≤◌, Bool, true, false, None, List, [], ◌∷◌, ◌++◌, length, map}
+use Rattle.std.specs.Prelude.{◌≡◌, ℕ, ◌+◌, ◌≤◌, ◌<◌, Bool, true, false, Option, None, Some, List, [], ◌∷◌, ◌++◌, length, map, slice_set}
 use Rattle.gmp_base.specs.declared.number.GNo.{GNo}
 use Rattle.gmp_base.specs.declared.number.MNo.{MNo}
 use Rattle.gmp_base.specs.declared.number.Readiness.{Readiness}
+use Rattle.gmp_base.specs.declared.pass.Pass.{Pass}
+use Rattle.gmp_base.specs.Values.{readiness_of}
 use Rattle.gmp_book.specs.declared.report.Report.{Report}
-use Rattle.gmp_book.specs.Log.{Log}
+use Rattle.gmp_book.specs.Book.{Contents}
+use Rattle.gmp_book.specs.Log.{Log, calls_of}
 use Rattle.gmp_seq.specs.declared.status.Status.{Status}
 use Rattle.gmp_seq.specs.declared.status.Status.TheVariants.{Ready}
 use Rattle.gmp_seq.specs.Fits.{AreLimits}
 use Rattle.gmp_seq.specs.Machines.{Machines, IsAwake, has_processor, some_idle, spins}
 use Rattle.gmp_seq.specs.Run.{IsLegal}
+use Rattle.gmp_seq.specs.State.{State}
 use Rattle.gmp_seq.specs.Table.{Table, epoch_at, is_out, is_running_on}
+use Rattle.gmp_slots.specs.Slots.{is_vacant, all_filled}
 use Rattle.gmp_table.specs.Kept.{IsListing, passes_at}
-use Rattle.gmp_cli.specs.declared.machine.Place.{Place}
-use Rattle.gmp_cli.specs.declared.machine.Place.TheVariants.{Start, Claim, Run, Poke}
-
--- the run that the book keeps, and where the machine stands
-pub record Standing : Type 0 where
-  pub log : Log
-  pub place : Place
+use Rattle.gmp_cli.specs.declared.machine.Hand.{Hand}
+use Rattle.gmp_cli.specs.declared.machine.Hand.TheVariants.{Start, Look, Claim, Run, Poke}
 
 -- What callers see
 
@@ -33,14 +33,14 @@ pub record GoesOn (old new : Log) : Type 0 where
   pub opened : SameOpening old new
   pub longer : length new.history ≡ length old.history + 1
 
--- the report tells the run: its history is legal, and its outcome is that of the state that the history leads to
-pub record IsReportOf (log : Log) (report : Report) : Type 0 where
+-- the report tells a run that was opened so: its history is legal, and its outcome is that of the state that the history leads to
+pub record IsReportOf {T Q : Type 0} (log : Log) (report : Report T Q) : Type 0 where
   pub limits : report.limits ≡ log.limits
-  pub bodies : report.bodies ≡ log.bodies
+  pub bodies : length report.bodies.items ≡ log.bodies
   pub capacities : report.capacities.items ≡ log.capacities
-  pub history : report.history.items ≡ log.history
-  pub outcome : report.outcome ≡ log.state.outcome
-  pub legal : IsLegal log.limits log.bodies log.capacities log.history log.state
+  pub last : State
+  pub legal : IsLegal log.limits log.bodies log.capacities report.history.items last
+  pub outcome : Some report.outcome ≡ last.outcome
   pub within : AreLimits log.limits log.bodies log.capacities
 
 -- The machine
@@ -48,21 +48,28 @@ pub record IsReportOf (log : Log) (report : Report) : Type 0 where
 abbrev pub machine : MNo
 machine = record { 0 = 0 }
 
--- the ticket in hand
-abbrev pub in_hand : Place → List Readiness
-in_hand (Claim r) = r ∷ []
-in_hand _ = []
+-- where it stands: the ticket in hand, who runs, and whether it holds its processor
+pub record Stand : Type 0 where
+  pub hand : List Readiness
+  pub running : List GNo
+  pub equipped : Bool
 
--- who runs
-abbrev pub runner : Place → List GNo
-runner (Run g woke) = g ∷ []
-runner (Poke g) = g ∷ []
-runner _ = []
+abbrev pub starting : Stand
+starting = record { hand = []; running = []; equipped = false }
 
--- the processor: it is idle at the start, and held from then on
-abbrev pub HoldsAt : Place → Machines → Type 0
-HoldsAt Start w = IsAwake w machine × (has_processor w machine ≡ false) × (some_idle w ≡ true) × (spins w machine ≡ false)
-HoldsAt _ w = IsAwake w machine × (has_processor w machine ≡ true) × (spins w machine ≡ false)
+abbrev pub looking : Stand
+looking = record { hand = []; running = []; equipped = true }
+
+abbrev pub claiming : Readiness → Stand
+claiming r = record { hand = r ∷ []; running = []; equipped = true }
+
+abbrev pub running_one : GNo → Stand
+running_one g = record { hand = []; running = g ∷ []; equipped = true }
+
+-- the processor is idle at the start, and held from then on
+abbrev pub HoldsAt : Bool → Machines → Type 0
+HoldsAt false w = IsAwake w machine × (has_processor w machine ≡ false) × (some_idle w ≡ true) × (spins w machine ≡ false)
+HoldsAt true w = IsAwake w machine × (has_processor w machine ≡ true) × (spins w machine ≡ false)
 
 abbrev pub owners : List Readiness → List GNo
 owners tickets = map (λ (r : Readiness). r.g) tickets
@@ -83,10 +90,65 @@ abbrev pub is_live : Status → Bool
 is_live (Ready place answer) = true
 is_live s = is_running_on machine s
 
-pub record IsDriven (log : Log) (queue : List Readiness) (capacity : ℕ) (place : Place) (bodies : ℕ) : Type 0 where
-  pub tickets : AreTickets log.state.table (in_hand place ++ queue) (runner place)
+-- the tickets that are out are in hand or in the queue, and goroutine 0 goes on
+pub record IsDriven (log : Log) (queue : List Readiness) (capacity : ℕ) (stand : Stand) (bodies : ℕ) : Type 0 where
+  pub tickets : AreTickets log.state.table (stand.hand ++ queue) stand.running
   -- while the run lasts goroutine 0 is ready or runs
   pub live : log.state.outcome ≡ None → passes_at is_live log.state.table.goroutines 0 ≡ true
   pub stock : length log.state.table.goroutines ≡ bodies
   pub room : bodies ≤ capacity
-  pub holds : HoldsAt place log.state.machines
+  pub holds : HoldsAt stand.equipped log.state.machines
+
+-- the pass is the machine's latest
+pub record IsLatest (log : Log) (pass : Pass) : Type 0 where
+  pub run : pass.run ≡ log.run
+  pub m : pass.m ≡ machine
+  pub there : machine.0 < log.limits.machines
+  pub counted : machine.0 < length log.state.counts
+  pub turn : pass.calls ≡ calls_of log machine
+  pub few : pass.calls ≤ length log.history
+  pub seen : pass.seen ≤ length log.history
+
+-- What the machine holds
+
+abbrev pub stand_of : Hand → Stand
+stand_of Start = starting
+stand_of (Look proc) = looking
+stand_of (Claim proc ticket) = claiming (readiness_of ticket)
+stand_of (Run proc held) = running_one held.g
+stand_of (Poke proc held) = running_one held.g
+
+-- each value is of this run
+abbrev pub AreOfRun : ℕ → Hand → Type 0
+AreOfRun run Start = Unit {0}
+AreOfRun run (Look proc) = proc.run ≡ run
+AreOfRun run (Claim proc ticket) = (proc.run ≡ run) × (ticket.run ≡ run)
+AreOfRun run (Run proc held) = (proc.run ≡ run) × (held.run ≡ run)
+AreOfRun run (Poke proc held) = (proc.run ≡ run) × (held.run ≡ run)
+
+-- the one place that is empty is this
+pub record LacksOne {X : Type 0} (slots : List (Option X)) (i : ℕ) : Type 0 where
+  pub vacant : is_vacant slots i ≡ true
+  pub rest : (x : X) → all_filled (slice_set slots i (Some x)) ≡ true
+
+-- the body that is out is held
+abbrev pub BodiesBut : {X : Type 0} → List (Option X) → Hand → Type 0
+BodiesBut bodies (Run proc held) = LacksOne bodies held.g.0
+BodiesBut bodies (Poke proc held) = LacksOne bodies held.g.0
+BodiesBut bodies _ = all_filled bodies ≡ true
+
+-- the owner that is out is that of the processor that is held
+abbrev pub OwnersBut : {X : Type 0} → List (Option X) → Hand → Type 0
+OwnersBut owners Start = all_filled owners ≡ true
+OwnersBut owners (Look proc) = LacksOne owners proc.p.0
+OwnersBut owners (Claim proc ticket) = LacksOne owners proc.p.0
+OwnersBut owners (Run proc held) = LacksOne owners proc.p.0
+OwnersBut owners (Poke proc held) = LacksOne owners proc.p.0
+
+-- the machine with its book, its pass, its queue, and what it holds
+pub record Drives {T Q : Type 0} (book : Contents T Q) (pass : Pass) (queue : List Readiness) (capacity : ℕ) (hand : Hand) : Type 0 where
+  pub driven : IsDriven book.log queue capacity (stand_of hand) (length book.bodies)
+  pub latest : IsLatest book.log pass
+  pub run : AreOfRun book.log.run hand
+  pub bodies : BodiesBut book.bodies hand
+  pub owners : OwnersBut book.owners hand

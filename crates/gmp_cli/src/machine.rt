@@ -1,19 +1,21 @@
 //! One machine with a processor, and its own queue of tickets: the loop of the driver's table over the book.
-ghost use Rattle.std.specs.Prelude.{◌≡◌, None, [], length, IfOk, IsSome};
+ghost use Rattle.std.specs.Prelude.{◌≡◌, ◌⊎◌, true, false, None, Some, [], length, slice_set, is_none, IfOk, IfErr};
+ghost use Rattle.gmp_base.specs.Values.{readiness_of};
+ghost use Rattle.gmp_seq.specs.Table.{is_outstanding};
+ghost use Rattle.gmp_slots.specs.Slots.{is_vacant};
+ghost use Rattle.gmp_base.specs.declared.refusal.Refusal.TheVariants.{BadLimits, OutOfMemory};
 ghost use Rattle.gmp_book.specs.Log.{opening_log};
-ghost use Rattle.gmp_cli.specs.Driven.{SameOpening, GoesOn, IsReportOf};
 ghost use Rattle.gmp_seq.specs.Fits.{AreLimits};
 
 use crate::commands::ScriptBody;
 use circular_buffer::HeapCircularBuffer;
-use gmp_base::{Ask, Body, GNo, MNo, Readiness, Woke};
-use gmp_book::{Ledger, Report};
+use gmp_base::{Ask, Body, GNo, Held, Pass, Proc, Readiness, Refusal, Refused, Ticket};
+use gmp_book::{Book, Report, Unopened, Went};
 use gmp_seq::Limits;
-use std::alloc::{AllocError, Global};
-use std::marker::Model;
+use std::alloc::Global;
 
-/// The machine that runs a script.
-const M: MNo = MNo(0);
+/// The number of the run: there is one.
+const RUN: u64 = 0;
 
 /// After so many claims the machine looks at the clock.
 const TURNS: u8 = 16;
@@ -21,215 +23,386 @@ const TURNS: u8 = 16;
 /// What the clock reads.
 const READING: u64 = 0;
 
-/// Where the machine stands in its program.
-#[derive(Clone, Copy, Debug, PartialEq, Eq)]
-pub(crate) enum Place {
+/// What the machine holds, by where it stands in its program.
+pub(crate) enum Hand {
     /// It holds no processor yet.
     Start,
     /// It looks for a ticket.
-    Look,
+    Look(Proc<()>),
     /// It has a ticket to claim.
-    Claim(Readiness),
-    /// It runs a goroutine, which is resumed next with this answer.
-    Run(GNo, Woke),
+    Claim(Proc<()>, Ticket),
+    /// It runs a goroutine, which is resumed next.
+    Run(Proc<()>, Held<ScriptBody>),
     /// Its goroutine gave it a ticket, for which another machine may wake.
-    Poke(GNo),
+    Poke(Proc<()>, Held<ScriptBody>),
 }
 
-/// The machine: its book, its bodies, its own queue, first in, first out, and where it stands.
+/// The machine: its book, its pass, and its own queue, first in, first out.
 ///
 /// Each goroutine that is ready has its ticket in one place: the shelf, the own queue, or the machine's hand.
-#[derive(Drop)]
 pub(crate) struct Machine {
-    book: Ledger,
-    bodies: Vec<ScriptBody>,
+    book: Book<ScriptBody, ()>,
+    pass: Pass,
     queue: HeapCircularBuffer<Readiness>,
-    place: Place,
     /// Claims since the last tick, up to 16.
     turns: u8,
     /// A tick woke somebody, and no other machine was told yet.
     fresh: bool,
 }
 
-impl Model for Machine {
-    ghost use Rattle.std.specs.Prelude.{length};
-    ghost use Rattle.gmp_cli.specs.Driven.{Standing, IsDriven};
+/// Gives a body back once the run is over.
+fn give_held(book: &mut Book<ScriptBody, ()>, held: Held<ScriptBody>)
+    requires over { is_none book.old.log.state.outcome ≡ false }
+    requires run { held.run ≡ book.old.log.run }
+    requires out { is_vacant book.old.bodies held.g.0 ≡ true }
+    ensures { book.new ≡ record book.old { bodies = slice_set book.old.bodies held.g.0 (Some held.body) } }
+{
+    match book.surrender_held(held) {
+        Ok(()) => {}
+        Err(
+            Refused {
+                why: _,
+                back: _held,
+            },
+        ) => unreachable!(),
+    }
+}
 
-    ghost Value = { Standing };
+/// Gives a ticket back once the run is over.
+fn give_ticket(book: &mut Book<ScriptBody, ()>, ticket: Ticket)
+    requires over { is_none book.old.log.state.outcome ≡ false }
+    requires run { ticket.run ≡ book.old.log.run }
+    requires out { is_outstanding book.old.log.state.table (readiness_of ticket) ≡ true }
+    ensures { book.new ≡ book.old }
+{
+    match book.surrender_ticket(ticket) {
+        Ok(()) => {}
+        Err(
+            Refused {
+                why: _,
+                back: _ticket,
+            },
+        ) => unreachable!(),
+    }
+}
 
-    ghost view = { λ m. record { log = m.book; place = m.place } };
-
-    ghost invariant = { λ m. IsDriven m.book m.queue.items m.queue.capacity m.place (length m.bodies.items) };
+/// Gives the processor back once the run is over.
+fn give_proc(book: &mut Book<ScriptBody, ()>, proc: Proc<()>)
+    requires over { is_none book.old.log.state.outcome ≡ false }
+    requires run { proc.run ≡ book.old.log.run }
+    requires out { is_vacant book.old.owners proc.p.0 ≡ true }
+    ensures { book.new ≡ record book.old { owners = slice_set book.old.owners proc.p.0 (Some proc.owner) } }
+{
+    match book.surrender_proc(proc) {
+        Ok(()) => {}
+        Err(
+            Refused {
+                why: _,
+                back: _proc,
+            },
+        ) => unreachable!(),
+    }
 }
 
 impl Machine {
+    ghost use Rattle.gmp_cli.specs.Driven.{Drives, SameOpening, GoesOn, IsReportOf};
+
     /// The machine before its first call.
     pub(crate) fn open(
         alloc: Global,
         limits: Limits,
         bodies: Vec<ScriptBody>,
-    ) -> Result<Self, AllocError>
-        requires { AreLimits limits (length bodies.items) [] }
-        ensures { IfOk result (λ m. m.log ≡ opening_log limits (length bodies.items) []) }
+    ) -> Result<Self, Refusal>
+        requires { limits.machines ≡ 1 }
+        ensures within { IfOk result (λ _. AreLimits limits (length bodies.items) []) }
+        ensures log { IfOk result (λ m. m.book.log ≡ opening_log RUN limits (length bodies.items) []) }
+        ensures drives { IfOk result (λ m. Drives m.book m.pass m.queue.items m.queue.capacity Hand.Start) }
+        ensures why { IfErr result (λ why. (why ≡ BadLimits) ⊎ (why ≡ OutOfMemory)) }
     {
-        let count = bodies.len();
-        let queue = HeapCircularBuffer::with_capacity(alloc, count)?;
-        let book = Ledger::open(alloc, limits, count as u16, Vec::new(alloc))?;
-        Ok(Machine {
-            book,
-            bodies,
-            queue,
-            place: Place::Start,
-            turns: 0,
-            fresh: false,
-        })
-    }
-
-    /// Makes calls until the run has an outcome.
-    pub(crate) fn run(&mut self)
-        ensures opened { SameOpening self.old.log self.new.log }
-        ensures over { IsSome self.new.log.state.outcome }
-    {
-        while self.book.outcome().is_none() {
-            self.call();
+        let Ok(queue) = HeapCircularBuffer::with_capacity(alloc, bodies.len()) else {
+            return Err(Refusal::OutOfMemory);
+        };
+        let Ok(owners) = vec![in alloc; (); limits.procs as usize] else {
+            return Err(Refusal::OutOfMemory);
+        };
+        match Book::open(alloc, RUN, limits, &[], bodies, owners) {
+            Err(
+                Unopened {
+                    why,
+                    bodies: _,
+                    owners: _,
+                },
+            ) => Err(why),
+            Ok((book, mut passes)) => {
+                let Some(pass) = passes.pop() else {
+                    unreachable!()
+                };
+                passes.destroy_empty();
+                Ok(Machine {
+                    book,
+                    pass,
+                    queue,
+                    turns: 0,
+                    fresh: false,
+                })
+            }
         }
     }
 
-    /// What is left of the run.
-    pub(crate) fn into_report(self) -> Report
-        ensures { IsReportOf self.log result }
+    /// Makes calls until the run has an outcome, and gives back all that it holds then.
+    pub(crate) fn run(self) -> Report<ScriptBody, ()>
+        requires { Drives self.book self.pass self.queue.items self.queue.capacity Hand.Start }
+        ensures { IsReportOf self.book.log result }
+    {
+        let mut machine = self;
+        let mut hand = Hand::Start;
+        while machine.book.outcome().is_none() {
+            hand = machine.call(hand);
+        }
+        machine.close(hand)
+    }
+
+    /// Gives all back, and tells the run.
+    fn close(self, hand: Hand) -> Report<ScriptBody, ()>
+        requires over { is_none self.book.log.state.outcome ≡ false }
+        requires drives { Drives self.book self.pass self.queue.items self.queue.capacity hand }
+        ensures { IsReportOf self.book.log result }
     {
         let Machine {
-            book,
-            bodies: _,
+            mut book,
+            pass,
             queue: _,
-            place: _,
             turns: _,
             fresh: _,
         } = self;
-        book.into_report()
+        pass.open();
+        match hand {
+            Hand::Start => {}
+            Hand::Look(proc) => give_proc(&mut book, proc),
+            Hand::Claim(proc, ticket) => {
+                give_ticket(&mut book, ticket);
+                give_proc(&mut book, proc);
+            }
+            Hand::Run(proc, held) | Hand::Poke(proc, held) => {
+                give_held(&mut book, held);
+                give_proc(&mut book, proc);
+            }
+        }
+        match book.into_report() {
+            Ok(report) => report,
+            Err(_) => unreachable!(),
+        }
     }
 
     /// Makes the next call of the machine's program.
-    fn call(&mut self)
-        requires { self.old.log.state.outcome ≡ None }
-        ensures { GoesOn self.old.log self.new.log }
+    fn call(&mut self, hand: Hand) -> Hand
+        requires ongoing { self.old.book.log.state.outcome ≡ None }
+        requires drives { Drives self.old.book self.old.pass self.old.queue.items self.old.queue.capacity hand }
+        ensures drives { Drives self.new.book self.new.pass self.new.queue.items self.new.queue.capacity result }
+        ensures goes { GoesOn self.old.book.log self.new.book.log }
     {
-        match self.place {
-            Place::Start => self.start(),
-            Place::Look => self.look(),
-            Place::Claim(r) => self.claim(r),
-            Place::Run(g, woke) => self.resume(g, woke),
-            Place::Poke(g) => self.poke(g),
+        match hand {
+            Hand::Start => self.start(),
+            Hand::Look(proc) => self.look(proc),
+            Hand::Claim(proc, ticket) => self.claim(proc, ticket),
+            Hand::Run(proc, held) => self.resume(proc, held),
+            Hand::Poke(proc, held) => self.poke(proc, held),
         }
     }
 
     /// Takes a processor.
-    fn start(&mut self)
-        requires ongoing { self.old.log.state.outcome ≡ None }
-        requires place { self.old.place ≡ Place.Start }
-        ensures { GoesOn self.old.log self.new.log }
+    fn start(&mut self) -> Hand
+        requires ongoing { self.old.book.log.state.outcome ≡ None }
+        requires drives { Drives self.old.book self.old.pass self.old.queue.items self.old.queue.capacity Hand.Start }
+        ensures drives { Drives self.new.book self.new.pass self.new.queue.items self.new.queue.capacity result }
+        ensures goes { GoesOn self.old.book.log self.new.book.log }
     {
-        self.book.acquire(M);
-        self.place = Place::Look;
+        match self.book.acquire(&mut self.pass) {
+            Ok(Some(proc)) => Hand::Look(proc),
+            _ => unreachable!(),
+        }
     }
 
     /// Looks at the clock after so many claims, else for a ticket: in the own queue, then on the shelf.
-    fn look(&mut self)
-        requires ongoing { self.old.log.state.outcome ≡ None }
-        requires place { self.old.place ≡ Place.Look }
-        ensures { GoesOn self.old.log self.new.log }
+    fn look(&mut self, proc: Proc<()>) -> Hand
+        requires ongoing { self.old.book.log.state.outcome ≡ None }
+        requires drives { Drives self.old.book self.old.pass self.old.queue.items self.old.queue.capacity (Hand.Look proc) }
+        ensures drives { Drives self.new.book self.new.pass self.new.queue.items self.new.queue.capacity result }
+        ensures goes { GoesOn self.old.book.log self.new.book.log }
     {
         if self.turns == TURNS {
-            return self.tick();
+            return self.tick(proc);
         }
         match self.queue.pop_front() {
-            Some(r) => {
-                self.place = Place::Claim(r);
-                self.claim(r);
-            }
-            None => {
-                // Goroutine 0 is ready, so its ticket is on the shelf.
-                let Some(r) = self.book.take(M) else {
-                    unreachable!()
-                };
-                self.place = Place::Claim(r);
-            }
+            Some(r) => self.claim(proc, Ticket::of(self.pass.run, r.g, r.epoch)),
+            None => self.take(proc),
         }
     }
 
     /// Tells the book the clock's reading. Its tick wakes nobody, since nobody waits.
-    fn tick(&mut self)
-        requires ongoing { self.old.log.state.outcome ≡ None }
-        requires place { self.old.place ≡ Place.Look }
-        ensures { GoesOn self.old.log self.new.log }
+    fn tick(&mut self, proc: Proc<()>) -> Hand
+        requires ongoing { self.old.book.log.state.outcome ≡ None }
+        requires drives { Drives self.old.book self.old.pass self.old.queue.items self.old.queue.capacity (Hand.Look proc) }
+        ensures drives { Drives self.new.book self.new.pass self.new.queue.items self.new.queue.capacity result }
+        ensures goes { GoesOn self.old.book.log self.new.book.log }
     {
-        let woken = self.book.tick(M, READING);
-        self.turns = 0;
-        if woken > 0 {
-            self.fresh = true;
+        match self.book.tick(&mut self.pass, READING) {
+            Ok(woken) => {
+                self.turns = 0;
+                if woken > 0 {
+                    self.fresh = true;
+                }
+                Hand::Look(proc)
+            }
+            Err(_) => unreachable!(),
+        }
+    }
+
+    /// Takes a ticket from the shelf: with no ticket in the own queue, goroutine 0 is on it.
+    fn take(&mut self, proc: Proc<()>) -> Hand
+        requires ongoing { self.old.book.log.state.outcome ≡ None }
+        requires empty { self.old.queue.items ≡ [] }
+        requires drives { Drives self.old.book self.old.pass self.old.queue.items self.old.queue.capacity (Hand.Look proc) }
+        ensures drives { Drives self.new.book self.new.pass self.new.queue.items self.new.queue.capacity result }
+        ensures goes { GoesOn self.old.book.log self.new.book.log }
+    {
+        match self.book.take(&mut self.pass) {
+            Ok(Some(ticket)) => Hand::Claim(proc, ticket),
+            Ok(None) => unreachable!(),
+            Err(_) => unreachable!(),
         }
     }
 
     /// Spends the ticket in hand. Where the machine is fresh, it wakes another one first.
-    fn claim(&mut self, r: Readiness)
-        requires ongoing { self.old.log.state.outcome ≡ None }
-        requires place { self.old.place ≡ Place.Claim r }
-        ensures { GoesOn self.old.log self.new.log }
+    fn claim(&mut self, proc: Proc<()>, ticket: Ticket) -> Hand
+        requires ongoing { self.old.book.log.state.outcome ≡ None }
+        requires drives { Drives self.old.book self.old.pass self.old.queue.items self.old.queue.capacity (Hand.Claim proc ticket) }
+        ensures drives { Drives self.new.book self.new.pass self.new.queue.items self.new.queue.capacity result }
+        ensures goes { GoesOn self.old.book.log self.new.book.log }
     {
         if self.fresh {
-            self.book.poke(M);
-            self.fresh = false;
-            return;
+            return self.freshen(proc, ticket);
         }
-        let woke = self.book.claim(M, r);
-        self.turns = self.turns.saturating_add(1).min(TURNS);
-        self.place = Place::Run(r.g, woke);
+        match self.book.claim(&mut self.pass, ticket) {
+            Ok(held) => {
+                self.turns = self.turns.saturating_add(1).min(TURNS);
+                Hand::Run(proc, held)
+            }
+            Err(
+                Refused {
+                    why: _,
+                    back: _ticket,
+                },
+            ) => unreachable!(),
+        }
+    }
+
+    /// Wakes another machine, where one is to be woken, for what the last tick woke.
+    fn freshen(&mut self, proc: Proc<()>, ticket: Ticket) -> Hand
+        requires ongoing { self.old.book.log.state.outcome ≡ None }
+        requires drives { Drives self.old.book self.old.pass self.old.queue.items self.old.queue.capacity (Hand.Claim proc ticket) }
+        ensures drives { Drives self.new.book self.new.pass self.new.queue.items self.new.queue.capacity result }
+        ensures goes { GoesOn self.old.book.log self.new.book.log }
+    {
+        match self.book.poke(&mut self.pass) {
+            Ok(_) => {
+                self.fresh = false;
+                Hand::Claim(proc, ticket)
+            }
+            Err(_) => unreachable!(),
+        }
     }
 
     /// Resumes the body, and makes the call that it asks for.
-    fn resume(&mut self, g: GNo, woke: Woke)
-        requires ongoing { self.old.log.state.outcome ≡ None }
-        requires place { self.old.place ≡ Place.Run g woke }
-        ensures { GoesOn self.old.log self.new.log }
+    fn resume(&mut self, proc: Proc<()>, held: Held<ScriptBody>) -> Hand
+        requires ongoing { self.old.book.log.state.outcome ≡ None }
+        requires drives { Drives self.old.book self.old.pass self.old.queue.items self.old.queue.capacity (Hand.Run proc held) }
+        ensures drives { Drives self.new.book self.new.pass self.new.queue.items self.new.queue.capacity result }
+        ensures goes { GoesOn self.old.book.log self.new.book.log }
     {
-        match self.bodies[g.0 as usize].resume(woke) {
-            Ask::Yield => {
-                self.book.yield_to(M, g);
-                self.place = Place::Look;
-            }
-            Ask::Exit => {
-                self.book.exit(M, g);
-                self.place = Place::Look;
-            }
-            Ask::Go(body) => self.go(g, woke, body),
+        let (run, g, woke, mut body) = held.open();
+        let ask = body.resume(woke);
+        let held = Held::of(run, g, woke, body);
+        match ask {
+            Ask::Yield => self.yield_to(proc, held),
+            Ask::Exit => self.exit(proc, held),
+            Ask::Go(body) => self.go(proc, held, body),
             // A body of a script asks nothing else.
             _ => unreachable!(),
         }
     }
 
-    /// Starts a body for g, whose ticket goes onto the own queue.
-    fn go(&mut self, g: GNo, woke: Woke, body: GNo)
-        requires ongoing { self.old.log.state.outcome ≡ None }
-        requires place { self.old.place ≡ Place.Run g woke }
-        ensures { GoesOn self.old.log self.new.log }
+    /// The goroutine goes onto the shelf.
+    fn yield_to(&mut self, proc: Proc<()>, held: Held<ScriptBody>) -> Hand
+        requires ongoing { self.old.book.log.state.outcome ≡ None }
+        requires drives { Drives self.old.book self.old.pass self.old.queue.items self.old.queue.capacity (Hand.Run proc held) }
+        ensures drives { Drives self.new.book self.new.pass self.new.queue.items self.new.queue.capacity result }
+        ensures goes { GoesOn self.old.book.log self.new.book.log }
     {
-        match self.book.go(M, body) {
-            Ok(r) => {
-                self.queue.push_back(r);
-                self.place = Place::Poke(g);
-            }
-            Err(fault) => self.place = Place::Run(g, Woke::Fault(fault)),
+        match self.book.yield_to(&mut self.pass, held) {
+            Ok(()) => Hand::Look(proc),
+            Err(
+                Refused {
+                    why: _,
+                    back: _held,
+                },
+            ) => unreachable!(),
+        }
+    }
+
+    /// The goroutine ends, and with goroutine 0 the run.
+    fn exit(&mut self, proc: Proc<()>, held: Held<ScriptBody>) -> Hand
+        requires ongoing { self.old.book.log.state.outcome ≡ None }
+        requires drives { Drives self.old.book self.old.pass self.old.queue.items self.old.queue.capacity (Hand.Run proc held) }
+        ensures drives { Drives self.new.book self.new.pass self.new.queue.items self.new.queue.capacity result }
+        ensures goes { GoesOn self.old.book.log self.new.book.log }
+    {
+        match self.book.exit(&mut self.pass, held) {
+            Ok(_) => Hand::Look(proc),
+            Err(
+                Refused {
+                    why: _,
+                    back: _held,
+                },
+            ) => unreachable!(),
+        }
+    }
+
+    /// Starts a body, whose ticket goes onto the own queue.
+    fn go(&mut self, proc: Proc<()>, held: Held<ScriptBody>, body: GNo) -> Hand
+        requires ongoing { self.old.book.log.state.outcome ≡ None }
+        requires drives { Drives self.old.book self.old.pass self.old.queue.items self.old.queue.capacity (Hand.Run proc held) }
+        ensures drives { Drives self.new.book self.new.pass self.new.queue.items self.new.queue.capacity result }
+        ensures goes { GoesOn self.old.book.log self.new.book.log }
+    {
+        match self.book.go(&mut self.pass, held, body) {
+            Ok(Went { held, push }) => match push {
+                Some(ticket) => {
+                    self.queue.push_back(ticket.readiness());
+                    ticket.open();
+                    Hand::Poke(proc, held)
+                }
+                None => Hand::Run(proc, held),
+            },
+            Err(
+                Refused {
+                    why: _,
+                    back: _held,
+                },
+            ) => unreachable!(),
         }
     }
 
     /// Wakes another machine for the ticket that went onto the own queue, where one is to be woken.
-    fn poke(&mut self, g: GNo)
-        requires ongoing { self.old.log.state.outcome ≡ None }
-        requires place { self.old.place ≡ Place.Poke g }
-        ensures { GoesOn self.old.log self.new.log }
+    fn poke(&mut self, proc: Proc<()>, held: Held<ScriptBody>) -> Hand
+        requires ongoing { self.old.book.log.state.outcome ≡ None }
+        requires drives { Drives self.old.book self.old.pass self.old.queue.items self.old.queue.capacity (Hand.Poke proc held) }
+        ensures drives { Drives self.new.book self.new.pass self.new.queue.items self.new.queue.capacity result }
+        ensures goes { GoesOn self.old.book.log self.new.book.log }
     {
-        self.book.poke(M);
-        self.place = Place::Run(g, Woke::Done);
+        match self.book.poke(&mut self.pass) {
+            Ok(_) => Hand::Run(proc, held),
+            Err(_) => unreachable!(),
+        }
     }
 }

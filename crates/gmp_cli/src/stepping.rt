@@ -13,7 +13,7 @@ use crate::options::Settings;
 use crate::parsing::script;
 use crate::reading::MAX_INPUT;
 use crate::said::Said;
-use gmp_book::in_range;
+use gmp_base::Refusal;
 use gmp_seq::Limits;
 use gmp_trace::{End, Trace, WriteError, write};
 use std::alloc::Global;
@@ -38,18 +38,21 @@ fn run(alloc: Global, limits: Limits, bodies: Vec<ScriptBody>) -> Result<Trace, 
     ensures over { IfOk result (λ x. x.end ≢ End.Running) }
     ensures err { IfErr result (λ e. (e.said ≡ Said.BadLimits) ⊎ (e.said ≡ Said.OutOfMemory)) }
 {
-    if limits.procs != 1 || limits.machines != 1 || !in_range(limits, bodies.len(), &[]) {
+    if limits.procs != 1 || limits.machines != 1 {
         return Err(Ended::bad_limits());
     }
-    let mut machine = Machine::open(alloc, limits, bodies)?;
-    machine.run();
-    let report = machine.into_report();
+    let machine = match Machine::open(alloc, limits, bodies) {
+        Ok(machine) => machine,
+        Err(Refusal::BadLimits) => return Err(Ended::bad_limits()),
+        Err(_) => return Err(Ended::out_of_memory()),
+    };
+    let report = machine.run();
     Ok(Trace {
         limits: report.limits,
-        bodies: report.bodies,
+        bodies: report.bodies.len() as u16,
         capacities: report.capacities,
         entries: report.history,
-        end: End::of(report.outcome),
+        end: End::of(Some(report.outcome)),
     })
 }
 

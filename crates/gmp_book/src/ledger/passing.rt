@@ -1,5 +1,5 @@
 //! Each call by a pass: refused, or made and told to the pass.
-ghost use Rattle.std.specs.Prelude.{◌≡◌, ◌+◌, ◌<◌, None, Some, [], ◌∷◌, length, is_none, position, OnOk, OnErr, IfOk, IfSome};
+ghost use Rattle.std.specs.Prelude.{◌≡◌, ◌↔◌, ◌+◌, ◌<◌, None, Some, [], ◌∷◌, length, is_none, position, OnOk, OnErr, IfOk, IfSome};
 ghost use Rattle.gmp_seq.specs.declared.status.Place.TheVariants.{Shelf, Out};
 ghost use Rattle.gmp_seq.specs.Machines.{is_parked};
 ghost use Rattle.gmp_seq.specs.Table.{IsReady, IsRunning, made_ready, next_of, set_status};
@@ -127,6 +127,7 @@ impl Ledger {
         ensures err { OnErr result ((self.new ≡ self.old) × (pass.new ≡ pass.old)) }
         ensures records { IfOk result (λ e. Records self.old pass.old Call.Exit (left e) self.new pass.new) }
         ensures runs { OnOk result (IsRunning self.old.state.table g pass.old.m) }
+        ensures main { IfOk result (λ e. e ≡ Exited.MainEnded ↔ (g.0 ≡ 0)) }
         ensures table { OnOk result (self.new.state.table ≡ set_status self.old.state.table g Status.Dead) }
     {
         if let Some(why) = self.refusal(pass, &Call::Exit, &[Handed::Held(run, g)]) {
@@ -155,6 +156,7 @@ impl Ledger {
         ensures refused { refusal_in result ≡ refusal_of self.old pass.old (Call.Tick moment) [] }
         ensures err { OnErr result ((self.new ≡ self.old) × (pass.new ≡ pass.old)) }
         ensures records { IfOk result (λ n. Records self.old pass.old (Call.Tick moment) (Reply.Woke n) self.new pass.new) }
+        ensures none { IfOk result (λ n. n ≡ 0) }
         ensures same { OnOk result (self.new.state.table.goroutines ≡ self.old.state.table.goroutines) }
     {
         if let Some(why) = self.refusal(pass, &Call::Tick(moment), &[]) {

@@ -1,26 +1,15 @@
-use Rattle.std.proofs.Common.{ap, subst, length, ◌∙◌}
-use Rattle.gmp_cli.specs.declared.machine.Place.{Place}
-use Rattle.gmp_cli.specs.Driven.{IsDriven}
-use Rattle.gmp_cli.proofs.Driving.{poked_driven, claim_needs, claimed_driven}
+use Rattle.std.proofs.Common.{◌≡◌, Some, None, ◌∙◌}
+use Rattle.gmp_cli.proofs.Handing.{claim_allowed, claim_drives}
 use Rattle.gmp_cli.proofs.machine.Machine.claim.Goals as goal
 
-pub invariant_of-self : goal.invariant_of-self
-invariant_of-self c =
-    let i = c.self.inside in
-    let n = length i.bodies.items in
-    let kept = subst (λ (p : Place). IsDriven i.book i.queue.items i.queue.capacity p n) (ap (λ v. v.place) c.self.view_is ∙ c.requires.place) c.self.invariant in
-    rw (ap (λ v. v.place) c.self.view_is ∙ c.requires.place) (poked_driven i.book c.poke.new.self c.poke.result c.args.r i.queue.items i.queue.capacity n c.poke.ensures.records kept)
+pub unreachable-requires : goal.unreachable-requires
+unreachable-requires c =
+    let i = c.args.self.now in
+    let allowed = claim_allowed i.book i.pass i.queue.items i.queue.capacity c.args.proc c.args.ticket c.requires.ongoing c.requires.drives in
+    let no : Some c.in-Err.field-0.why ≡ None = c.in-Err.ensures.refused ∙ allowed in
+    cc
 
-pub claim-woke-requires-clause-needs : goal.claim-woke-requires-clause-needs
-claim-woke-requires-clause-needs c =
-    let i = c.self.inside in
-    let n = length i.bodies.items in
-    let kept = subst (λ (p : Place). IsDriven i.book i.queue.items i.queue.capacity p n) (ap (λ v. v.place) c.self.view_is ∙ c.requires.place) c.self.invariant in
-    claim_needs i.book c.args.r i.queue.items i.queue.capacity n kept
-
-pub invariant_of-self-2 : goal.invariant_of-self-2
-invariant_of-self-2 c =
-    let i = c.self.inside in
-    let n = length i.bodies.items in
-    let kept = subst (λ (p : Place). IsDriven i.book i.queue.items i.queue.capacity p n) (ap (λ v. v.place) c.self.view_is ∙ c.requires.place) c.self.invariant in
-    claimed_driven i.book c.claim-woke.new.self c.args.r c.claim-woke.result i.queue.items i.queue.capacity n c.claim-woke.ensures.records kept
+pub returns-clause-drives : goal.returns-clause-drives
+returns-clause-drives c =
+    claim_drives c.args.self.now.book c.claim.new.self c.args.self.now.pass c.claim.new.pass c.args.self.now.queue.items c.args.self.now.queue.capacity c.args.proc c.args.ticket c.in-Ok.held
+    c.in-Ok.ensures.entry c.in-Ok.ensures.held c.in-Ok.ensures.g c.requires.drives

@@ -1,12 +1,7 @@
-use Rattle.std.proofs.Common.{ap, subst, length, ◌∙◌}
-use Rattle.gmp_cli.specs.declared.machine.Place.{Place}
-use Rattle.gmp_cli.specs.Driven.{IsDriven}
-use Rattle.gmp_cli.proofs.Driving.{started_driven}
+use Rattle.gmp_cli.proofs.Handing.{acquired_drives}
 use Rattle.gmp_cli.proofs.machine.Machine.start.Goals as goal
 
-pub invariant_of-self : goal.invariant_of-self
-invariant_of-self c =
-    let i = c.self.inside in
-    let n = length i.bodies.items in
-    let kept = subst (λ (p : Place). IsDriven i.book i.queue.items i.queue.capacity p n) (ap (λ v. v.place) c.self.view_is ∙ c.requires.place) c.self.invariant in
-    started_driven i.book c.acquire.new.self c.acquire.result i.queue.items i.queue.capacity n c.acquire.ensures.records kept
+pub returns-clause-drives : goal.returns-clause-drives
+returns-clause-drives c =
+    let k = c.in-Ok-Some in
+    acquired_drives c.args.self.now.book c.acquire.new.self c.args.self.now.pass c.acquire.new.pass c.args.self.now.queue.items c.args.self.now.queue.capacity k.proc k.field-0 k.field-0-is k.ensures.entry k.ensures.proc c.requires.drives
