@@ -1,8 +1,7 @@
 -- A call is refused only where a line says so: where its needs are met by a pass that may call, none does.
-use Rattle.std.proofs.Common.{◌≡◌, ℕ, ◌==◌, ◌<◌, ◌≤◌, Bool, true, false, not, ◌||◌, ◌&&◌, if◌then◌else◌, nat_lt, nat_le, is_some, is_none, Option, None, Some, List, [], ◌∷◌, ◌++◌, length, slice_get, refl, sym, ap, ◌∙◌, arith}
+use Rattle.std.proofs.Common.{◌≡◌, ℕ, ◌==◌, Bool, true, false, not, ◌||◌, ◌&&◌, if◌then◌else◌, nat_lt, nat_le, is_some, is_none, Option, None, Some, List, [], ◌∷◌, ◌++◌, length, refl, ap, ◌∙◌, arith}
 use Rattle.std.proofs.lemmas.Bool.{eq-eqb}
 use Rattle.std.proofs.lemmas.Bool.Decides.{nat_tests}
-use Rattle.std.proofs.lemmas.Grind.{common_steps}
 use Rattle.std.specs.List.{list_any}
 use Rattle.std.specs.Option.{option_map_or}
 use Rattle.gmp_base.specs.declared.number.GNo.{GNo}
@@ -25,7 +24,7 @@ use Rattle.gmp_book.specs.declared.handed.Handed.TheVariants as handed
 use Rattle.gmp_slots.specs.Slots.{all_filled}
 use Rattle.gmp_book.specs.Book.{Contents, surrender_lines, report_lines}
 use Rattle.gmp_book.specs.Log.{Log, calls_of}
-use Rattle.gmp_book.specs.Refusals.{IsCurrent, Line, first_refusal, turn_lines, need_lines, refusal_of, is_awake, is_awake_mode, is_busy, lacks_processor, is_foreign, is_spent, is_anothers, run_of}
+use Rattle.gmp_book.specs.Refusals.{IsAllowed, IsCurrent, Line, first_refusal, turn_lines, need_lines, refusal_of, is_awake, is_awake_mode, is_busy, lacks_processor, is_foreign, is_spent, is_anothers, run_of}
 
 -- none of the lines holds
 abbrev NoneHolds : List Line → Type 0
@@ -35,6 +34,13 @@ NoneHolds (l ∷ ls) = (l.test ≡ false) × NoneHolds ls
 none_refuses : (ls : List Line) → NoneHolds ls → first_refusal ls ≡ None
 none_refuses [] none = refl
 none_refuses (l ∷ ls) none = ap (λ (b : Bool). if b then Some l.why else first_refusal ls) none.0 ∙ none_refuses ls none.1
+
+none_holds : (ls : List Line) → first_refusal ls ≡ None → NoneHolds ls
+none_holds [] e = tt
+none_holds (l ∷ ls) e = by_test l.test refl e (none_holds ls) where
+  by_test : (b : Bool) → l.test ≡ b → (if b then Some l.why else first_refusal ls) ≡ None → (first_refusal ls ≡ None → NoneHolds ls) → NoneHolds (l ∷ ls)
+  by_test true is h rest = absurd cc
+  by_test false is h rest = (is, rest h)
 
 or_false : (a b : Bool) → a ≡ false → b ≡ false → a || b ≡ false
 or_false a b ea eb = rw (ea, eb) refl
@@ -71,6 +77,13 @@ module _ (log : Log) (pass : Pass) (run : pass.run ≡ log.run) (current : IsCur
       let turn : not (pass.calls == calls_of log pass.m) ≡ false = same_run pass.calls (calls_of log pass.m) current.turn in
       none_refuses (turn_lines log pass values ++ need_lines log.state pass.m asked values)
       (foreign, (turn, (seen, (none_is log.state.outcome current.lasts, (free, (equipped, (unspent, (own, tt))))))))
+
+  -- where none refuses
+  pub allowed : (asked : Call) (values : List Handed) → refusal_of log pass asked values ≡ None → IsAllowed log pass asked values
+  allowed asked values e =
+      let none = none_holds (turn_lines log pass values ++ need_lines log.state pass.m asked values) e in
+      let needs = none.1.1.1.1 in
+      record { current = current; free = needs.0; equipped = needs.1.0; unspent = needs.1.1.0; own = needs.1.1.1.0 }
 
   pub acquire_granted : Needs pass.m call.Acquire log.state → refusal_of log pass call.Acquire [] ≡ None
   acquire_granted needs = granted call.Acquire [] refl (or_false _ _ (awake_test log.state pass.m needs.0) needs.1) refl refl refl

@@ -6,3 +6,4 @@ pub mod Kept
 pub mod LedgerView
 pub mod Book
 pub mod Went
+pub mod Laws

@@ -4,6 +4,7 @@
 mod book;
 mod handed;
 mod journal;
+pub mod laws;
 mod ledger;
 mod machines;
 mod opening;

@@ -1,0 +1,60 @@
+use Rattle.std.proofs.Common.{[], ◌∷◌}
+use Rattle.gmp_seq.specs.declared.call.Call.TheVariants as call
+use Rattle.gmp_book.specs.declared.handed.Handed.TheVariants as handed
+use Rattle.gmp_book.proofs.Allowed.{acquire_needs, take_needs, put_needs, claim_needs, held_runs, poke_needs, tick_needs}
+use Rattle.gmp_book.proofs.Granted.{allowed, acquire_granted, take_granted, put_granted, claim_granted, go_granted, yield_granted, exit_granted, poke_granted, tick_granted}
+use Rattle.gmp_book.proofs.laws.granted_where_needed.Goals as goal
+
+pub returns-clause-acquire : goal.returns-clause-acquire
+returns-clause-acquire c = λ log pass run current. (
+  λ e. acquire_needs log pass (allowed log pass run current call.Acquire ([]) e),
+  λ needs. acquire_granted log pass run current needs,
+)
+
+pub returns-clause-take : goal.returns-clause-take
+returns-clause-take c = λ log pass run current. (
+  λ e. take_needs log pass (allowed log pass run current call.Take ([]) e),
+  λ needs. take_granted log pass run current needs,
+)
+
+pub returns-clause-put : goal.returns-clause-put
+returns-clause-put c = λ r log pass run current. (
+  λ e. put_needs log pass log.run r (allowed log pass run current (call.Put r) (handed.Ticket log.run r ∷ []) e),
+  λ needs. put_granted log pass run current r needs,
+)
+
+pub returns-clause-claim : goal.returns-clause-claim
+returns-clause-claim c = λ r log pass run current. (
+  λ e. claim_needs log pass log.run r (allowed log pass run current (call.Claim r) (handed.Ticket log.run r ∷ []) e),
+  λ needs. claim_granted log pass run current r needs,
+)
+
+pub returns-clause-go : goal.returns-clause-go
+returns-clause-go c = λ g k log pass run current. (
+  λ e. held_runs log pass log.run g (allowed log pass run current (call.Go k) (handed.Held log.run g ∷ []) e).own,
+  λ needs. go_granted log pass run current g k needs,
+)
+
+pub returns-clause-yields : goal.returns-clause-yields
+returns-clause-yields c = λ g log pass run current. (
+  λ e. held_runs log pass log.run g (allowed log pass run current call.Yield (handed.Held log.run g ∷ []) e).own,
+  λ needs. yield_granted log pass run current g needs,
+)
+
+pub returns-clause-exit : goal.returns-clause-exit
+returns-clause-exit c = λ g log pass run current. (
+  λ e. held_runs log pass log.run g (allowed log pass run current call.Exit (handed.Held log.run g ∷ []) e).own,
+  λ needs. exit_granted log pass run current g needs,
+)
+
+pub returns-clause-poke : goal.returns-clause-poke
+returns-clause-poke c = λ log pass run current. (
+  λ e. poke_needs log pass (allowed log pass run current call.Poke ([]) e),
+  λ needs. poke_granted log pass run current needs,
+)
+
+pub returns-clause-tick : goal.returns-clause-tick
+returns-clause-tick c = λ moment log pass run current. (
+  λ e. tick_needs log pass moment (allowed log pass run current (call.Tick moment) ([]) e),
+  λ needs. tick_granted log pass run current moment needs,
+)
