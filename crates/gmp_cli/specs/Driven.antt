@@ -18,6 +18,7 @@ use Rattle.gmp_seq.specs.Table.{Table, epoch_at, is_out, is_running_on}
 use Rattle.gmp_slots.specs.Slots.{is_vacant, all_filled}
 use Rattle.gmp_table.specs.Kept.{IsListing, passes_at}
 use Rattle.gmp_cli.specs.declared.machine.Hand.{Hand}
+use Rattle.gmp_cli.specs.declared.machine.Machine.{Machine}
 use Rattle.gmp_cli.specs.declared.machine.Hand.TheVariants.{Start, Look, Claim, Run, Poke}
 
 -- What callers see
@@ -152,3 +153,7 @@ pub record Drives {T Q : Type 0} (book : Contents T Q) (pass : Pass) (queue : Li
   pub run : AreOfRun book.log.run hand
   pub bodies : BodiesBut book.bodies hand
   pub owners : OwnersBut book.owners hand
+
+-- the same of the machine
+abbrev pub Driving : Machine → Hand → Type 0
+Driving m hand = Drives m.book m.pass m.queue.items m.queue.capacity hand

@@ -105,7 +105,7 @@ fn give_proc(book: &mut Book<ScriptBody, ()>, proc: Proc<()>)
 }
 
 impl Machine {
-    ghost use Rattle.gmp_cli.specs.Driven.{Drives, SameOpening, GoesOn, IsReportOf};
+    ghost use Rattle.gmp_cli.specs.Driven.{Driving, SameOpening, GoesOn, IsReportOf};
 
     /// The machine before its first call.
     pub(crate) fn open(
@@ -116,7 +116,7 @@ impl Machine {
         requires { limits.machines ≡ 1 }
         ensures within { IfOk result (λ _. AreLimits limits (length bodies.items) []) }
         ensures log { IfOk result (λ m. m.book.log ≡ opening_log RUN limits (length bodies.items) []) }
-        ensures drives { IfOk result (λ m. Drives m.book m.pass m.queue.items m.queue.capacity Hand.Start) }
+        ensures drives { IfOk result (λ m. Driving m Hand.Start) }
         ensures why { IfErr result (λ why. (why ≡ BadLimits) ⊎ (why ≡ OutOfMemory)) }
     {
         let Ok(queue) = HeapCircularBuffer::with_capacity(alloc, bodies.len()) else {
@@ -151,7 +151,7 @@ impl Machine {
 
     /// Makes calls until the run has an outcome, and gives back all that it holds then.
     pub(crate) fn run(self) -> Report<ScriptBody, ()>
-        requires { Drives self.book self.pass self.queue.items self.queue.capacity Hand.Start }
+        requires { Driving self Hand.Start }
         ensures { IsReportOf self.book.log result }
     {
         let mut machine = self;
@@ -165,7 +165,7 @@ impl Machine {
     /// Gives all back, and tells the run.
     fn close(self, hand: Hand) -> Report<ScriptBody, ()>
         requires over { is_none self.book.log.state.outcome ≡ false }
-        requires drives { Drives self.book self.pass self.queue.items self.queue.capacity hand }
+        requires drives { Driving self hand }
         ensures { IsReportOf self.book.log result }
     {
         let Machine {
@@ -197,8 +197,8 @@ impl Machine {
     /// Makes the next call of the machine's program.
     fn call(&mut self, hand: Hand) -> Hand
         requires ongoing { self.old.book.log.state.outcome ≡ None }
-        requires drives { Drives self.old.book self.old.pass self.old.queue.items self.old.queue.capacity hand }
-        ensures drives { Drives self.new.book self.new.pass self.new.queue.items self.new.queue.capacity result }
+        requires drives { Driving self.old hand }
+        ensures drives { Driving self.new result }
         ensures goes { GoesOn self.old.book.log self.new.book.log }
     {
         match hand {
@@ -213,8 +213,8 @@ impl Machine {
     /// Takes a processor.
     fn start(&mut self) -> Hand
         requires ongoing { self.old.book.log.state.outcome ≡ None }
-        requires drives { Drives self.old.book self.old.pass self.old.queue.items self.old.queue.capacity Hand.Start }
-        ensures drives { Drives self.new.book self.new.pass self.new.queue.items self.new.queue.capacity result }
+        requires drives { Driving self.old Hand.Start }
+        ensures drives { Driving self.new result }
         ensures goes { GoesOn self.old.book.log self.new.book.log }
     {
         match self.book.acquire(&mut self.pass) {
@@ -226,8 +226,8 @@ impl Machine {
     /// Looks at the clock after so many claims, else for a ticket: in the own queue, then on the shelf.
     fn look(&mut self, proc: Proc<()>) -> Hand
         requires ongoing { self.old.book.log.state.outcome ≡ None }
-        requires drives { Drives self.old.book self.old.pass self.old.queue.items self.old.queue.capacity (Hand.Look proc) }
-        ensures drives { Drives self.new.book self.new.pass self.new.queue.items self.new.queue.capacity result }
+        requires drives { Driving self.old (Hand.Look proc) }
+        ensures drives { Driving self.new result }
         ensures goes { GoesOn self.old.book.log self.new.book.log }
     {
         if self.turns == TURNS {
@@ -242,8 +242,8 @@ impl Machine {
     /// Tells the book the clock's reading. Its tick wakes nobody, since nobody waits.
     fn tick(&mut self, proc: Proc<()>) -> Hand
         requires ongoing { self.old.book.log.state.outcome ≡ None }
-        requires drives { Drives self.old.book self.old.pass self.old.queue.items self.old.queue.capacity (Hand.Look proc) }
-        ensures drives { Drives self.new.book self.new.pass self.new.queue.items self.new.queue.capacity result }
+        requires drives { Driving self.old (Hand.Look proc) }
+        ensures drives { Driving self.new result }
         ensures goes { GoesOn self.old.book.log self.new.book.log }
     {
         match self.book.tick(&mut self.pass, READING) {
@@ -262,8 +262,8 @@ impl Machine {
     fn take(&mut self, proc: Proc<()>) -> Hand
         requires ongoing { self.old.book.log.state.outcome ≡ None }
         requires empty { self.old.queue.items ≡ [] }
-        requires drives { Drives self.old.book self.old.pass self.old.queue.items self.old.queue.capacity (Hand.Look proc) }
-        ensures drives { Drives self.new.book self.new.pass self.new.queue.items self.new.queue.capacity result }
+        requires drives { Driving self.old (Hand.Look proc) }
+        ensures drives { Driving self.new result }
         ensures goes { GoesOn self.old.book.log self.new.book.log }
     {
         match self.book.take(&mut self.pass) {
@@ -276,8 +276,8 @@ impl Machine {
     /// Spends the ticket in hand. Where the machine is fresh, it wakes another one first.
     fn claim(&mut self, proc: Proc<()>, ticket: Ticket) -> Hand
         requires ongoing { self.old.book.log.state.outcome ≡ None }
-        requires drives { Drives self.old.book self.old.pass self.old.queue.items self.old.queue.capacity (Hand.Claim proc ticket) }
-        ensures drives { Drives self.new.book self.new.pass self.new.queue.items self.new.queue.capacity result }
+        requires drives { Driving self.old (Hand.Claim proc ticket) }
+        ensures drives { Driving self.new result }
         ensures goes { GoesOn self.old.book.log self.new.book.log }
     {
         if self.fresh {
@@ -300,8 +300,8 @@ impl Machine {
     /// Wakes another machine, where one is to be woken, for what the last tick woke.
     fn freshen(&mut self, proc: Proc<()>, ticket: Ticket) -> Hand
         requires ongoing { self.old.book.log.state.outcome ≡ None }
-        requires drives { Drives self.old.book self.old.pass self.old.queue.items self.old.queue.capacity (Hand.Claim proc ticket) }
-        ensures drives { Drives self.new.book self.new.pass self.new.queue.items self.new.queue.capacity result }
+        requires drives { Driving self.old (Hand.Claim proc ticket) }
+        ensures drives { Driving self.new result }
         ensures goes { GoesOn self.old.book.log self.new.book.log }
     {
         match self.book.poke(&mut self.pass) {
@@ -316,8 +316,8 @@ impl Machine {
     /// Resumes the body, and makes the call that it asks for.
     fn resume(&mut self, proc: Proc<()>, held: Held<ScriptBody>) -> Hand
         requires ongoing { self.old.book.log.state.outcome ≡ None }
-        requires drives { Drives self.old.book self.old.pass self.old.queue.items self.old.queue.capacity (Hand.Run proc held) }
-        ensures drives { Drives self.new.book self.new.pass self.new.queue.items self.new.queue.capacity result }
+        requires drives { Driving self.old (Hand.Run proc held) }
+        ensures drives { Driving self.new result }
         ensures goes { GoesOn self.old.book.log self.new.book.log }
     {
         let (run, g, woke, mut body) = held.open();
@@ -335,8 +335,8 @@ impl Machine {
     /// The goroutine goes onto the shelf.
     fn yield_to(&mut self, proc: Proc<()>, held: Held<ScriptBody>) -> Hand
         requires ongoing { self.old.book.log.state.outcome ≡ None }
-        requires drives { Drives self.old.book self.old.pass self.old.queue.items self.old.queue.capacity (Hand.Run proc held) }
-        ensures drives { Drives self.new.book self.new.pass self.new.queue.items self.new.queue.capacity result }
+        requires drives { Driving self.old (Hand.Run proc held) }
+        ensures drives { Driving self.new result }
         ensures goes { GoesOn self.old.book.log self.new.book.log }
     {
         match self.book.yield_to(&mut self.pass, held) {
@@ -353,8 +353,8 @@ impl Machine {
     /// The goroutine ends, and with goroutine 0 the run.
     fn exit(&mut self, proc: Proc<()>, held: Held<ScriptBody>) -> Hand
         requires ongoing { self.old.book.log.state.outcome ≡ None }
-        requires drives { Drives self.old.book self.old.pass self.old.queue.items self.old.queue.capacity (Hand.Run proc held) }
-        ensures drives { Drives self.new.book self.new.pass self.new.queue.items self.new.queue.capacity result }
+        requires drives { Driving self.old (Hand.Run proc held) }
+        ensures drives { Driving self.new result }
         ensures goes { GoesOn self.old.book.log self.new.book.log }
     {
         match self.book.exit(&mut self.pass, held) {
@@ -371,8 +371,8 @@ impl Machine {
     /// Starts a body, whose ticket goes onto the own queue.
     fn go(&mut self, proc: Proc<()>, held: Held<ScriptBody>, body: GNo) -> Hand
         requires ongoing { self.old.book.log.state.outcome ≡ None }
-        requires drives { Drives self.old.book self.old.pass self.old.queue.items self.old.queue.capacity (Hand.Run proc held) }
-        ensures drives { Drives self.new.book self.new.pass self.new.queue.items self.new.queue.capacity result }
+        requires drives { Driving self.old (Hand.Run proc held) }
+        ensures drives { Driving self.new result }
         ensures goes { GoesOn self.old.book.log self.new.book.log }
     {
         match self.book.go(&mut self.pass, held, body) {
@@ -396,8 +396,8 @@ impl Machine {
     /// Wakes another machine for the ticket that went onto the own queue, where one is to be woken.
     fn poke(&mut self, proc: Proc<()>, held: Held<ScriptBody>) -> Hand
         requires ongoing { self.old.book.log.state.outcome ≡ None }
-        requires drives { Drives self.old.book self.old.pass self.old.queue.items self.old.queue.capacity (Hand.Poke proc held) }
-        ensures drives { Drives self.new.book self.new.pass self.new.queue.items self.new.queue.capacity result }
+        requires drives { Driving self.old (Hand.Poke proc held) }
+        ensures drives { Driving self.new result }
         ensures goes { GoesOn self.old.book.log self.new.book.log }
     {
         match self.book.poke(&mut self.pass) {
