@@ -1,4 +1,13 @@
 //! The book: every call of the scheduler, made whole by a pass or refused. What it keeps is always a legal run.
+//!
+//! What the calls cost, where g is the number of goroutines and h the length of the history:
+//!
+//! - `take`, `put`, `claim`, `go`, `yield_to`, `exit`, `tick` are constant in g and h: a row of the status table, an end of the
+//!   shelf, a place of bodies, one entry. A `claim` looks at the processors too, 32 at most.
+//! - `acquire` and `poke` are constant in g and h: they look at the processors, 32 at most, and `poke` at the machines, 64 at most.
+//! - `outcome`, `history` and the surrenders are constant.
+//! - `open` takes all memory, for the limits' entries and all goroutines; `into_report` moves each body and owner once. No call but
+//!   `open` takes memory.
 #![tactic(auto)]
 
 mod book;
