@@ -2,11 +2,11 @@
 use super::*;
 use crate::range::in_range;
 
-/// No body, the first three, or so many.
-fn in_order(alloc: Global, first: u32, count: u32) -> Result<Vec<u32>, Fail> {
+/// So many bodies or owners, from this one up.
+fn in_order(alloc: Global, first: u8, count: u8) -> Result<Vec<u32>, Fail> {
     let mut list = Vec::new(alloc);
     for i in 0..count {
-        list.push(first + i)?;
+        list.push(first as u32 + i as u32)?;
     }
     Ok(list)
 }
