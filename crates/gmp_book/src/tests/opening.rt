@@ -1,0 +1,131 @@
+//! Openings, and what they refuse.
+use super::*;
+use crate::range::in_range;
+
+/// So many bodies or owners, from this one up.
+fn in_order(alloc: Global, first: u8, count: u8) -> Result<Vec<u32>, Fail> {
+    let mut list = Vec::new(alloc);
+    for i in 0..count {
+        list.push(first as u32 + i as u32)?;
+    }
+    Ok(list)
+}
+
+#[test]
+fn each_machine_has_its_pass(rt: HostRuntime) -> Result<(), Fail> {
+    let limits = Limits {
+        machines: 3,
+        ..SMALL
+    };
+    let (book, passes) = opened(&rt, rt.alloc(), 7, limits)?;
+    assert!(rt; book.history().is_empty());
+    assert_eq!(rt; book.outcome(), None);
+    let mut passes = passes;
+    for m in [2, 1, 0] {
+        let pass = last_pass(&rt, &mut passes);
+        assert_eq!(rt; pass.open(), (7, MNo(m), 0, 0));
+    }
+    close(&rt, passes);
+    Ok(())
+}
+
+// Limits out of range, a channel too many, no body, and owners fewer or more than processors.
+#[test]
+fn bad_limits_are_refused(rt: HostRuntime) -> Result<(), Fail> {
+    let alloc = rt.alloc();
+    let two = Limits {
+        procs: 2,
+        machines: 2,
+        ..SMALL
+    };
+    for (limits, capacities, bodies, owners) in [
+        (Limits { procs: 0, ..SMALL }, [0; 2], 2, 0),
+        (
+            Limits {
+                channels: 1,
+                ..SMALL
+            },
+            [0; 2],
+            2,
+            1,
+        ),
+        (SMALL, [0, 4097], 2, 1),
+        (SMALL, [0; 2], 0, 1),
+        (SMALL, [0; 2], 2, 2),
+        (two, [0; 2], 3, 1),
+    ] {
+        let given = in_order(alloc, 70, bodies)?;
+        let owned = in_order(alloc, 80, owners)?;
+        let opened = Book::open(alloc, 7, limits, &capacities, given, owned);
+        let Err(unopened) = opened else {
+            panic!(rt; "opened");
+        };
+        assert_eq!(rt; unopened.why.number(), 29);
+        assert_eq!(rt; unopened.bodies, in_order(alloc, 70, bodies)?);
+        assert_eq!(rt; unopened.owners, in_order(alloc, 80, owners)?);
+    }
+    Ok(())
+}
+
+// Run with each allocation refused in turn: what was handed in comes back, and else the book opens.
+#[test]
+fn want_of_memory_gives_back_what_was_handed_in(rt: HostRuntime) {
+    let alloc = rt.alloc();
+    let (Ok(bodies), Ok(owners)) = (vec![in alloc; 70u32, 71], vec![in alloc; 80u32]) else {
+        return;
+    };
+    match Book::open(alloc, 7, SMALL, &[1], bodies, owners) {
+        Ok((book, passes)) => {
+            assert!(rt; book.history().is_empty());
+            let mut passes = passes;
+            let pass = last_pass(&rt, &mut passes);
+            assert_eq!(rt; pass.open(), (7, MNo(0), 0, 0));
+            close(&rt, passes);
+        }
+        Err(unopened) => {
+            assert_eq!(rt; unopened.why, Refusal::OutOfMemory);
+            assert_eq!(rt; unopened.why.number(), 28);
+            assert_eq!(rt; unopened.bodies.as_slice(), [70, 71].as_slice());
+            assert_eq!(rt; unopened.owners.as_slice(), [80].as_slice());
+        }
+    }
+}
+
+/// Limits that differ from the small ones.
+const fn limits(procs: u8, machines: u8, channels: u16, entries: u32) -> Limits {
+    Limits {
+        procs,
+        machines,
+        channels,
+        entries,
+    }
+}
+
+#[test]
+fn ranges(rt: HostRuntime) {
+    let cases = [
+        (SMALL, 1, [0; 2], true),
+        (SMALL, 0, [0; 2], false),
+        (SMALL, 4096, [4096; 2], true),
+        (SMALL, 4097, [0; 2], false),
+        (SMALL, 1, [4097; 2], false),
+        (limits(0, 1, 2, 16), 1, [0; 2], false),
+        (limits(2, 1, 2, 16), 1, [0; 2], false),
+        (limits(32, 64, 2, 16), 1, [0; 2], true),
+        (limits(33, 64, 2, 16), 1, [0; 2], false),
+        (limits(1, 65, 2, 16), 1, [0; 2], false),
+        (limits(1, 1, 1, 16), 1, [0; 2], false),
+        (limits(1, 1, 1024, 16), 1, [0; 2], true),
+        (limits(1, 1, 1025, 16), 1, [0; 2], false),
+        (limits(1, 1, 2, 15), 1, [0; 2], false),
+        (limits(1, 1, 2, 1_000_000), 1, [0; 2], true),
+        (limits(1, 1, 2, 1_000_001), 1, [0; 2], false),
+    ];
+    for (limits, bodies, capacities, fits) in cases {
+        assert_eq!(rt;
+            in_range(limits, bodies, &capacities),
+            fits,
+            "{limits:?} {bodies} {capacities:?}"
+        );
+    }
+}
