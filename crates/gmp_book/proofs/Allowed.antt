@@ -1,11 +1,12 @@
 -- What a call needs holds where no line refuses it.
-use Rattle.std.proofs.Common.{◌≡◌, ℕ, ◌+◌, ◌<◌, Bool, true, false, not, ◌&&◌, ◌==◌, Option, None, Some, [], ◌∷◌, length, slice_get, refl, sym, ap, ◌∙◌, arith}
+use Rattle.std.proofs.Common.{◌≡◌, ℕ, ◌+◌, ◌<◌, ◌≤◌, Bool, true, false, not, ◌&&◌, ◌==◌, Option, None, Some, [], ◌∷◌, length, slice_get, refl, sym, ap, ◌∙◌, arith}
 use Rattle.std.proofs.lemmas.Bool.{eqb-true, or_parts, and_parts}
 use Rattle.std.proofs.lemmas.Grind.{common_steps}
 use Rattle.std.specs.List.{list_any}
 use Rattle.std.specs.Option.{option_map_or}
 use Rattle.gmp_base.specs.declared.number.GNo.{GNo}
 use Rattle.gmp_base.specs.declared.number.MNo.{MNo}
+use Rattle.gmp_base.specs.declared.number.PNo.{PNo}
 use Rattle.gmp_base.specs.declared.number.Readiness.{Readiness}
 use Rattle.gmp_base.specs.declared.pass.Pass.{Pass}
 use Rattle.gmp_seq.specs.declared.call.Call.{Call}
@@ -17,13 +18,13 @@ use Rattle.gmp_seq.specs.declared.status.Mode.TheVariants as mode
 use Rattle.gmp_seq.specs.declared.status.Place.TheVariants.{Shelf, Out}
 use Rattle.gmp_seq.specs.declared.status.Status.{Status}
 use Rattle.gmp_seq.specs.declared.status.Status.TheVariants as status
-use Rattle.gmp_seq.specs.Machines.{IsAwake}
+use Rattle.gmp_seq.specs.Machines.{IsAwake, IsBare, Holds, is_held_by, spins}
 use Rattle.gmp_seq.specs.Needs.{Needs, IsOut}
 use Rattle.gmp_seq.specs.State.{State}
-use Rattle.gmp_seq.specs.Table.{Table, IsRunning, is_out, is_outstanding, is_running_on, status_at}
+use Rattle.gmp_seq.specs.Table.{Table, IsRunning, IsCalling, RunsNothing, is_out, is_outstanding, is_running_on, status_at}
 use Rattle.gmp_book.specs.declared.handed.Handed.TheVariants as handed
 use Rattle.gmp_book.specs.Log.{Log, Enters, Records}
-use Rattle.gmp_book.specs.Refusals.{IsAllowed, IsCurrent, is_awake, is_awake_mode, is_anothers, is_spent}
+use Rattle.gmp_book.specs.Refusals.{IsAllowed, IsCurrent, is_awake, is_awake_mode, is_busy, is_calling_on, is_anothers, is_spent}
 
 not_false : (b : Bool) → not b ≡ false → b ≡ true
 not_false true e = refl
@@ -57,6 +58,16 @@ running : (m : MNo) (o : Option Status) → option_map_or (is_running_on m) o fa
 running m (Some (status.Running n)) e = ap (λ (k : ℕ). Some (status.Running (record { 0 = k }))) (sym (eqb-true m.0 n.0 e))
 running m (Some _) e = absurd cc
 running m None e = absurd cc
+
+calling : (m : MNo) (o : Option Status) → option_map_or (is_calling_on m) o false ≡ true → o ≡ Some (status.Calling m)
+calling m (Some (status.Calling n)) e = ap (λ (k : ℕ). Some (status.Calling (record { 0 = k }))) (sym (eqb-true m.0 n.0 e))
+calling m (Some _) e = absurd cc
+calling m None e = absurd cc
+
+holding : (m : MNo) (o : Option (Option MNo)) → option_map_or (is_held_by m) o false ≡ true → o ≡ Some (Some m)
+holding m (Some (Some n)) e = ap (λ (k : ℕ). Some (Some (record { 0 = k }))) (sym (eqb-true m.0 n.0 e))
+holding m (Some None) e = absurd cc
+holding m None e = absurd cc
 
 module _ (log : Log) (pass : Pass) where
   pub acquire_needs : IsAllowed log pass call.Acquire [] → Needs pass.m call.Acquire log.state
@@ -92,11 +103,48 @@ module _ (log : Log) (pass : Pass) where
   pub go_needs : (run : ℕ) (g k : GNo) → IsAllowed log pass (call.Go k) (handed.Held run g ∷ []) → Needs pass.m (call.Go k) log.state
   go_needs run g k allowed = (g, held_runs run g allowed.own)
 
+  pub spin_needs : IsAllowed log pass call.Spin [] → Needs pass.m call.Spin log.state
+  spin_needs allowed =
+      let parts = or_parts _ _ allowed.free in
+      (awake log.state pass.m parts.0, parts.1)
+
+  pub unspin_needs : IsAllowed log pass call.Unspin [] → Needs pass.m call.Unspin log.state
+  unspin_needs allowed = awake log.state pass.m allowed.free
+
+  bare : is_busy log.state pass.m call.Bare ≡ false → IsBare log.state.machines pass.m
+  bare free =
+      let parts = or_parts _ _ free in
+      let first = or_parts _ _ parts.0 in
+      (awake log.state pass.m first.0, first.1, parts.1)
+
+  pub bare_needs : IsAllowed log pass call.Bare [] → Needs pass.m call.Bare log.state
+  bare_needs allowed = bare allowed.free
+
+  pub park_needs : IsAllowed log pass call.Park [] → Needs pass.m call.Park log.state
+  park_needs allowed = bare allowed.free
+
+  -- a processor that is handed in is the machine's
+  holds_own : (run : ℕ) (p : PNo) → is_anothers log.state pass.m (handed.Proc run p) ≡ false → Holds log.state.machines pass.m p
+  holds_own run p own = holding pass.m (slice_get log.state.machines.holders p.0) (not_false _ own)
+
+  pub declare_needs : (run : ℕ) (p : PNo) → IsAllowed log pass call.Declare (handed.Proc run p ∷ [])
+      → RunsNothing log.state.table pass.m × (spins log.state.machines pass.m ≡ false) × Holds log.state.machines pass.m p
+  declare_needs run p allowed =
+      let parts = or_parts _ _ allowed.free in
+      (parts.0, parts.1, holds_own run p (or_parts _ _ allowed.own).0)
+
+  pub enter_needs : (run : ℕ) (g : GNo) (p : PNo) → IsAllowed log pass call.Enter (handed.Held run g ∷ handed.Proc run p ∷ [])
+      → IsRunning log.state.table g pass.m × Holds log.state.machines pass.m p
+  enter_needs run g p allowed =
+      let parts = or_parts _ _ allowed.own in
+      (running pass.m (status_at log.state.table g) (not_false _ parts.0), holds_own run p (or_parts _ _ parts.1).0)
+
+  pub leave_needs : (run : ℕ) (g : GNo) (number : ℕ) → IsAllowed log pass (call.Leave number) (handed.Called run g ∷ []) → IsCalling log.state.table g pass.m
+  leave_needs run g number allowed = calling pass.m (status_at log.state.table g) (not_false _ (or_parts _ _ allowed.own).0)
+
 -- the calls of a pass that may call are fewer than the entries once the call's entry is there
-pub fewer : (old now : Log) (before : Pass) (call : Call) (reply : Reply) → IsCurrent old before → Enters old before.m call reply now → before.calls < length now.history
-fewer old now before call reply current enters =
-    let e = current.few in
-    rw enters.entry (grind (arith, common_steps, e))
+pub fewer : (old now : Log) (before : Pass) (call : Call) (reply : Reply) → before.calls ≤ length old.history → Enters old before.m call reply now → before.calls < length now.history
+fewer old now before call reply few enters = rw enters.entry (grind (arith, common_steps, few))
 
 -- a call by a pass that may call
 pub by_pass : (old now : Log) (before after : Pass) (call : Call) (reply : Reply) → IsCurrent old before → Enters old before.m call reply now

@@ -1,11 +1,12 @@
 -- A call is refused only where a line says so: where its needs are met by a pass that may call, none does.
-use Rattle.std.proofs.Common.{◌≡◌, ℕ, ◌==◌, Bool, true, false, not, ◌||◌, ◌&&◌, if◌then◌else◌, nat_lt, nat_le, is_some, is_none, Option, None, Some, List, [], ◌∷◌, ◌++◌, length, refl, ap, ◌∙◌, arith}
+use Rattle.std.proofs.Common.{slice_get, ◌≡◌, ℕ, ◌==◌, Bool, true, false, not, ◌||◌, ◌&&◌, if◌then◌else◌, nat_lt, nat_le, is_some, is_none, Option, None, Some, List, [], ◌∷◌, ◌++◌, length, refl, ap, ◌∙◌, arith}
 use Rattle.std.proofs.lemmas.Bool.{eq-eqb}
 use Rattle.std.proofs.lemmas.Bool.Decides.{nat_tests}
 use Rattle.std.specs.List.{list_any}
 use Rattle.std.specs.Option.{option_map_or}
 use Rattle.gmp_base.specs.declared.number.GNo.{GNo}
 use Rattle.gmp_base.specs.declared.number.MNo.{MNo}
+use Rattle.gmp_base.specs.declared.number.PNo.{PNo}
 use Rattle.gmp_base.specs.declared.number.Readiness.{Readiness}
 use Rattle.gmp_base.specs.declared.pass.Pass.{Pass}
 use Rattle.gmp_base.specs.declared.refusal.Refusal.{Refusal}
@@ -15,16 +16,16 @@ use Rattle.gmp_seq.specs.declared.call.Outcome.{Outcome}
 use Rattle.gmp_seq.specs.declared.status.Goroutine.{Goroutine}
 use Rattle.gmp_seq.specs.declared.status.Mode.{Mode}
 use Rattle.gmp_seq.specs.declared.status.Status.{Status}
-use Rattle.gmp_seq.specs.Machines.{IsAwake}
+use Rattle.gmp_seq.specs.Machines.{Machines, IsAwake, IsBare, Holds, is_held_by, spins}
 use Rattle.gmp_seq.specs.Needs.{Needs, IsOut}
 use Rattle.gmp_seq.specs.State.{State}
-use Rattle.gmp_seq.specs.Table.{Table, IsRunning, is_out, is_outstanding, is_running_on, status_at}
+use Rattle.gmp_seq.specs.Table.{Table, IsRunning, IsCalling, RunsNothing, is_out, is_outstanding, is_running_on, status_at}
 use Rattle.gmp_book.specs.declared.handed.Handed.{Handed}
 use Rattle.gmp_book.specs.declared.handed.Handed.TheVariants as handed
 use Rattle.gmp_slots.specs.Slots.{all_filled}
 use Rattle.gmp_book.specs.Book.{Contents, surrender_lines, report_lines}
 use Rattle.gmp_book.specs.Log.{Log, calls_of}
-use Rattle.gmp_book.specs.Refusals.{IsAllowed, IsCurrent, Line, first_refusal, turn_lines, need_lines, refusal_of, is_awake, is_awake_mode, is_busy, lacks_processor, is_foreign, is_spent, is_anothers, run_of}
+use Rattle.gmp_book.specs.Refusals.{IsAllowed, IsCurrent, Line, first_refusal, turn_lines, need_lines, refusal_of, is_awake, is_awake_mode, is_busy, is_calling_on, lacks_processor, is_foreign, is_spent, is_anothers, run_of}
 
 -- none of the lines holds
 abbrev NoneHolds : List Line → Type 0
@@ -64,6 +65,12 @@ out_test t r out = ap (λ (o : Option Goroutine). option_map_or (λ (x : Gorouti
 
 pub runs_test : (t : Table) (g : GNo) (m : MNo) → IsRunning t g m → option_map_or (is_running_on m) (status_at t g) false ≡ true
 runs_test t g m runs = ap (λ (o : Option Status). option_map_or (is_running_on m) o false) runs ∙ eq-eqb m.0 m.0 refl
+
+calls_test : (t : Table) (g : GNo) (m : MNo) → IsCalling t g m → option_map_or (is_calling_on m) (status_at t g) false ≡ true
+calls_test t g m calls = ap (λ (o : Option Status). option_map_or (is_calling_on m) o false) calls ∙ eq-eqb m.0 m.0 refl
+
+holds_test : (w : Machines) (m : MNo) (p : PNo) → Holds w m p → option_map_or (is_held_by m) (slice_get w.holders p.0) false ≡ true
+holds_test w m p holds = ap (λ (o : Option (Option MNo)). option_map_or (is_held_by m) o false) holds ∙ eq-eqb m.0 m.0 refl
 
 module _ (log : Log) (pass : Pass) (run : pass.run ≡ log.run) (current : IsCurrent log pass) where
   -- no line refuses
@@ -124,6 +131,39 @@ module _ (log : Log) (pass : Pass) (run : pass.run ≡ log.run) (current : IsCur
 
   pub exit_granted : (g : GNo) → IsRunning log.state.table g pass.m → refusal_of log pass call.Exit (handed.Held log.run g ∷ []) ≡ None
   exit_granted g runs = granted call.Exit (handed.Held log.run g ∷ []) (held_run g) refl refl refl (held_own g runs)
+
+  pub spin_granted : Needs pass.m call.Spin log.state → refusal_of log pass call.Spin [] ≡ None
+  spin_granted needs = granted call.Spin [] refl (or_false _ _ (awake_test log.state pass.m needs.0) needs.1) refl refl refl
+
+  pub unspin_granted : Needs pass.m call.Unspin log.state → refusal_of log pass call.Unspin [] ≡ None
+  unspin_granted needs = granted call.Unspin [] refl (awake_test log.state pass.m needs) refl refl refl
+
+  bare_free : IsBare log.state.machines pass.m → is_busy log.state pass.m call.Bare ≡ false
+  bare_free bare = or_false _ _ (or_false _ _ (awake_test log.state pass.m bare.0) bare.1) bare.2
+
+  pub bare_granted : Needs pass.m call.Bare log.state → refusal_of log pass call.Bare [] ≡ None
+  bare_granted needs = granted call.Bare [] refl (bare_free needs) refl refl refl
+
+  pub park_granted : Needs pass.m call.Park log.state → refusal_of log pass call.Park [] ≡ None
+  park_granted needs = granted call.Park [] refl (bare_free needs) refl refl refl
+
+  pub declare_granted : (p : PNo) → RunsNothing log.state.table pass.m × (spins log.state.machines pass.m ≡ false) × Holds log.state.machines pass.m p
+      → refusal_of log pass call.Declare (handed.Proc log.run p ∷ []) ≡ None
+  declare_granted p needs =
+      granted call.Declare (handed.Proc log.run p ∷ []) (or_false _ _ (same_run log.run log.run refl) refl) (or_false _ _ needs.0 needs.1) refl refl
+      (or_false _ _ (not_true _ (holds_test log.state.machines pass.m p needs.2)) refl)
+
+  pub enter_granted : (g : GNo) (p : PNo) → IsRunning log.state.table g pass.m × Holds log.state.machines pass.m p
+      → refusal_of log pass call.Enter (handed.Held log.run g ∷ handed.Proc log.run p ∷ []) ≡ None
+  enter_granted g p needs =
+      granted call.Enter (handed.Held log.run g ∷ handed.Proc log.run p ∷ [])
+      (or_false _ _ (same_run log.run log.run refl) (or_false _ _ (same_run log.run log.run refl) refl)) refl refl refl
+      (or_false _ _ (not_true _ (runs_test log.state.table g pass.m needs.0)) (or_false _ _ (not_true _ (holds_test log.state.machines pass.m p needs.1)) refl))
+
+  pub leave_granted : (g : GNo) (number : ℕ) → IsCalling log.state.table g pass.m → refusal_of log pass (call.Leave number) (handed.Called log.run g ∷ []) ≡ None
+  leave_granted g number calls =
+      granted (call.Leave number) (handed.Called log.run g ∷ []) (or_false _ _ (same_run log.run log.run refl) refl) refl refl refl
+      (or_false _ _ (not_true _ (calls_test log.state.table g pass.m calls)) refl)
 
 -- Surrenders and the report
 

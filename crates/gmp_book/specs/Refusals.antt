@@ -118,7 +118,7 @@ abbrev pub first_refusal : List Line → Option Refusal
 first_refusal [] = None
 first_refusal (l ∷ ls) = if l.test then Some l.why else first_refusal ls
 
--- is the pass the machine's latest, of this run, and does the run last
+-- when a pass may not call: it or a value is of another run, it is not its machine's latest, it has seen more than there is, or the run is over
 abbrev pub turn_lines : Log → Pass → List Handed → List Line
 turn_lines log pass values =
     line (is_foreign log pass values) WrongRun
@@ -127,7 +127,7 @@ turn_lines log pass values =
     ∷ line (is_some log.state.outcome) Over
     ∷ []
 
--- does the state allow what the machine asks
+-- when the state does not allow what the machine asks
 abbrev pub need_lines : State → MNo → Call → List Handed → List Line
 need_lines s m asked values =
     line (is_busy s m asked) Busy
@@ -146,7 +146,6 @@ refusal_of log pass asked values = first_refusal (turn_lines log pass values ++ 
 pub record IsCurrent (log : Log) (pass : Pass) : Type 0 where
   pub machine : pass.m.0 < log.limits.machines
   pub turn : pass.calls ≡ calls_of log pass.m
-  pub few : pass.calls ≤ length log.history
   pub seen : pass.seen ≤ length log.history
   pub lasts : log.state.outcome ≡ None
 

@@ -25,6 +25,10 @@ use std::marker::Model;
 ///
 /// A contract sees the run, and which bodies and owners are in the book. What it keeps is always a legal run. Each call is made
 /// by a pass. It adds one entry, or it is refused: then nothing has changed, and what it was handed comes back.
+///
+/// Where several refusals hold, a call answers the first of `WrongRun`, `OutOfTurn`, `Behind`, `Over`, `Busy`, `NoProcessor`,
+/// `NotOutstanding`, `NotHeld`; a surrender of `WrongRun`, `NotOver`, and then `NotOutstanding` or `NotHeld`; the report of `NotOver`,
+/// `Busy`.
 #[derive(Drop)]
 pub struct Book<T, Q> {
     ledger: Ledger,
@@ -65,44 +69,24 @@ impl<T, Q> Book<T, Q> {
         ensures passes { IfOk result (λ r. r.1.items ≡ opening_passes run limits.machines) }
     {
         if !may_open(limits, bodies.len(), capacities, owners.len()) {
-            return Err(Unopened {
-                why: Refusal::BadLimits,
-                bodies,
-                owners,
-            });
+            return Err(Unopened::of(Refusal::BadLimits, bodies, owners));
         }
         let why = Refusal::OutOfMemory;
         let Ok(capacities) = capacities.to_vec(alloc) else {
-            return Err(Unopened {
-                why,
-                bodies,
-                owners,
-            });
+            return Err(Unopened::of(why, bodies, owners));
         };
         let count = bodies.len() as u16;
         let Ok(ledger) = Ledger::open(alloc, run, limits, count, capacities) else {
-            return Err(Unopened {
-                why,
-                bodies,
-                owners,
-            });
+            return Err(Unopened::of(why, bodies, owners));
         };
         let Ok(room) = Vec::with_capacity(alloc, limits.machines as usize) else {
-            return Err(Unopened {
-                why,
-                bodies,
-                owners,
-            });
+            return Err(Unopened::of(why, bodies, owners));
         };
         let bodies = match Slots::of(alloc, bodies) {
             Ok(slots) => slots,
             Err(bodies) => {
                 room.destroy_empty();
-                return Err(Unopened {
-                    why,
-                    bodies,
-                    owners,
-                });
+                return Err(Unopened::of(why, bodies, owners));
             }
         };
         let owners = match Slots::of(alloc, owners) {
@@ -110,11 +94,7 @@ impl<T, Q> Book<T, Q> {
             Err(owners) => {
                 room.destroy_empty();
                 let bodies = bodies.into_items();
-                return Err(Unopened {
-                    why,
-                    bodies,
-                    owners,
-                });
+                return Err(Unopened::of(why, bodies, owners));
             }
         };
         let passes = first_passes(room, run, limits.machines);
@@ -133,7 +113,6 @@ impl<T, Q> Book<T, Q> {
         ensures within { AreLimits self.now.log.limits self.now.log.bodies self.now.log.capacities }
         ensures values { IsBook self.now }
     {
-        let _ = &self.bodies;
         self.ledger.history()
     }
 
@@ -163,7 +142,7 @@ impl<T, Q> Book<T, Q> {
         }
     }
 
-    /// Gives out the ticket of the goroutine that is on the shelf for longest, if one is on it.
+    /// Gives out the ticket of a goroutine on the shelf, if one is on it: as `StatusTable::unshelve`, of the one that is there for longest.
     pub fn take(&mut self, pass: &mut Pass) -> Result<Option<Ticket>, Refusal>
         ensures refused { refusal_in result ≡ refusal_of self.old.log pass.old Call.Take [] }
         ensures err { OnErr result ((self.new ≡ self.old) × (pass.new ≡ pass.old)) }
@@ -177,7 +156,7 @@ impl<T, Q> Book<T, Q> {
         }
     }
 
-    /// Puts a ticket onto the shelf, last.
+    /// Puts a ticket onto the shelf, last as `StatusTable::shelve` does.
     pub fn put(&mut self, pass: &mut Pass, ticket: Ticket) -> Result<(), Refused<Ticket>>
         ensures refused { why_refused result ≡ refusal_of self.old.log pass.old (Call.Put (readiness_of ticket)) (by_ticket ticket) }
         ensures back { IfErr result (λ r. r.back ≡ ticket) }
@@ -248,7 +227,7 @@ impl<T, Q> Book<T, Q> {
         }
     }
 
-    /// Puts the goroutine that asks onto the shelf, last. It is to be told Done.
+    /// Puts the goroutine that asks onto the shelf, last as `StatusTable::requeue` does. It is to be told Done.
     pub fn yield_to(&mut self, pass: &mut Pass, held: Held<T>) -> Result<(), Refused<Held<T>>>
         ensures refused { why_refused result ≡ refusal_of self.old.log pass.old Call.Yield (by_held held) }
         ensures back { IfErr result (λ r. r.back ≡ held) }
@@ -295,7 +274,6 @@ impl<T, Q> Book<T, Q> {
         ensures least { IfOk result (λ m. IfSome m (λ n. position is_parked self.old.log.state.machines.modes ≡ Some n.0)) }
         ensures values { OnOk result (SameValues self.old self.new) }
     {
-        let _ = &self.bodies;
         self.ledger.try_poke(pass)
     }
 
@@ -308,7 +286,6 @@ impl<T, Q> Book<T, Q> {
         ensures nobody { IfOk result (λ n. (n ≡ 0) × (self.new.log.state.table.goroutines ≡ self.old.log.state.table.goroutines)) }
         ensures values { OnOk result (SameValues self.old self.new) }
     {
-        let _ = &self.bodies;
         self.ledger.try_tick(pass, now)
     }
 

@@ -4,7 +4,7 @@ ghost use Rattle.std.specs.Prelude.{◌≡◌};
 use gmp_base::{GNo, PNo, Readiness};
 
 /// A value that a call is handed: the run that it names, and what it is of.
-#[derive(Clone, Copy, Debug, PartialEq, Eq)]
+#[derive(Clone, Copy)]
 pub enum Handed {
     Ticket(u64, Readiness),
     Held(u64, GNo),

@@ -1,15 +1,18 @@
 //! Laws of the book's refusals. Each is the contract of a function that does nothing.
-ghost use Rattle.std.specs.Prelude.{◌≡◌, ℕ, [], ◌∷◌};
+ghost use Rattle.std.specs.Prelude.{◌≡◌, ℕ, false, [], ◌∷◌};
 ghost use Rattle.gmp_base.specs.declared.number.GNo.{GNo};
+ghost use Rattle.gmp_base.specs.declared.number.PNo.{PNo};
 ghost use Rattle.gmp_base.specs.declared.number.Readiness.{Readiness};
-ghost use Rattle.gmp_seq.specs.declared.call.Call.TheVariants.{Acquire, Take, Put, Claim, Go, Yield, Exit, Poke, Tick};
+ghost use Rattle.gmp_seq.specs.declared.call.Call.TheVariants.{Acquire, Take, Put, Claim, Go, Yield, Exit, Enter, Leave, Spin, Unspin, Declare, Bare, Park, Poke, Tick};
 ghost use Rattle.gmp_seq.specs.Needs.{Needs};
-ghost use Rattle.gmp_seq.specs.Table.{IsRunning};
-ghost use Rattle.gmp_book.specs.declared.handed.Handed.TheVariants.{Ticket, Held};
+ghost use Rattle.gmp_seq.specs.Machines.{Holds, spins};
+ghost use Rattle.gmp_seq.specs.Table.{IsRunning, IsCalling, RunsNothing};
+ghost use Rattle.gmp_book.specs.declared.handed.Handed.TheVariants.{Ticket, Held, Called, Proc};
 ghost use Rattle.gmp_book.specs.Laws.{GrantedWhere};
 
 /// A call by a pass that may call, with values of the book's run, is granted exactly where the scheduler's needs are met: a ticket
-/// that is out, a goroutine that the machine runs, and a machine whose state allows it.
+/// that is out, a goroutine that the machine runs or calls for, a processor that it holds, and a machine whose state allows it. It
+/// speaks also of calls that the book is to have, since the lines that refuse them stand already.
 pub fn granted_where_needed()
     ensures acquire { GrantedWhere Acquire (λ run. []) (λ s m. Needs m Acquire s) }
     ensures take { GrantedWhere Take (λ run. []) (λ s m. Needs m Take s) }
@@ -19,5 +22,12 @@ pub fn granted_where_needed()
     ensures yields { (g : GNo) → GrantedWhere Yield (λ run. Held run g ∷ []) (λ s m. IsRunning s.table g m) }
     ensures exit { (g : GNo) → GrantedWhere Exit (λ run. Held run g ∷ []) (λ s m. IsRunning s.table g m) }
     ensures poke { GrantedWhere Poke (λ run. []) (λ s m. Needs m Poke s) }
+    ensures spin { GrantedWhere Spin (λ run. []) (λ s m. Needs m Spin s) }
+    ensures unspin { GrantedWhere Unspin (λ run. []) (λ s m. Needs m Unspin s) }
+    ensures bare { GrantedWhere Bare (λ run. []) (λ s m. Needs m Bare s) }
+    ensures park { GrantedWhere Park (λ run. []) (λ s m. Needs m Park s) }
+    ensures declare { (p : PNo) → GrantedWhere Declare (λ run. Proc run p ∷ []) (λ s m. RunsNothing s.table m × (spins s.machines m ≡ false) × Holds s.machines m p) }
+    ensures enter { (g : GNo) (p : PNo) → GrantedWhere Enter (λ run. Held run g ∷ Proc run p ∷ []) (λ s m. IsRunning s.table g m × Holds s.machines m p) }
+    ensures leave { (g : GNo) (number : ℕ) → GrantedWhere (Leave number) (λ run. Called run g ∷ []) (λ s m. IsCalling s.table g m) }
     ensures tick { (moment : ℕ) → GrantedWhere (Tick moment) (λ run. []) (λ s m. Needs m (Tick moment) s) }
 {}

@@ -15,6 +15,18 @@ pub struct Unopened<T, Q> {
     pub owners: Vec<Q>,
 }
 
+impl<T, Q> Unopened<T, Q> {
+    pub(crate) fn of(why: Refusal, bodies: Vec<T>, owners: Vec<Q>) -> Self
+        ensures { result ≡ record { why = why; bodies = bodies; owners = owners } }
+    {
+        Unopened {
+            why,
+            bodies,
+            owners,
+        }
+    }
+}
+
 /// Whether the limits are in range, and there is an owner for each processor.
 pub(crate) fn may_open(limits: Limits, bodies: usize, capacities: &[u32], owners: usize) -> bool
     ensures { IsTrue result ↔ MayOpen limits bodies capacities.now owners }

@@ -20,7 +20,7 @@ fn is_between(low: usize, n: usize, high: usize) -> bool
 }
 
 /// Whether a run may have these limits, so many bodies, and channels of these capacities at its opening.
-pub fn in_range(limits: Limits, bodies: usize, capacities: &[u32]) -> bool
+pub(crate) fn in_range(limits: Limits, bodies: usize, capacities: &[u32]) -> bool
     ensures { IsTrue result ↔ AreLimits limits bodies capacities.now }
 {
     let machines = limits.machines as usize;

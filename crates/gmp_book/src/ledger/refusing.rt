@@ -1,5 +1,5 @@
 //! Which calls are refused, and why: by the first line that holds.
-ghost use Rattle.std.specs.Prelude.{◌≡◌, ◌==◌, not, false, slice_get, IfNone};
+ghost use Rattle.std.specs.Prelude.{◌≡◌, ◌==◌, ◌≤◌, not, false, length, slice_get, IfNone};
 ghost use Rattle.std.specs.List.{list_any};
 ghost use Rattle.std.specs.Option.{option_map_or};
 ghost use Rattle.gmp_seq.specs.Table.{is_running_on, status_at};
@@ -22,6 +22,7 @@ impl Ledger {
     pub(crate) fn refusal(&self, pass: &Pass, call: &Call, values: &[Handed]) -> Option<Refusal>
         ensures why { result ≡ refusal_of self.now pass.now call.now values.now }
         ensures allowed { IfNone result (IsAllowed self.now pass.now call.now values.now) }
+        ensures few { IfNone result (pass.now.calls ≤ length self.now.history) }
     {
         if let Some(why) = self.turn_refusal(pass, values) {
             return Some(why);
@@ -33,6 +34,7 @@ impl Ledger {
     fn turn_refusal(&self, pass: &Pass, values: &[Handed]) -> Option<Refusal>
         ensures why { result ≡ first_refusal (turn_lines self.now pass.now values.now) }
         ensures current { IfNone result (IsCurrent self.now pass.now) }
+        ensures few { IfNone result (pass.now.calls ≤ length self.now.history) }
     {
         if self.is_foreign(pass, values) {
             return Some(Refusal::WrongRun);
@@ -154,13 +156,7 @@ impl Ledger {
     fn runs(&self, m: MNo, g: GNo) -> bool
         ensures { result ≡ option_map_or (is_running_on m) (status_at self.now.state.table g) false }
     {
-        match self.table.get(g) {
-            Some(row) => match &row.status {
-                Status::Running(n) => m.0 == n.0,
-                _ => false,
-            },
-            None => false,
-        }
+        self.table.runs(m, g)
     }
 
     /// Whether m makes the blocking call of g.

@@ -1,8 +1,8 @@
 use Rattle.std.proofs.Common.{[], ◌∷◌}
 use Rattle.gmp_seq.specs.declared.call.Call.TheVariants as call
 use Rattle.gmp_book.specs.declared.handed.Handed.TheVariants as handed
-use Rattle.gmp_book.proofs.Allowed.{acquire_needs, take_needs, put_needs, claim_needs, held_runs, poke_needs, tick_needs}
-use Rattle.gmp_book.proofs.Granted.{allowed, acquire_granted, take_granted, put_granted, claim_granted, go_granted, yield_granted, exit_granted, poke_granted, tick_granted}
+use Rattle.gmp_book.proofs.Allowed.{acquire_needs, take_needs, put_needs, claim_needs, held_runs, poke_needs, tick_needs, spin_needs, unspin_needs, bare_needs, park_needs, declare_needs, enter_needs, leave_needs}
+use Rattle.gmp_book.proofs.Granted.{allowed, acquire_granted, take_granted, put_granted, claim_granted, go_granted, yield_granted, exit_granted, poke_granted, tick_granted, spin_granted, unspin_granted, bare_granted, park_granted, declare_granted, enter_granted, leave_granted}
 use Rattle.gmp_book.proofs.laws.granted_where_needed.Goals as goal
 
 pub returns-clause-acquire : goal.returns-clause-acquire
@@ -57,4 +57,46 @@ pub returns-clause-tick : goal.returns-clause-tick
 returns-clause-tick c = λ moment log pass run current. (
   λ e. tick_needs log pass moment (allowed log pass run current (call.Tick moment) ([]) e),
   λ needs. tick_granted log pass run current moment needs,
+)
+
+pub returns-clause-spin : goal.returns-clause-spin
+returns-clause-spin c = λ log pass run current. (
+  λ e. spin_needs log pass (allowed log pass run current call.Spin ([]) e),
+  λ needs. spin_granted log pass run current needs,
+)
+
+pub returns-clause-unspin : goal.returns-clause-unspin
+returns-clause-unspin c = λ log pass run current. (
+  λ e. unspin_needs log pass (allowed log pass run current call.Unspin ([]) e),
+  λ needs. unspin_granted log pass run current needs,
+)
+
+pub returns-clause-bare : goal.returns-clause-bare
+returns-clause-bare c = λ log pass run current. (
+  λ e. bare_needs log pass (allowed log pass run current call.Bare ([]) e),
+  λ needs. bare_granted log pass run current needs,
+)
+
+pub returns-clause-park : goal.returns-clause-park
+returns-clause-park c = λ log pass run current. (
+  λ e. park_needs log pass (allowed log pass run current call.Park ([]) e),
+  λ needs. park_granted log pass run current needs,
+)
+
+pub returns-clause-declare : goal.returns-clause-declare
+returns-clause-declare c = λ p log pass run current. (
+  λ e. declare_needs log pass log.run p (allowed log pass run current call.Declare (handed.Proc log.run p ∷ []) e),
+  λ needs. declare_granted log pass run current p needs,
+)
+
+pub returns-clause-enter : goal.returns-clause-enter
+returns-clause-enter c = λ g p log pass run current. (
+  λ e. enter_needs log pass log.run g p (allowed log pass run current call.Enter (handed.Held log.run g ∷ handed.Proc log.run p ∷ []) e),
+  λ needs. enter_granted log pass run current g p needs,
+)
+
+pub returns-clause-leave : goal.returns-clause-leave
+returns-clause-leave c = λ g number log pass run current. (
+  λ e. leave_needs log pass log.run g number (allowed log pass run current (call.Leave number) (handed.Called log.run g ∷ []) e),
+  λ needs. leave_granted log pass run current g number needs,
 )

@@ -8,7 +8,9 @@ pub into_items-bodies-requires : goal.into_items-bodies-requires
 into_items-bodies-requires g c = rw c.in-Ok-of.ensures.ok (all_filled-map c.args.bodies.items)
 
 pub returns-in-Err-of-clause-back : goal.returns-in-Err-of-clause-back
-returns-in-Err-of-clause-back g c = (map-Some _ _ (c.into_items-bodies.ensures ∙ c.in-Ok-of.ensures.ok), c.in-Err-of.ensures.err)
+returns-in-Err-of-clause-back g c =
+    let bodies = map-Some c.into_items-bodies.result.items c.args.bodies.items (c.into_items-bodies.ensures ∙ c.in-Ok-of.ensures.ok) in
+    rw c.of-in-Err-of.ensures (bodies, c.in-Err-of.ensures.err)
 
 pub invariant_of-book : goal.invariant_of-book
 invariant_of-book g c =
