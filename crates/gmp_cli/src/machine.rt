@@ -118,6 +118,7 @@ impl Machine {
         ensures log { IfOk result (λ m. m.book.log ≡ opening_log RUN limits (length bodies.items) []) }
         ensures drives { IfOk result (λ m. Drives m.book m.pass m.queue.items m.queue.capacity Hand.Start) }
         ensures why { IfErr result (λ why. (why ≡ BadLimits) ⊎ (why ≡ OutOfMemory)) }
+        ensures limits { IfErr result (λ why. why ≡ BadLimits → ¬ (AreLimits limits (length bodies.items) [])) }
     {
         let Ok(queue) = HeapCircularBuffer::with_capacity(alloc, bodies.len()) else {
             return Err(Refusal::OutOfMemory);
