@@ -105,7 +105,9 @@ fn give_proc(book: &mut Book<ScriptBody, ()>, proc: Proc<()>)
 }
 
 impl Machine {
-    ghost use Rattle.gmp_cli.specs.Driven.{Drives, SameOpening, GoesOn, IsReportOf};
+    ghost use Rattle.gmp_cli.specs.Driven.{Drives, SameOpening, GoesOn, GoesOnBy, call_of, IsReportOf};
+    ghost use Rattle.gmp_cli.specs.Script.{next_ask};
+    ghost use Rattle.gmp_seq.specs.declared.call.Call.TheVariants.{Yield, Go, Exit};
 
     /// The machine before its first call.
     pub(crate) fn open(
@@ -320,6 +322,7 @@ impl Machine {
         requires drives { Drives self.old.book self.old.pass self.old.queue.items self.old.queue.capacity (Hand.Run proc held) }
         ensures drives { Drives self.new.book self.new.pass self.new.queue.items self.new.queue.capacity result }
         ensures goes { GoesOn self.old.book.log self.new.book.log }
+        ensures asked { GoesOnBy (call_of (next_ask held.body)) self.old.book.log self.new.book.log }
     {
         let (run, g, woke, mut body) = held.open();
         let ask = body.resume(woke);
@@ -339,6 +342,7 @@ impl Machine {
         requires drives { Drives self.old.book self.old.pass self.old.queue.items self.old.queue.capacity (Hand.Run proc held) }
         ensures drives { Drives self.new.book self.new.pass self.new.queue.items self.new.queue.capacity result }
         ensures goes { GoesOn self.old.book.log self.new.book.log }
+        ensures call { GoesOnBy Yield self.old.book.log self.new.book.log }
     {
         match self.book.yield_to(&mut self.pass, held) {
             Ok(()) => Hand::Look(proc),
@@ -357,6 +361,7 @@ impl Machine {
         requires drives { Drives self.old.book self.old.pass self.old.queue.items self.old.queue.capacity (Hand.Run proc held) }
         ensures drives { Drives self.new.book self.new.pass self.new.queue.items self.new.queue.capacity result }
         ensures goes { GoesOn self.old.book.log self.new.book.log }
+        ensures call { GoesOnBy Exit self.old.book.log self.new.book.log }
     {
         match self.book.exit(&mut self.pass, held) {
             Ok(_) => Hand::Look(proc),
@@ -375,6 +380,7 @@ impl Machine {
         requires drives { Drives self.old.book self.old.pass self.old.queue.items self.old.queue.capacity (Hand.Run proc held) }
         ensures drives { Drives self.new.book self.new.pass self.new.queue.items self.new.queue.capacity result }
         ensures goes { GoesOn self.old.book.log self.new.book.log }
+        ensures call { GoesOnBy (Go body) self.old.book.log self.new.book.log }
     {
         match self.book.go(&mut self.pass, held, body) {
             Ok(Went { held, push }) => match push {
