@@ -91,14 +91,12 @@ latest_on old new before after asked answer records latest =
     let seen : after.seen ≡ length new.history = ap (λ (p : Pass). p.seen) records.pass in
     let calls : after.calls ≡ before.calls + 1 = ap (λ (p : Pass). p.calls) records.pass in
     let counts : new.state.counts ≡ set old.state.counts machine.0 (slice_index old.state.counts machine.0 + 1) = subst (λ (k : ℕ). new.state.counts ≡ set old.state.counts k (slice_index old.state.counts k + 1)) m records.step.2 in
-    let few = latest.few in
     record {
       run = ap (λ (p : Pass). p.run) records.pass ∙ (latest.run ∙ sym (ap (λ (l : Log). l.run) records.opened));
       m = ap (λ (p : Pass). p.m) records.pass ∙ latest.m;
       there = subst (λ (l : Log). machine.0 < l.limits.machines) (sym records.opened) latest.there;
       counted = rw (counts, length-set old.state.counts machine.0 (slice_index old.state.counts machine.0 + 1)) latest.counted;
       turn = calls ∙ (ap (λ (n : ℕ). n + 1) latest.turn ∙ sym (ap (λ (l : List ℕ). slice_index l machine.0) counts ∙ get_or-set_same old.state.counts machine.0 (slice_index old.state.counts machine.0 + 1) 0 latest.counted));
-      few = omega (arith, calls, longer, few);
       seen = omega (arith, seen);
     }
 
@@ -107,7 +105,6 @@ pub may_call : (log : Log) (pass : Pass) → IsLatest log pass → log.state.out
 may_call log pass latest lasts = record {
   machine = subst (λ (m : MNo). m.0 < log.limits.machines) (sym latest.m) latest.there;
   turn = subst (λ (m : MNo). pass.calls ≡ calls_of log m) (sym latest.m) latest.turn;
-  few = latest.few;
   seen = latest.seen;
   lasts = lasts;
 }
@@ -338,7 +335,6 @@ opening_drives run limits bodies owners may =
         there = omega (arith, some);
         counted = omega (arith, some, count);
         turn = counted_none limits.machines some;
-        few = omega arith;
         seen = omega arith;
       };
       run = tt;

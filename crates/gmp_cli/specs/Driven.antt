@@ -1,5 +1,7 @@
 -- What one machine keeps while it drives a run.
 use Rattle.std.specs.Prelude.{◌≡◌, ℕ, ◌+◌, ◌≤◌, ◌<◌, Bool, true, false, Option, None, Some, List, [], ◌∷◌, ◌++◌, length, map, slice_set}
+use Rattle.gmp_base.specs.declared.ask.Ask.{Ask}
+use Rattle.gmp_base.specs.declared.ask.Ask.TheVariants as ask
 use Rattle.gmp_base.specs.declared.number.GNo.{GNo}
 use Rattle.gmp_base.specs.declared.number.MNo.{MNo}
 use Rattle.gmp_base.specs.declared.number.Readiness.{Readiness}
@@ -8,6 +10,9 @@ use Rattle.gmp_base.specs.Values.{readiness_of}
 use Rattle.gmp_book.specs.declared.report.Report.{Report}
 use Rattle.gmp_book.specs.Book.{Contents}
 use Rattle.gmp_book.specs.Log.{Log, calls_of}
+use Rattle.gmp_seq.specs.declared.call.Call.{Call}
+use Rattle.gmp_seq.specs.declared.call.Call.TheVariants as call
+use Rattle.gmp_seq.specs.declared.call.Entry.{Entry}
 use Rattle.gmp_seq.specs.declared.status.Status.{Status}
 use Rattle.gmp_seq.specs.declared.status.Status.TheVariants.{Ready}
 use Rattle.gmp_seq.specs.Fits.{AreLimits}
@@ -33,6 +38,18 @@ pub record SameOpening (old new : Log) : Type 0 where
 pub record GoesOn (old new : Log) : Type 0 where
   pub opened : SameOpening old new
   pub longer : length new.history ≡ length old.history + 1
+
+-- the call that the run goes on by is this
+pub record GoesOnBy (call : Call) (old new : Log) : Type 0 where
+  pub entry : Entry
+  pub last : new.history ≡ old.history ++ entry ∷ []
+  pub made : entry.call ≡ call
+
+-- the call that a script's ask makes
+abbrev pub call_of : Ask → Call
+call_of ask.Yield = call.Yield
+call_of (ask.Go g) = call.Go g
+call_of _ = call.Exit
 
 -- the report tells a run that was opened so: its history is legal, and its outcome is that of the state that the history leads to
 pub record IsReportOf {T Q : Type 0} (log : Log) (report : Report T Q) : Type 0 where
@@ -107,7 +124,6 @@ pub record IsLatest (log : Log) (pass : Pass) : Type 0 where
   pub there : machine.0 < log.limits.machines
   pub counted : machine.0 < length log.state.counts
   pub turn : pass.calls ≡ calls_of log machine
-  pub few : pass.calls ≤ length log.history
   pub seen : pass.seen ≤ length log.history
 
 -- What the machine holds

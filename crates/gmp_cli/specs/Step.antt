@@ -34,6 +34,16 @@ pub record IsTraceOf (limits : Limits) (x : Content) : Type 0 where
   pub over : IsSome last.outcome
   pub ended : x.end ≡ end_of last.outcome
 
+-- one machine with one processor may run so many bodies
+abbrev pub RunsOnOne : Limits → ℕ → Type 0
+RunsOnOne limits bodies = (limits.procs ≡ 1) × (limits.machines ≡ 1) × AreLimits limits bodies []
+
+-- one machine with one processor may not run the script that was read
+pub record IsOutOfLimits (limits : Limits) (all : List ℕ) : Type 0 where
+  pub bodies : List Commands
+  pub script : IsScript (lines all) bodies
+  pub out : ¬ (RunsOnOne limits (length bodies))
+
 -- the trace has as many goroutines as the script that was read has bodies, and no channel at its opening
 pub record IsStockOf (all : List ℕ) (x : Content) : Type 0 where
   pub bodies : List Commands
@@ -41,9 +51,10 @@ pub record IsStockOf (all : List ℕ) (x : Content) : Type 0 where
   pub stock : x.bodies ≡ length bodies
   pub channels : x.capacities ≡ []
 
--- what was written is the text of such a trace, and the status tells its end
+-- what was written is the text of such a trace, of one machine with one processor, and the status tells its end
 pub record WritesTrace (limits : Limits) (input : Option (List ℕ)) (status : ℕ) (old new : Option (List ℕ)) : Type 0 where
   pub trace : Content
+  pub of_one : (limits.procs ≡ 1) × (limits.machines ≡ 1)
   pub of_run : IsTraceOf limits trace
   pub of_script : IfSome input (λ all. IsStockOf all trace)
   pub has_text : HasText trace

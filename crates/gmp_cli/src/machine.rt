@@ -46,7 +46,7 @@ pub(crate) struct Machine {
     queue: HeapCircularBuffer<Readiness>,
     /// Claims since the last tick, up to 16.
     turns: u8,
-    /// A tick woke somebody, and no other machine was told yet.
+    /// A tick woke somebody, and no other machine was told yet. Nobody waits yet, so it stays false.
     fresh: bool,
 }
 
@@ -105,7 +105,9 @@ fn give_proc(book: &mut Book<ScriptBody, ()>, proc: Proc<()>)
 }
 
 impl Machine {
-    ghost use Rattle.gmp_cli.specs.Driven.{Driving, SameOpening, GoesOn, IsReportOf};
+    ghost use Rattle.gmp_cli.specs.Driven.{Driving, SameOpening, GoesOn, GoesOnBy, call_of, IsReportOf};
+    ghost use Rattle.gmp_cli.specs.Script.{next_ask};
+    ghost use Rattle.gmp_seq.specs.declared.call.Call.TheVariants.{Yield, Go, Exit};
 
     /// The machine before its first call.
     pub(crate) fn open(
@@ -118,6 +120,7 @@ impl Machine {
         ensures log { IfOk result (λ m. m.book.log ≡ opening_log RUN limits (length bodies.items) []) }
         ensures drives { IfOk result (λ m. Driving m Hand.Start) }
         ensures why { IfErr result (λ why. (why ≡ BadLimits) ⊎ (why ≡ OutOfMemory)) }
+        ensures limits { IfErr result (λ why. why ≡ BadLimits → ¬ (AreLimits limits (length bodies.items) [])) }
     {
         let Ok(queue) = HeapCircularBuffer::with_capacity(alloc, bodies.len()) else {
             return Err(Refusal::OutOfMemory);
@@ -319,6 +322,7 @@ impl Machine {
         requires drives { Driving self.old (Hand.Run proc held) }
         ensures drives { Driving self.new result }
         ensures goes { GoesOn self.old.book.log self.new.book.log }
+        ensures asked { GoesOnBy (call_of (next_ask held.body)) self.old.book.log self.new.book.log }
     {
         let (run, g, woke, mut body) = held.open();
         let ask = body.resume(woke);
@@ -338,6 +342,7 @@ impl Machine {
         requires drives { Driving self.old (Hand.Run proc held) }
         ensures drives { Driving self.new result }
         ensures goes { GoesOn self.old.book.log self.new.book.log }
+        ensures call { GoesOnBy Yield self.old.book.log self.new.book.log }
     {
         match self.book.yield_to(&mut self.pass, held) {
             Ok(()) => Hand::Look(proc),
@@ -356,6 +361,7 @@ impl Machine {
         requires drives { Driving self.old (Hand.Run proc held) }
         ensures drives { Driving self.new result }
         ensures goes { GoesOn self.old.book.log self.new.book.log }
+        ensures call { GoesOnBy Exit self.old.book.log self.new.book.log }
     {
         match self.book.exit(&mut self.pass, held) {
             Ok(_) => Hand::Look(proc),
@@ -374,6 +380,7 @@ impl Machine {
         requires drives { Driving self.old (Hand.Run proc held) }
         ensures drives { Driving self.new result }
         ensures goes { GoesOn self.old.book.log self.new.book.log }
+        ensures call { GoesOnBy (Go body) self.old.book.log self.new.book.log }
     {
         match self.book.go(&mut self.pass, held, body) {
             Ok(Went { held, push }) => match push {

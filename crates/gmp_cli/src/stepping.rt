@@ -1,9 +1,9 @@
 //! One run of a script.
 
 ghost use Rattle.std.specs.Prelude.{◌≡◌, ◌≢◌, ◌<◌, ◌⊎◌, ℕ, [], length, IfOk, IfErr, IfSome};
-ghost use Rattle.gmp_cli.specs.declared.said.Said.TheVariants.{BadLine, InputTooLong};
+ghost use Rattle.gmp_cli.specs.declared.said.Said.TheVariants.{BadLine, InputTooLong, BadLimits};
 ghost use Rattle.gmp_cli.specs.Lines.{lines, IsFirstBad};
-ghost use Rattle.gmp_cli.specs.Step.{limits_of, IsTraceOf, IsStockOf, WritesTrace};
+ghost use Rattle.gmp_cli.specs.Step.{limits_of, RunsOnOne, IsOutOfLimits, IsTraceOf, IsStockOf, WritesTrace};
 ghost use Rattle.gmp_trace.specs.Text.{content};
 
 use crate::commands::ScriptBody;
@@ -36,7 +36,9 @@ fn run(alloc: Global, limits: Limits, bodies: Vec<ScriptBody>) -> Result<Trace, 
     ensures stock { IfOk result (λ x. x.bodies ≡ length bodies.items) }
     ensures channels { IfOk result (λ x. x.capacities.items ≡ []) }
     ensures over { IfOk result (λ x. x.end ≢ End.Running) }
-    ensures err { IfErr result (λ e. (e.said ≡ Said.BadLimits) ⊎ (e.said ≡ Said.OutOfMemory)) }
+    ensures one { IfOk result (λ _. (limits.procs ≡ 1) × (limits.machines ≡ 1)) }
+    ensures err { IfErr result (λ e. (e.said ≡ BadLimits) ⊎ (e.said ≡ Said.OutOfMemory)) }
+    ensures limits { IfErr result (λ e. e.said ≡ BadLimits → ¬ (RunsOnOne limits (length bodies.items))) }
 {
     if limits.procs != 1 || limits.machines != 1 {
         return Err(Ended::bad_limits());
@@ -61,12 +63,15 @@ fn traced<R: Read>(alloc: Global, settings: &Settings, reader: &mut R) -> Result
     ensures ok { IfOk result (λ x. IsTraceOf (limits_of settings.now) (content x)) }
     ensures script { IfOk result (λ x. IfSome (R.remaining reader.old) (λ all. IsStockOf all (content x))) }
     ensures over { IfOk result (λ x. x.end ≢ End.Running) }
+    ensures one { IfOk result (λ _. (settings.now.procs ≡ 1) × (settings.now.machines ≡ 1)) }
 
     ensures err { IfErr result (λ e. e.said ≢ Said.Nothing) }
     ensures first { IfErr result (λ e. (line : ℕ) → e.said ≡ BadLine line
         → IfSome (R.remaining reader.old) (λ all. IsFirstBad (lines all) line)) }
     ensures too_long { IfErr result (λ e. e.said ≡ InputTooLong
         → IfSome (R.remaining reader.old) (λ all. MAX_INPUT < length all)) }
+    ensures limits { IfErr result (λ e. e.said ≡ BadLimits
+        → IfSome (R.remaining reader.old) (λ all. IsOutOfLimits (limits_of settings.now) all)) }
 {
     match script(alloc, reader) {
         Ok(script) => run(alloc, limits_of(settings), script.bodies),
@@ -90,6 +95,8 @@ pub fn step<R: Read, W: Write>(
         → IfSome (R.remaining reader.old) (λ all. IsFirstBad (lines all) line) }
     ensures too_long { result.said ≡ InputTooLong
         → IfSome (R.remaining reader.old) (λ all. MAX_INPUT < length all) }
+    ensures limits { result.said ≡ BadLimits
+        → IfSome (R.remaining reader.old) (λ all. IsOutOfLimits (limits_of settings.now) all) }
 {
     let trace = match traced(alloc, settings, reader) {
         Ok(trace) => trace,
