@@ -9,7 +9,7 @@ ghost use Rattle.gmp_seq.specs.Fits.{AreLimits};
 
 use crate::commands::ScriptBody;
 use circular_buffer::HeapCircularBuffer;
-use gmp_base::{Ask, Body, GNo, Held, Pass, Proc, Readiness, Refusal, Refused, Ticket};
+use gmp_base::{Ask, Body, GNo, Held, Pass, Proc, Readiness, Refusal, Ticket};
 use gmp_book::{Book, Report, Unopened, Went};
 use gmp_seq::Limits;
 use std::alloc::Global;
@@ -59,12 +59,7 @@ fn give_held(book: &mut Book<ScriptBody, ()>, held: Held<ScriptBody>)
 {
     match book.surrender_held(held) {
         Ok(()) => {}
-        Err(
-            Refused {
-                why: _,
-                back: _held,
-            },
-        ) => unreachable!(),
+        Err(_) => unreachable!(),
     }
 }
 
@@ -77,12 +72,7 @@ fn give_ticket(book: &mut Book<ScriptBody, ()>, ticket: Ticket)
 {
     match book.surrender_ticket(ticket) {
         Ok(()) => {}
-        Err(
-            Refused {
-                why: _,
-                back: _ticket,
-            },
-        ) => unreachable!(),
+        Err(_) => unreachable!(),
     }
 }
 
@@ -95,12 +85,7 @@ fn give_proc(book: &mut Book<ScriptBody, ()>, proc: Proc<()>)
 {
     match book.surrender_proc(proc) {
         Ok(()) => {}
-        Err(
-            Refused {
-                why: _,
-                back: _proc,
-            },
-        ) => unreachable!(),
+        Err(_) => unreachable!(),
     }
 }
 
@@ -291,12 +276,7 @@ impl Machine {
                 self.turns = self.turns.saturating_add(1).min(TURNS);
                 Hand::Run(proc, held)
             }
-            Err(
-                Refused {
-                    why: _,
-                    back: _ticket,
-                },
-            ) => unreachable!(),
+            Err(_) => unreachable!(),
         }
     }
 
@@ -346,12 +326,7 @@ impl Machine {
     {
         match self.book.yield_to(&mut self.pass, held) {
             Ok(()) => Hand::Look(proc),
-            Err(
-                Refused {
-                    why: _,
-                    back: _held,
-                },
-            ) => unreachable!(),
+            Err(_) => unreachable!(),
         }
     }
 
@@ -365,12 +340,7 @@ impl Machine {
     {
         match self.book.exit(&mut self.pass, held) {
             Ok(_) => Hand::Look(proc),
-            Err(
-                Refused {
-                    why: _,
-                    back: _held,
-                },
-            ) => unreachable!(),
+            Err(_) => unreachable!(),
         }
     }
 
@@ -391,12 +361,7 @@ impl Machine {
                 }
                 None => Hand::Run(proc, held),
             },
-            Err(
-                Refused {
-                    why: _,
-                    back: _held,
-                },
-            ) => unreachable!(),
+            Err(_) => unreachable!(),
         }
     }
 
