@@ -1,0 +1,4 @@
+pub mod Decides
+pub mod Causes
+pub mod Statuses
+pub mod First

@@ -1,0 +1,197 @@
+//! The status table as a plain list of goroutines, which each question scans.
+ghost use Rattle.std.specs.Prelude.{◌≡◌, ◌↔◌, ◌<◌, ◌^◌, ◌∷◌, ◌-◌, [], false, Some, None, ℕ, Option, List, option_copied, replicate, slice_get, slice_set, IsTrue, IfOk, IfSome, IfNone};
+ghost use Rattle.std.specs.List.{list_any};
+ghost use Rattle.gmp_base.specs.declared.ask.Woke.{Woke};
+ghost use Rattle.gmp_base.specs.declared.number.GNo.{GNo};
+ghost use Rattle.gmp_seq.specs.declared.status.Place.{Place};
+ghost use Rattle.gmp_seq.specs.declared.status.Status.{Status};
+ghost use Rattle.gmp_seq.specs.State.{first_goroutine, dormant};
+ghost use Rattle.gmp_seq.specs.Step.{Takes, Puts, Claims, Starts, Yields, Exits, Sleeps, Goparks, Readies, Resumes};
+ghost use Rattle.gmp_seq.specs.Table.{IsReady, IsRunning, IsCalling, RunsNothing, epoch_at, is_astir, is_dormant, is_parked, is_ready_or_running, is_running_on, is_shelved, made_ready, made_wait, next_of, set_status, some_status, status_at};
+ghost use Rattle.gmp_check.specs.Decides.{Decides};
+
+mod calls;
+mod waiting;
+mod waking;
+
+use gmp_base::{GNo, MNo, Readiness, Woke};
+use gmp_seq::{Goroutine, Kind, Offers, Place, Status, Wait};
+use crate::status::{is_astir, is_calling_on, is_ready_or_running, is_running_on, is_shelved};
+use std::alloc::{AllocError, Global};
+use std::marker::Model;
+
+/// A contract sees the table of the definitions.
+#[derive(Drop)]
+pub(crate) struct Table {
+    goroutines: Vec<Goroutine>,
+    arrivals: u64,
+    clock: u64,
+}
+
+impl Model for Table {
+    ghost use Rattle.std.specs.Prelude.{◌<◌, ◌^◌, length};
+    ghost use Rattle.gmp_seq.specs.Table.{Table as Contents};
+
+    ghost Value = { Contents };
+
+    ghost view = { λ t. record { goroutines = t.goroutines.items; arrivals = t.arrivals; clock = t.clock } };
+
+    ghost invariant = { λ t. length t.goroutines.items < 2 ^ 16 };
+}
+
+impl Table {
+    /// Goroutine 0 is on the shelf, and all others are dormant.
+    pub(crate) fn open(alloc: Global, bodies: u16) -> Result<Self, AllocError>
+        requires { 0 < bodies }
+        ensures { IfOk result (λ t. t ≡ record { goroutines = first_goroutine ∷ replicate (bodies - 1) dormant; arrivals = 0; clock = 0 }) }
+    {
+        let mut goroutines = Vec::with_capacity(alloc, bodies as usize)?;
+        goroutines.push_reserved(Goroutine {
+            status: Status::Ready(Place::Shelf, Woke::First),
+            epoch: 1,
+        });
+        for _ in 1..bodies {
+            goroutines.push_reserved(Goroutine {
+                status: Status::Dormant,
+                epoch: 0,
+            });
+        }
+        Ok(Table {
+            goroutines,
+            arrivals: 0,
+            clock: 0,
+        })
+    }
+
+    fn get(&self, g: GNo) -> Option<&Goroutine>
+        ensures { option_copied result ≡ slice_get self.now.goroutines g.0 }
+    {
+        self.goroutines.get(g.0 as usize)
+    }
+
+    pub(crate) fn status(&self, g: GNo) -> Option<&Status>
+        ensures { option_copied result ≡ status_at self.now g }
+    {
+        match self.get(g) {
+            Some(row) => Some(&row.status),
+            None => None,
+        }
+    }
+
+    fn epoch(&self, g: GNo) -> u64
+        ensures { result ≡ epoch_at self.now g }
+    {
+        match self.get(g) {
+            Some(row) => row.epoch,
+            None => 0,
+        }
+    }
+
+    /// What the goroutine of this readiness is to be told, where its ticket is at this place.
+    fn answer(&self, r: Readiness, place: Place) -> Option<Woke>
+        ensures some { IfSome result (λ answer. IsReady self.now r place answer) }
+        ensures none { IfNone result ((answer : Woke) → IsReady self.now r place answer → ⊥) }
+    {
+        match self.get(r.g) {
+            Some(row) => match row.status {
+                Status::Ready(at, woke) if at == place && row.epoch == r.epoch => Some(woke),
+                _ => None,
+            },
+            None => None,
+        }
+    }
+
+    pub(crate) fn has_shelved(&self) -> bool
+        ensures { result ≡ some_status is_shelved self.now }
+    {
+        self.goroutines.iter().any(|row| is_shelved(&row.status))
+    }
+
+    pub(crate) fn has_astir(&self) -> bool
+        ensures { result ≡ some_status is_astir self.now }
+    {
+        self.goroutines.iter().any(|row| is_astir(&row.status))
+    }
+
+    fn has_ready_or_running(&self) -> bool
+        ensures { result ≡ some_status is_ready_or_running self.now }
+    {
+        self.goroutines.iter().any(|row| is_ready_or_running(&row.status))
+    }
+
+    pub(crate) fn runs_some(&self, m: MNo) -> bool
+        ensures { result ≡ some_status (is_running_on m) self.now }
+    {
+        self.goroutines.iter().any(|row| is_running_on(m, &row.status))
+    }
+
+    /// Whom m runs.
+    pub(crate) fn running(&self, m: MNo) -> Option<GNo>
+        ensures some { IfSome result (λ g. IsRunning self.now g m) }
+        ensures none { IfNone result ((g : GNo) → IsRunning self.now g m → ⊥) }
+    {
+        let mut rows = self.goroutines.iter();
+        let g = rows.position(|row| is_running_on(m, &row.status))?;
+        Some(GNo(g as u16))
+    }
+
+    /// Whose blocking call m makes.
+    pub(crate) fn calling(&self, m: MNo) -> Option<GNo>
+        ensures some { IfSome result (λ g. IsCalling self.now g m) }
+        ensures none { IfNone result ((g : GNo) → IsCalling self.now g m → ⊥) }
+    {
+        let mut rows = self.goroutines.iter();
+        let g = rows.position(|row| is_calling_on(m, &row.status))?;
+        Some(GNo(g as u16))
+    }
+
+    /// The next readiness of g.
+    fn next(&self, g: GNo) -> Readiness
+        requires { epoch_at self.now g < 2 ^ 63 }
+        ensures { result ≡ next_of self.now g }
+    {
+        Readiness {
+            g,
+            epoch: self.epoch(g) + 1,
+        }
+    }
+
+    fn set(&mut self, g: GNo, row: Goroutine)
+        ensures { self.new ≡ record self.old { goroutines = slice_set self.old.goroutines g.0 row } }
+    {
+        let place = g.0 as usize;
+        if place < self.goroutines.len() {
+            self.goroutines[place] = row;
+        }
+    }
+
+    pub(crate) fn set_status(&mut self, g: GNo, status: Status)
+        ensures { self.new ≡ set_status self.old g status }
+    {
+        let epoch = self.epoch(g);
+        self.set(g, Goroutine { status, epoch });
+    }
+
+    pub(crate) fn make_ready(&mut self, g: GNo, place: Place, woke: Woke)
+        requires { epoch_at self.old g < 2 ^ 63 }
+        ensures { self.new ≡ made_ready self.old g place woke }
+    {
+        let epoch = self.epoch(g) + 1;
+        let status = Status::Ready(place, woke);
+        self.set(g, Goroutine { status, epoch });
+    }
+
+    pub(crate) fn make_wait(&mut self, g: GNo, kind: Kind, offers: Offers, until: Option<u64>)
+        requires { self.old.arrivals < 2 ^ 63 }
+        ensures { self.new ≡ made_wait self.old g kind offers until }
+    {
+        let wait = Wait {
+            arrival: self.arrivals,
+            kind,
+            offers,
+            until,
+        };
+        self.set_status(g, Status::Waiting(wait));
+        self.arrivals += 1;
+    }
+}

@@ -1,0 +1,152 @@
+//! Calls that concern goroutines alone.
+ghost use Rattle.std.specs.Prelude.{◌<◌, ◌^◌};
+ghost use Rattle.gmp_seq.specs.Step.{Takes, Puts, Claims, Starts, Yields, Exits, Sleeps, Goparks, Readies, Resumes};
+ghost use Rattle.gmp_seq.specs.Table.{epoch_at};
+ghost use Rattle.gmp_check.specs.Decides.{Decides};
+
+use super::Table;
+use crate::status::{is_dormant, is_parked};
+use gmp_base::{Fault, GNo, MNo, Readiness, Woke};
+use gmp_seq::{Kind, Offers, Place, Reply, Status};
+
+impl Table {
+    pub(crate) fn take(&mut self, reply: Reply) -> bool
+        ensures { Decides (Takes reply) self.old self.new result }
+    {
+        match reply {
+            Reply::Ticket(r) => match self.answer(r, Place::Shelf) {
+                Some(woke) => {
+                    self.set_status(r.g, Status::Ready(Place::Out, woke));
+                    true
+                }
+                None => false,
+            },
+            Reply::Nothing => !self.has_shelved(),
+            _ => false,
+        }
+    }
+
+    pub(crate) fn put(&mut self, r: Readiness, reply: Reply) -> bool
+        ensures { Decides (Puts r reply) self.old self.new result }
+    {
+        match (reply, self.answer(r, Place::Out)) {
+            (Reply::Shelf, Some(woke)) => {
+                self.set_status(r.g, Status::Ready(Place::Shelf, woke));
+                true
+            }
+            _ => false,
+        }
+    }
+
+    pub(crate) fn claim(&mut self, m: MNo, r: Readiness, reply: Reply) -> bool
+        ensures { Decides (Claims m r reply) self.old self.new result }
+    {
+        match (reply, self.answer(r, Place::Out)) {
+            (Reply::Held, Some(_)) => {
+                self.set_status(r.g, Status::Running(m));
+                true
+            }
+            _ => false,
+        }
+    }
+
+    pub(crate) fn start(&mut self, g: GNo, reply: Reply) -> bool
+        requires { epoch_at self.old g < 2 ^ 63 }
+        ensures { Decides (Starts g reply) self.old self.new result }
+    {
+        match (reply, self.status(g)) {
+            (Reply::Ticket(r), Some(Status::Dormant)) if r == self.next(g) => {
+                self.make_ready(g, Place::Out, Woke::First);
+                true
+            }
+            (Reply::Fault(Fault::NoSuchBody), None) => true,
+            (Reply::Fault(Fault::AlreadyStarted), Some(status)) => !is_dormant(status),
+            _ => false,
+        }
+    }
+
+    pub(crate) fn give_way(&mut self, g: GNo, reply: Reply) -> bool
+        requires { epoch_at self.old g < 2 ^ 63 }
+        ensures { Decides (Yields g reply) self.old self.new result }
+    {
+        match reply {
+            Reply::Shelved(r) if r == self.next(g) => {
+                self.make_ready(g, Place::Shelf, Woke::Done);
+                true
+            }
+            _ => false,
+        }
+    }
+
+    pub(crate) fn exit(&mut self, g: GNo, reply: Reply) -> bool
+        ensures { Decides (Exits g reply) self.old self.new result }
+    {
+        let fits = match reply {
+            Reply::Dead => g.0 != 0,
+            Reply::MainEnded => g.0 == 0,
+            _ => false,
+        };
+        if fits {
+            self.set_status(g, Status::Dead);
+        }
+        fits
+    }
+
+    pub(crate) fn sleep(&mut self, g: GNo, until: u64, reply: Reply) -> bool
+        requires { self.old.arrivals < 2 ^ 63 }
+        ensures { Decides (Sleeps g until reply) self.old self.new result }
+    {
+        match reply {
+            Reply::Waits => {
+                self.make_wait(g, Kind::Sleep, Offers::new(), Some(until));
+                true
+            }
+            _ => false,
+        }
+    }
+
+    pub(crate) fn gopark(&mut self, g: GNo, reply: Reply) -> bool
+        requires { self.old.arrivals < 2 ^ 63 }
+        ensures { Decides (Goparks g reply) self.old self.new result }
+    {
+        match reply {
+            Reply::Waits => {
+                self.make_wait(g, Kind::Parked, Offers::new(), None);
+                true
+            }
+            _ => false,
+        }
+    }
+
+    pub(crate) fn ready(&mut self, g: GNo, reply: Reply) -> bool
+        requires { epoch_at self.old g < 2 ^ 63 }
+        ensures { Decides (Readies g reply) self.old self.new result }
+    {
+        match (reply, self.status(g)) {
+            (Reply::Ticket(r), Some(status)) if is_parked(status) && r == self.next(g) => {
+                self.make_ready(g, Place::Out, Woke::Done);
+                true
+            }
+            (Reply::Fault(Fault::NoSuchBody), None) => true,
+            (Reply::Fault(Fault::NotParked), Some(status)) => !is_parked(status),
+            _ => false,
+        }
+    }
+
+    pub(crate) fn come_back(&mut self, g: GNo, m: MNo, number: u64, reply: Reply) -> bool
+        requires { epoch_at self.old g < 2 ^ 63 }
+        ensures { Decides (Resumes g m number reply) self.old self.new result }
+    {
+        match reply {
+            Reply::Runs(_) => {
+                self.set_status(g, Status::Running(m));
+                true
+            }
+            Reply::Shelved(r) if r == self.next(g) => {
+                self.make_ready(g, Place::Shelf, Woke::Number(number));
+                true
+            }
+            _ => false,
+        }
+    }
+}
