@@ -17,7 +17,6 @@ pub mod laws;
 mod ledger;
 mod machines;
 mod opening;
-mod range;
 mod replies;
 mod report;
 mod runners;

@@ -2,7 +2,6 @@
 ghost use Rattle.std.specs.Prelude.{◌≡◌, ◌≤◌, ◌↔◌, [], IsTrue, vec_capacity};
 ghost use Rattle.gmp_book.specs.Book.{MayOpen, opening_passes};
 
-use crate::range::in_range;
 use gmp_base::{MNo, Pass, Refusal};
 use gmp_seq::Limits;
 
@@ -31,7 +30,7 @@ impl<T, Q> Unopened<T, Q> {
 pub(crate) fn may_open(limits: Limits, bodies: usize, capacities: &[u32], owners: usize) -> bool
     ensures { IsTrue result ↔ MayOpen limits bodies capacities.now owners }
 {
-    in_range(limits, bodies, capacities) && owners == limits.procs as usize
+    limits.allow(bodies, capacities) && owners == limits.procs as usize
 }
 
 /// One pass a machine, in order, in room that is there.

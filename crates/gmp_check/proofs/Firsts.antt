@@ -169,9 +169,20 @@ one_more_row t c direction i row first one at so_far of_g =
     ])
     (λ w (is, small). (is, omega (arith, small)))
     (λ w (x, waits, (is_g, arrival, kind, among, on)).
-      let n : w.g.0 ≡ i = ap (λ (h : GNo). h.0) is_g in
-      (((x, (subst (λ k. option_map (λ (y : Goroutine). y.status) (slice_get t.goroutines k) ≡ Some (Waiting x)) (sym n)
-      (ap (option_map (λ (y : Goroutine). y.status)) at ∙ ap Some waits)), arrival, kind, among), on), omega (arith, n)))
+    let n : w.g.0 ≡ i = ap (λ (h : GNo). h.0) is_g in (
+      (
+        (
+          x,
+          (subst (λ k. option_map (λ (y : Goroutine). y.status) (slice_get t.goroutines k) ≡ Some (Waiting x)) (sym n)
+              (ap (option_map (λ (y : Goroutine). y.status)) at ∙ ap Some waits)),
+          arrival,
+          kind,
+          among,
+        ),
+        on,
+      ),
+      omega (arith, n),
+    ))
     so_far of_g
 
 -- all goroutines are before the end

@@ -1,5 +1,5 @@
 -- Epochs that can rise.
-use Rattle.std.proofs.Common.{◌≡◌, ℕ, ◌<◌, ◌^◌, Some, List, refl, subst}
+use Rattle.std.proofs.Common.{◌≡◌, ℕ, ◌<◌, ◌^◌, Some, refl, subst}
 use Rattle.std.specs.List.{slice_get}
 use Rattle.gmp_base.specs.declared.number.GNo.{GNo}
 use Rattle.gmp_seq.specs.declared.status.Goroutine.{Goroutine}

@@ -2,3 +2,7 @@ pub mod Decides
 pub mod Causes
 pub mod Statuses
 pub mod First
+pub mod Reached
+pub mod Ways
+pub mod Calls
+pub mod Replayed

@@ -2,7 +2,7 @@
 ghost use Rattle.std.specs.Prelude.{◌≡◌, ◌↔◌, false, None, is_none, replicate, slice_set, IsTrue, IfOk};
 ghost use Rattle.std.specs.List.{list_any};
 ghost use Rattle.gmp_seq.specs.declared.status.Mode.{Mode};
-ghost use Rattle.gmp_seq.specs.Machines.{Acquires, IsAwake, IsIdle, IsParked, Holds, IsBare, Spins, Unspins, Pokes, Declares, Bares, Looks, Enters, Returns, set_holder, set_mode, set_spinning, has_processor, how_many_spin, is_held_by, is_parked, some_idle, some_parked, may_spin, spins, wants_poke};
+ghost use Rattle.gmp_seq.specs.Machines.{Acquires, IsAwake, IsIdle, IsParked, Holds, IsBare, Spins, Unspins, Pokes, Declares, Bares, Looks, Enters, set_holder, set_mode, set_spinning, has_processor, how_many_spin, is_held_by, is_parked, some_idle, some_parked, may_spin, spins, wants_poke};
 ghost use Rattle.gmp_check.specs.Decides.{Decides};
 
 use gmp_base::{MNo, PNo};
@@ -131,7 +131,7 @@ impl Machines {
         self.how_many_spin() == 0 && self.has_idle() && self.has_parked()
     }
 
-    fn set_holder(&mut self, p: PNo, holder: Option<MNo>)
+    pub(crate) fn set_holder(&mut self, p: PNo, holder: Option<MNo>)
         ensures { self.new ≡ set_holder self.old p holder }
     {
         set(&mut self.holders, p.0 as usize, holder);
@@ -253,23 +253,6 @@ impl Machines {
                 self.set_holder(p, None);
                 self.set_mode(m, Mode::Calling);
                 self.set_mode(n, Mode::Awake);
-                true
-            }
-            _ => false,
-        }
-    }
-
-    pub(crate) fn come_back(&mut self, m: MNo, reply: Reply) -> bool
-        ensures { Decides (Returns m reply) self.old self.new result }
-    {
-        match reply {
-            Reply::Runs(p) if self.is_idle(p) => {
-                self.set_mode(m, Mode::Awake);
-                self.set_holder(p, Some(m));
-                true
-            }
-            Reply::Shelved(_) if !self.has_idle() => {
-                self.set_mode(m, Mode::Awake);
                 true
             }
             _ => false,

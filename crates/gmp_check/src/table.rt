@@ -14,9 +14,9 @@ mod calls;
 mod waiting;
 mod waking;
 
+use crate::status::{is_astir, is_calling_on, is_ready_or_running, is_running_on, is_shelved};
 use gmp_base::{GNo, MNo, Readiness, Woke};
 use gmp_seq::{Goroutine, Kind, Offers, Place, Status, Wait};
-use crate::status::{is_astir, is_calling_on, is_ready_or_running, is_running_on, is_shelved};
 use std::alloc::{AllocError, Global};
 use std::marker::Model;
 
@@ -116,13 +116,17 @@ impl Table {
     fn has_ready_or_running(&self) -> bool
         ensures { result ≡ some_status is_ready_or_running self.now }
     {
-        self.goroutines.iter().any(|row| is_ready_or_running(&row.status))
+        self.goroutines
+            .iter()
+            .any(|row| is_ready_or_running(&row.status))
     }
 
     pub(crate) fn runs_some(&self, m: MNo) -> bool
         ensures { result ≡ some_status (is_running_on m) self.now }
     {
-        self.goroutines.iter().any(|row| is_running_on(m, &row.status))
+        self.goroutines
+            .iter()
+            .any(|row| is_running_on(m, &row.status))
     }
 
     /// Whom m runs.
@@ -146,7 +150,7 @@ impl Table {
     }
 
     /// The next readiness of g.
-    fn next(&self, g: GNo) -> Readiness
+    pub(crate) fn next(&self, g: GNo) -> Readiness
         requires { epoch_at self.now g < 2 ^ 63 }
         ensures { result ≡ next_of self.now g }
     {

@@ -1,6 +1,5 @@
 //! Openings, and what they refuse.
 use super::*;
-use crate::range::in_range;
 
 /// So many bodies or owners, from this one up.
 fn in_order(alloc: Global, first: u8, count: u8) -> Result<Vec<u32>, Fail> {
@@ -92,40 +91,3 @@ fn want_of_memory_gives_back_what_was_handed_in(rt: HostRuntime) {
 }
 
 /// Limits that differ from the small ones.
-const fn limits(procs: u8, machines: u8, channels: u16, entries: u32) -> Limits {
-    Limits {
-        procs,
-        machines,
-        channels,
-        entries,
-    }
-}
-
-#[test]
-fn ranges(rt: HostRuntime) {
-    let cases = [
-        (SMALL, 1, [0; 2], true),
-        (SMALL, 0, [0; 2], false),
-        (SMALL, 4096, [4096; 2], true),
-        (SMALL, 4097, [0; 2], false),
-        (SMALL, 1, [4097; 2], false),
-        (limits(0, 1, 2, 16), 1, [0; 2], false),
-        (limits(2, 1, 2, 16), 1, [0; 2], false),
-        (limits(32, 64, 2, 16), 1, [0; 2], true),
-        (limits(33, 64, 2, 16), 1, [0; 2], false),
-        (limits(1, 65, 2, 16), 1, [0; 2], false),
-        (limits(1, 1, 1, 16), 1, [0; 2], false),
-        (limits(1, 1, 1024, 16), 1, [0; 2], true),
-        (limits(1, 1, 1025, 16), 1, [0; 2], false),
-        (limits(1, 1, 2, 15), 1, [0; 2], false),
-        (limits(1, 1, 2, 1_000_000), 1, [0; 2], true),
-        (limits(1, 1, 2, 1_000_001), 1, [0; 2], false),
-    ];
-    for (limits, bodies, capacities, fits) in cases {
-        assert_eq!(rt;
-            in_range(limits, bodies, &capacities),
-            fits,
-            "{limits:?} {bodies} {capacities:?}"
-        );
-    }
-}

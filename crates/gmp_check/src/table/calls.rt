@@ -1,6 +1,6 @@
 //! Calls that concern goroutines alone.
 ghost use Rattle.std.specs.Prelude.{◌<◌, ◌^◌};
-ghost use Rattle.gmp_seq.specs.Step.{Takes, Puts, Claims, Starts, Yields, Exits, Sleeps, Goparks, Readies, Resumes};
+ghost use Rattle.gmp_seq.specs.Step.{Takes, Puts, Claims, Starts, Yields, Exits, Sleeps, Goparks, Readies};
 ghost use Rattle.gmp_seq.specs.Table.{epoch_at};
 ghost use Rattle.gmp_check.specs.Decides.{Decides};
 
@@ -129,23 +129,6 @@ impl Table {
             }
             (Reply::Fault(Fault::NoSuchBody), None) => true,
             (Reply::Fault(Fault::NotParked), Some(status)) => !is_parked(status),
-            _ => false,
-        }
-    }
-
-    pub(crate) fn come_back(&mut self, g: GNo, m: MNo, number: u64, reply: Reply) -> bool
-        requires { epoch_at self.old g < 2 ^ 63 }
-        ensures { Decides (Resumes g m number reply) self.old self.new result }
-    {
-        match reply {
-            Reply::Runs(_) => {
-                self.set_status(g, Status::Running(m));
-                true
-            }
-            Reply::Shelved(r) if r == self.next(g) => {
-                self.make_ready(g, Place::Shelf, Woke::Number(number));
-                true
-            }
             _ => false,
         }
     }

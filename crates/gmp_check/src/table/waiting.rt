@@ -19,7 +19,10 @@ fn direction_of(deal: Deal) -> Direction
 fn same_direction(a: Direction, b: Direction) -> bool
     ensures { result ≡ same_direction a b }
 {
-    matches!((a, b), (Direction::Sending, Direction::Sending) | (Direction::Receiving, Direction::Receiving))
+    matches!(
+        (a, b),
+        (Direction::Sending, Direction::Sending) | (Direction::Receiving, Direction::Receiving)
+    )
 }
 
 fn is_on(c: CNo, direction: Direction, w: Waiter) -> bool

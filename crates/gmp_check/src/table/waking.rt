@@ -59,7 +59,8 @@ impl Table {
         ensures { result ≡ how_many_woken (answer_for cause) self.now }
     {
         let rows = self.goroutines.iter();
-        rows.filter(|row| cause.answer(&row.status).is_some()).count()
+        rows.filter(|row| cause.answer(&row.status).is_some())
+            .count()
     }
 
     /// The least deadline of all that wait.

@@ -1,0 +1,23 @@
+use Rattle.std.proofs.Common.{subst}
+use Rattle.gmp_seq.specs.Run.{IsStep}
+use Rattle.gmp_check.proofs.Replaying.{only_next, reached_next}
+use Rattle.gmp_check.specs.Decides.{Decides}
+use Rattle.gmp_check.specs.Reached.{IsReachedUnder}
+use Rattle.gmp_check.specs.Replayed.{Replayed}
+use Rattle.gmp_check.proofs.replay.Replay.step.Goals as goal
+
+pub invariant_of-self-2 : goal.invariant_of-self-2
+invariant_of-self-2 c =
+    let i = c.self.inside in
+    reached_next i.limits c.args.entry.now i.state c.step.new.self c.in_ok-step.field-0 c.self.invariant c.in_ok-step.ensures.decides
+
+pub returns-clause-decides : goal.returns-clause-decides
+returns-clause-decides c =
+    subst (λ (r : Replayed). Decides (IsStep r.limits c.args.entry.now) r.state c.step.new.self c.in_ok-step.field-0) c.self.view_is c.in_ok-step.ensures.decides
+
+pub returns-clause-only : goal.returns-clause-only
+returns-clause-only c other step =
+    let now = c.args.self.now in
+    let reached = subst (λ (r : Replayed). IsReachedUnder r.limits r.state) c.self.view_is c.self.invariant in
+    let is = subst (λ (r : Replayed). Decides (IsStep r.limits c.args.entry.now) r.state c.step.new.self c.in_ok-step.field-0) c.self.view_is c.in_ok-step.ensures.decides in
+    only_next now.limits c.args.entry.now now.state c.step.new.self other c.in_ok-step.field-0 reached is step

@@ -1,0 +1,12 @@
+use Rattle.std.proofs.Common.{◌≡◌, take}
+use Rattle.gmp_seq.specs.Fits.{AreLimits}
+use Rattle.gmp_seq.specs.Run.{IsLegal}
+use Rattle.gmp_check.proofs.replay.outcome_of.Given as goal
+
+-- the entries before the index are a legal run to the replay's state
+abbrev pub invariant-loop-i : goal.invariant-loop-i
+invariant-loop-i l = record {
+  limits : l.replay.limits ≡ l.fn.limits;
+  within : AreLimits l.fn.limits l.bodies l.capacities;
+  legal : IsLegal l.fn.limits l.bodies l.capacities (take l.i l.entries) l.replay.state;
+}

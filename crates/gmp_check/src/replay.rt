@@ -1,0 +1,95 @@
+//! A replay of a history.
+ghost use Rattle.std.specs.Prelude.{◌≡◌, IfErr, IfOk, OnErr};
+ghost use Rattle.gmp_seq.specs.Fits.{AreLimits};
+ghost use Rattle.gmp_seq.specs.Run.{IsStep};
+ghost use Rattle.gmp_seq.specs.State.{State, opening};
+ghost use Rattle.gmp_check.specs.Decides.{Decides};
+ghost use Rattle.gmp_check.specs.Reached.{IsReachedUnder};
+ghost use Rattle.gmp_check.specs.Replayed.{EndsWith, IsOpenError, IsReplayError};
+
+use crate::error::{OpenError, OutOfMemory, ReplayError};
+use crate::state::State;
+use gmp_seq::{Entry, Limits, Outcome};
+use std::alloc::Global;
+use std::marker::Model;
+
+/// The scheduler, one entry of a history after another. A contract sees the limits and the state.
+///
+/// Each question scans plain lists, so an entry costs as much as there are goroutines, machines and processors.
+#[derive(Drop)]
+pub struct Replay {
+    limits: Limits,
+    state: State,
+}
+
+impl Model for Replay {
+    ghost use Rattle.gmp_check.specs.Reached.{IsReachedUnder};
+    ghost use Rattle.gmp_check.specs.Replayed.{Replayed};
+
+    ghost Value = { Replayed };
+
+    ghost view = { λ r. record { limits = r.limits; state = r.state } };
+
+    ghost invariant = { λ r. IsReachedUnder r.limits r.state };
+}
+
+impl Replay {
+    /// A run that begins, with so many bodies, and channels of these capacities.
+    pub fn open(
+        alloc: Global,
+        limits: Limits,
+        bodies: u16,
+        capacities: &[u32],
+    ) -> Result<Self, OpenError>
+        ensures opened { IfOk result (λ r. r ≡ record { limits = limits; state = opening limits bodies capacities.now }) }
+        ensures within { IfOk result (λ r. AreLimits limits bodies capacities.now) }
+        ensures why { IfErr result (IsOpenError limits bodies capacities.now) }
+    {
+        if !limits.allow(bodies as usize, capacities) {
+            return Err(OpenError::BadLimits);
+        }
+        let state = State::open(alloc, limits, bodies, capacities)?;
+        Ok(Replay { limits, state })
+    }
+
+    /// Whether the entry is a step of the scheduler; where it is, the replay takes it.
+    ///
+    /// A machine's number that is not its next, and an entry after an outcome, are no steps. Only a make needs memory.
+    pub fn step(&mut self, entry: &Entry) -> Result<bool, OutOfMemory>
+        ensures decides { IfOk result (Decides (IsStep self.old.limits entry.now) self.old.state self.new.state) }
+        ensures limits { self.new.limits ≡ self.old.limits }
+        ensures refused { OnErr result (self.new.state ≡ self.old.state) }
+        // No other state follows.
+        ensures only { (other : State) → IsStep self.old.limits entry.now self.old.state other → IfOk result (λ yes. other ≡ self.new.state) }
+    {
+        Ok(self.state.step(self.limits, entry)?)
+    }
+
+    /// How the run ended, if it did.
+    pub fn outcome(&self) -> Option<Outcome>
+        ensures value { result ≡ self.now.state.outcome }
+        ensures reached { IsReachedUnder self.now.limits self.now.state }
+    {
+        self.state.outcome()
+    }
+}
+
+/// The outcome of a whole history from the opening on, where each entry is a step.
+pub fn outcome_of(
+    alloc: Global,
+    limits: Limits,
+    bodies: u16,
+    capacities: &[u32],
+    entries: &[Entry],
+) -> Result<Option<Outcome>, ReplayError>
+    ensures ends { IfOk result (EndsWith limits bodies capacities.now entries.now) }
+    ensures why { IfErr result (IsReplayError limits bodies capacities.now entries.now) }
+{
+    let mut replay = Replay::open(alloc, limits, bodies, capacities)?;
+    for (i, entry) in entries.iter().enumerate() {
+        if !replay.step(entry)? {
+            return Err(ReplayError::NoStep(i));
+        }
+    }
+    Ok(replay.outcome())
+}

@@ -1,0 +1,81 @@
+//! The limits that a run may have.
+ghost use Rattle.std.specs.Prelude.{◌↔◌, ◌≤◌, IsTrue, All};
+ghost use Rattle.gmp_seq.specs.Fits.{AreLimits};
+
+use crate::call::Limits;
+
+/// The most that a channel's buffer may hold.
+const MOST_CAPACITY: u32 = 4096;
+
+fn fit_all(capacities: &[u32]) -> bool
+    ensures { IsTrue result ↔ All (λ capacity. capacity ≤ 4096) capacities.now }
+{
+    capacities.iter().all(|capacity| *capacity <= MOST_CAPACITY)
+}
+
+fn is_between(low: usize, n: usize, high: usize) -> bool
+    ensures { IsTrue result ↔ ((low ≤ n) × (n ≤ high)) }
+{
+    low <= n && n <= high
+}
+
+impl Limits {
+    /// Whether a run may have these limits, so many bodies, and channels of these capacities at its opening.
+    pub fn allow(self, bodies: usize, capacities: &[u32]) -> bool
+        ensures { IsTrue result ↔ AreLimits self bodies capacities.now }
+    {
+        let machines = self.machines as usize;
+        let channels = self.channels as usize;
+        is_between(1, self.procs as usize, 32)
+            & is_between(self.procs as usize, machines, 64)
+            & is_between(1, bodies, 4096)
+            & is_between(capacities.len(), channels, 1024)
+            & fit_all(capacities)
+            & is_between(16, self.entries as usize, 1_000_000)
+    }
+}
+
+#[cfg(test)]
+mod tests {
+    use super::*;
+
+    const SMALL: Limits = limits(1, 1, 2, 16);
+
+    const fn limits(procs: u8, machines: u8, channels: u16, entries: u32) -> Limits {
+        Limits {
+            procs,
+            machines,
+            channels,
+            entries,
+        }
+    }
+
+    #[test]
+    fn ranges(rt: HostRuntime) {
+        let cases = [
+            (SMALL, 1, [0; 2], true),
+            (SMALL, 0, [0; 2], false),
+            (SMALL, 4096, [4096; 2], true),
+            (SMALL, 4097, [0; 2], false),
+            (SMALL, 1, [4097; 2], false),
+            (limits(0, 1, 2, 16), 1, [0; 2], false),
+            (limits(2, 1, 2, 16), 1, [0; 2], false),
+            (limits(32, 64, 2, 16), 1, [0; 2], true),
+            (limits(33, 64, 2, 16), 1, [0; 2], false),
+            (limits(1, 65, 2, 16), 1, [0; 2], false),
+            (limits(1, 1, 1, 16), 1, [0; 2], false),
+            (limits(1, 1, 1024, 16), 1, [0; 2], true),
+            (limits(1, 1, 1025, 16), 1, [0; 2], false),
+            (limits(1, 1, 2, 15), 1, [0; 2], false),
+            (limits(1, 1, 2, 1_000_000), 1, [0; 2], true),
+            (limits(1, 1, 2, 1_000_001), 1, [0; 2], false),
+        ];
+        for (limits, bodies, capacities, fits) in cases {
+            assert_eq!(rt;
+                limits.allow(bodies, &capacities),
+                fits,
+                "{limits:?} {bodies} {capacities:?}"
+            );
+        }
+    }
+}
