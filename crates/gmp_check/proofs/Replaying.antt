@@ -33,12 +33,9 @@ pub reached_next : (limits : Limits) (e : Entry) (old new : State) (b : Bool) �
 reached_next limits e old new true (bodies, capacities, h, within, legal) step = (bodies, capacities, h ++ e ∷ [], within, legal_next limits bodies capacities h e old new legal step)
 reached_next limits e old new false reached is = subst (IsReachedUnder limits) (sym is.0) reached
 
--- no other state follows
-pub only_next : (limits : Limits) (e : Entry) (old new other : State) (b : Bool) → IsReachedUnder limits old → Decides (IsStep limits e) old new b → IsStep limits e old other
-    → other ≡ new
-only_next limits e old new other true (bodies, capacities, h, within, legal) step also =
-    legal_determined limits bodies capacities h old legal e.m e.call e.reply other new also.1 step.1
-only_next limits e old new other false reached is also = absurd (is.1 other also)
+-- the entry fixes the state that follows
+pub next_fixed : (limits : Limits) (e : Entry) (old a b : State) → IsReachedUnder limits old → IsStep limits e old a → IsStep limits e old b → a ≡ b
+next_fixed limits e old a b (bodies, capacities, h, within, legal) one two = legal_determined limits bodies capacities h old legal e.m e.call e.reply a b one.1 two.1
 
 -- Errors
 

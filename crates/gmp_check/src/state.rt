@@ -4,8 +4,8 @@ ghost use Rattle.gmp_seq.specs.Run.{IsStep};
 ghost use Rattle.gmp_seq.specs.State.{opening};
 ghost use Rattle.gmp_seq.specs.Waits.{can, first_on, waiters};
 ghost use Rattle.gmp_seq.specs.Step.{outcome_after, some_can};
-ghost use Rattle.gmp_check.specs.Calls.{counted_one};
-ghost use Rattle.gmp_check.specs.Decides.{Decides};
+ghost use Rattle.gmp_check.specs.Calls.{IsMake, counted_one};
+ghost use Rattle.gmp_check.specs.Decides.{Decides, Leads};
 ghost use Rattle.gmp_check.specs.Reached.{IsReached, IsReachedUnder};
 
 mod asking;
@@ -100,6 +100,7 @@ impl State {
         requires { IsReachedUnder limits self.old }
         ensures decides { IfOk result (Decides (IsStep limits entry.now) self.old self.new) }
         ensures refused { OnErr result (self.new ≡ self.old) }
+        ensures needed { OnErr result (IsMake entry.now.call × Leads (IsStep limits entry.now) self.old) }
     {
         if self.outcome.is_some() || self.count(entry.m) != Some(entry.k) {
             return Ok(false);
