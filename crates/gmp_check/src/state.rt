@@ -8,9 +8,9 @@ ghost use Rattle.gmp_check.specs.Calls.{IsMake, counted_one};
 ghost use Rattle.gmp_check.specs.Decides.{Decides, Leads};
 ghost use Rattle.gmp_check.specs.Reached.{IsReached, IsReachedUnder};
 
-mod asking;
-mod communicating;
+mod channel_calls;
 mod effect;
+mod transfers;
 
 use crate::channels::Channels;
 use crate::machines::Machines;
@@ -20,7 +20,7 @@ use gmp_seq::{Direction, Entry, Limits, Outcome, Reply, Waiter};
 use std::alloc::{AllocError, Global};
 use std::marker::Model;
 
-/// A contract sees the state of the definitions.
+/// A contract sees the state as `gmp_seq` has it.
 #[derive(Drop)]
 pub(crate) struct State {
     table: Table,
@@ -140,7 +140,7 @@ impl State {
         }
     }
 
-    /// Whether one of them can.
+    /// Whether one of these communications can proceed.
     fn some_can(&self, cases: &[Case]) -> bool
         requires { IsReached self.now }
         ensures { result ≡ some_can self.now cases.now }

@@ -146,7 +146,7 @@ impl State {
                 None => false,
             },
             Call::Spin => !self.table.runs_some(m) && self.machines.spin(m, reply),
-            Call::Woken => self.machines.look(m, reply),
+            Call::Woken => self.machines.woken(m, reply),
             Call::Unspin => self.machines.unspin(m, reply),
             Call::Poke => self.machines.poke(m, reply),
             Call::Declare => !self.table.runs_some(m) && self.machines.declare(m, reply),
