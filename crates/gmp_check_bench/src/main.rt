@@ -1,5 +1,6 @@
-//! Replays a legal history of N generated entries with so many goroutines (64 where they aren't given), and writes the
-//! milliseconds that the replay took to standard error. Without N it does nothing.
+//! `gmp_check_bench [N [GOROUTINES [PROCESSORS]]]` replays a legal history of N generated entries, and writes the
+//! milliseconds that the replay took to standard error. There are 64 goroutines and 2 processors where they aren't given,
+//! and a machine more than processors. Without N it does nothing.
 #![tactic(auto)]
 
 ghost use Rattle.std.specs.Prelude.{◌≤◌, IfOk};
@@ -13,21 +14,18 @@ use gmp_check::outcome_of;
 use gmp_seq::Outcome;
 use std::time::Instant;
 
-const USUAL: u16 = 64;
-
-/// The second word, or the usual number of goroutines.
-fn goroutines(word: Option<String>) -> Result<u16>
-    ensures { IfOk result (λ goroutines. 3 ≤ goroutines) }
+/// A number from low to high: the word's, or the usual one where there is no word.
+fn number(word: Option<String>, usual: u16, low: u16, high: u16) -> Result<u16>
+    requires within { (low ≤ usual) × (usual ≤ high) }
+    ensures least { IfOk result (λ n. low ≤ n) }
+    ensures most { IfOk result (λ n. n ≤ high) }
 {
     let Some(word) = word else {
-        return Ok(USUAL);
+        return Ok(usual);
     };
-    let goroutines: u16 = word.as_str().parse()?;
-    ensure!(
-        (3..=4_096).contains(&goroutines),
-        "there may be 3 to 4096 goroutines"
-    );
-    Ok(goroutines)
+    let n: u16 = word.as_str().parse()?;
+    ensure!(low <= n && n <= high, "{n} is not within {low} to {high}");
+    Ok(n)
 }
 
 fn main(rt: HostRuntime) -> Result<()> {
@@ -37,9 +35,10 @@ fn main(rt: HostRuntime) -> Result<()> {
         return Ok(());
     };
     let count: u32 = word.as_str().parse()?;
-    let goroutines = goroutines(words.next())?;
-    let entries = rounds::history(rt.alloc(), count, goroutines)?;
-    let limits = rounds::limits(count);
+    let goroutines = number(words.next(), 64, 3, 4_096)?;
+    let procs = number(words.next(), 2, 2, 32)? as u8;
+    let entries = rounds::history(rt.alloc(), count, goroutines, procs)?;
+    let limits = rounds::limits(count, procs);
     let start = Instant::now(&rt)?;
     let outcome = outcome_of(
         rt.alloc(),
@@ -50,6 +49,6 @@ fn main(rt: HostRuntime) -> Result<()> {
     )?;
     let time = start.elapsed(&rt)?.as_millis();
     ensure!(outcome == Some(Outcome::BookFull), "the run does not end");
-    eprintln!(rt; "{count} entries of {goroutines} goroutines in {time} ms")?;
+    eprintln!(rt; "{count} entries, {goroutines} goroutines, {procs} processors: {time} ms")?;
     Ok(())
 }

@@ -32,7 +32,7 @@ const DIRECT: CNo = CNo(4);
 /// The moment at which those that wait in a select stop waiting, in nanoseconds.
 const FAR: u64 = u64::MAX;
 
-/// What is told by a round.
+/// Which round it is, and whom it takes.
 #[derive(Clone, Copy)]
 pub struct Turn {
     /// How many rounds came before.
