@@ -15,9 +15,11 @@ mod ends;
 mod faults;
 mod memory;
 mod opening;
+mod refused;
 mod others;
 mod rows;
 mod selects;
+mod shared;
 
 /// One processor and one machine.
 const LONE: Limits = Limits {
