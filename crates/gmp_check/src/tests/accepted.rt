@@ -5,7 +5,12 @@ use super::*;
 fn histories_have_their_outcomes(rt: HostRuntime) -> Result<(), Fail> {
     let alloc = rt.alloc();
     for history in histories(alloc)?.iter() {
-        assert_eq!(rt; history.outcome_of(alloc), Ok(history.outcome), "{}", history.name);
+        assert_eq!(rt;
+            history.outcome_of(alloc),
+            Ok(history.outcome),
+            "{}",
+            history.name
+        );
     }
     Ok(())
 }

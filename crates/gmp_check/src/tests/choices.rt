@@ -117,7 +117,11 @@ fn other_case(alloc: Global) -> Result<History, AllocError> {
         e(0, Call::Acquire, Reply::Proc(PNo(0))),
         e(0, Call::Take, ticket(0, 1)),
         e(0, claim(0, 1), Reply::Held),
-        e(0, select(&[sends(0, 1), sends(1, 2), sends(1, 3)], true, None), Reply::Chose(2, Taken::Sent(None))),
+        e(
+            0,
+            select(&[sends(0, 1), sends(1, 2), sends(1, 3)], true, None),
+            Reply::Chose(2, Taken::Sent(None))
+        ),
         e(0, recv(1), Reply::Got(3, true, None)),
         e(0, Call::Exit, Reply::MainEnded),
     ]?;

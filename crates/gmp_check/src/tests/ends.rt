@@ -31,7 +31,10 @@ fn filling(alloc: Global) -> Result<History, AllocError> {
     ]?;
     Ok(History {
         name: "filling",
-        limits: Limits { entries: 16, ..LONE },
+        limits: Limits {
+            entries: 16,
+            ..LONE
+        },
         bodies: 1,
         capacities: &[],
         entries,
@@ -96,7 +99,10 @@ fn filling_late(alloc: Global) -> Result<History, AllocError> {
     ]?;
     Ok(History {
         name: "filling_late",
-        limits: Limits { entries: 51, ..LONE },
+        limits: Limits {
+            entries: 51,
+            ..LONE
+        },
         bodies: 1,
         capacities: &[],
         entries,
@@ -126,7 +132,10 @@ fn exit_at_the_limit(alloc: Global) -> Result<History, AllocError> {
     ]?;
     Ok(History {
         name: "exit_at_the_limit",
-        limits: Limits { entries: 16, ..LONE },
+        limits: Limits {
+            entries: 16,
+            ..LONE
+        },
         bodies: 1,
         capacities: &[],
         entries,
@@ -156,7 +165,10 @@ fn asleep_at_the_limit(alloc: Global) -> Result<History, AllocError> {
     ]?;
     Ok(History {
         name: "asleep_at_the_limit",
-        limits: Limits { entries: 16, ..LONE },
+        limits: Limits {
+            entries: 16,
+            ..LONE
+        },
         bodies: 1,
         capacities: &[],
         entries,

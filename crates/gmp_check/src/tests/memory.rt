@@ -46,7 +46,12 @@ fn a_make_that_is_refused_memory_can_be_made_again(rt: HostRuntime) {
 fn want_of_memory_is_told(rt: HostRuntime) {
     let outcome = outcome_of(rt.alloc(), LONE, 1, &[3], &[]);
     assert!(rt; outcome == Ok(None) || outcome == Err(ReplayError::OutOfMemory));
-    let limits = Limits { channels: 2, ..LONE };
+    let limits = Limits {
+        channels: 2,
+        ..LONE
+    };
     let outcome = outcome_of(rt.alloc(), limits, 1, &[], &makes());
-    assert!(rt; outcome == Ok(Some(Outcome::MainEnded)) || outcome == Err(ReplayError::OutOfMemory));
+    assert!(rt;
+        outcome == Ok(Some(Outcome::MainEnded)) || outcome == Err(ReplayError::OutOfMemory)
+    );
 }

@@ -30,13 +30,45 @@ fn bad_limits(rt: HostRuntime) {
         (crew(2, 1), 1, [0; 2]),
         (crew(33, 64), 1, [0; 2]),
         (crew(1, 65), 1, [0; 2]),
-        (Limits { channels: 1, ..LONE }, 1, [0; 2]),
-        (Limits { channels: 1025, ..LONE }, 1, [0; 2]),
-        (Limits { entries: 15, ..LONE }, 1, [0; 2]),
-        (Limits { entries: 1_000_001, ..LONE }, 1, [0; 2]),
+        (
+            Limits {
+                channels: 1,
+                ..LONE
+            },
+            1,
+            [0; 2],
+        ),
+        (
+            Limits {
+                channels: 1025,
+                ..LONE
+            },
+            1,
+            [0; 2],
+        ),
+        (
+            Limits {
+                entries: 15,
+                ..LONE
+            },
+            1,
+            [0; 2],
+        ),
+        (
+            Limits {
+                entries: 1_000_001,
+                ..LONE
+            },
+            1,
+            [0; 2],
+        ),
     ] {
         let outcome = outcome_of(alloc, limits, bodies, &capacities, &entries);
-        assert_eq!(rt; outcome, Err(ReplayError::BadLimits), "{limits:?} {bodies} {capacities:?}");
+        assert_eq!(rt;
+            outcome,
+            Err(ReplayError::BadLimits),
+            "{limits:?} {bodies} {capacities:?}"
+        );
         match Replay::open(alloc, limits, bodies, &capacities) {
             Ok(_) => panic!(rt; "opened: {limits:?} {bodies} {capacities:?}"),
             Err(error) => assert_eq!(rt; error, OpenError::BadLimits),
@@ -89,7 +121,12 @@ fn nobody_comes_back_after_the_end(rt: HostRuntime) -> Result<(), Fail> {
                 history.entries.push(e(m, Call::Leave(9), reply))?;
                 number(&mut history.entries);
                 let outcome = history.outcome_of(alloc);
-                assert_eq!(rt; outcome, Err(ReplayError::NoStep(end)), "{} {m} {reply:?}", history.name);
+                assert_eq!(rt;
+                    outcome,
+                    Err(ReplayError::NoStep(end)),
+                    "{} {m} {reply:?}",
+                    history.name
+                );
                 history.entries.pop();
             }
         }

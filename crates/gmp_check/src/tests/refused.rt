@@ -19,9 +19,7 @@ fn is_free(name: &str, i: usize, change: Change) -> bool {
 }
 
 fn is_shared(name: &str, i: usize, m: u8) -> bool {
-    SHARED
-        .iter()
-        .any(|shared| shared.0 == name && shared.1 == i && shared.2 == m)
+    SHARED.iter().any(|shared| shared.0 == name && shared.1 == i && shared.2 == m)
 }
 
 impl History {

@@ -274,7 +274,10 @@ fn making(alloc: Global) -> Result<History, AllocError> {
     ]?;
     Ok(History {
         name: "making",
-        limits: Limits { channels: 1, ..LONE },
+        limits: Limits {
+            channels: 1,
+            ..LONE
+        },
         bodies: 1,
         capacities: &[],
         entries,

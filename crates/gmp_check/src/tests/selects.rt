@@ -21,7 +21,11 @@ fn selecting_alone(alloc: Global) -> Result<History, AllocError> {
         e(0, Call::Acquire, Reply::Proc(PNo(0))),
         e(0, Call::Take, ticket(0, 1)),
         e(0, claim(0, 1), Reply::Held),
-        e(0, select(&[sends(0, 7), recvs(0)], false, None), Reply::Waits),
+        e(
+            0,
+            select(&[sends(0, 7), recvs(0)], false, None),
+            Reply::Waits
+        ),
         e(0, Call::Take, Reply::Nothing),
         e(0, Call::Declare, Reply::Idle(PNo(0))),
         e(0, Call::Park, Reply::AllAsleep),
@@ -46,10 +50,18 @@ fn selecting(alloc: Global) -> Result<History, AllocError> {
         e(0, Call::Poke, Reply::Nothing),
         e(0, Call::Yield, shelved(0, 2)),
         e(0, claim(1, 1), Reply::Held),
-        e(0, select(&[sends(0, 8), recvs(0)], false, None), Reply::Waits),
+        e(
+            0,
+            select(&[sends(0, 8), recvs(0)], false, None),
+            Reply::Waits
+        ),
         e(0, Call::Take, ticket(0, 2)),
         e(0, claim(0, 2), Reply::Held),
-        e(0, select(&[sends(0, 7), recvs(0)], false, None), Reply::Chose(0, Taken::Sent(Some(readiness(1, 2))))),
+        e(
+            0,
+            select(&[sends(0, 7), recvs(0)], false, None),
+            Reply::Chose(0, Taken::Sent(Some(readiness(1, 2))))
+        ),
         e(0, Call::Poke, Reply::Nothing),
         e(0, Call::Exit, Reply::MainEnded),
     ]?;
@@ -73,10 +85,18 @@ fn selecting_otherwise(alloc: Global) -> Result<History, AllocError> {
         e(0, Call::Poke, Reply::Nothing),
         e(0, Call::Yield, shelved(0, 2)),
         e(0, claim(1, 1), Reply::Held),
-        e(0, select(&[sends(0, 8), recvs(0)], false, None), Reply::Waits),
+        e(
+            0,
+            select(&[sends(0, 8), recvs(0)], false, None),
+            Reply::Waits
+        ),
         e(0, Call::Take, ticket(0, 2)),
         e(0, claim(0, 2), Reply::Held),
-        e(0, select(&[sends(0, 7), recvs(0)], false, None), Reply::Chose(1, Taken::Got(8, true, relay(1, 2, 8)))),
+        e(
+            0,
+            select(&[sends(0, 7), recvs(0)], false, None),
+            Reply::Chose(1, Taken::Got(8, true, relay(1, 2, 8)))
+        ),
         e(0, Call::Poke, Reply::Nothing),
         e(0, Call::Exit, Reply::MainEnded),
     ]?;
@@ -96,7 +116,11 @@ fn selecting_nil(alloc: Global) -> Result<History, AllocError> {
         e(0, Call::Acquire, Reply::Proc(PNo(0))),
         e(0, Call::Take, ticket(0, 1)),
         e(0, claim(0, 1), Reply::Held),
-        e(0, select(&[Case::Recv(None), Case::Send(None, 1)], true, None), Reply::Default),
+        e(
+            0,
+            select(&[Case::Recv(None), Case::Send(None, 1)], true, None),
+            Reply::Default
+        ),
         e(0, select(&[Case::Recv(None)], false, None), Reply::Waits),
         e(0, Call::Take, Reply::Nothing),
         e(0, Call::Declare, Reply::Idle(PNo(0))),
@@ -118,8 +142,16 @@ fn choosing(alloc: Global) -> Result<History, AllocError> {
         e(0, Call::Acquire, Reply::Proc(PNo(0))),
         e(0, Call::Take, ticket(0, 1)),
         e(0, claim(0, 1), Reply::Held),
-        e(0, select(&[recvs(0), sends(0, 4)], false, None), Reply::Chose(1, Taken::Sent(None))),
-        e(0, select(&[sends(0, 5), recvs(0)], false, None), Reply::Chose(1, Taken::Got(4, true, None))),
+        e(
+            0,
+            select(&[recvs(0), sends(0, 4)], false, None),
+            Reply::Chose(1, Taken::Sent(None))
+        ),
+        e(
+            0,
+            select(&[sends(0, 5), recvs(0)], false, None),
+            Reply::Chose(1, Taken::Got(4, true, None))
+        ),
         e(0, Call::Exit, Reply::MainEnded),
     ]?;
     Ok(History {
@@ -139,7 +171,11 @@ fn choosing_closed(alloc: Global) -> Result<History, AllocError> {
         e(0, Call::Take, ticket(0, 1)),
         e(0, claim(0, 1), Reply::Held),
         e(0, close(0), Reply::Closed(0)),
-        e(0, select(&[sends(0, 1), recvs(0)], false, None), Reply::Chose(0, Taken::Failed)),
+        e(
+            0,
+            select(&[sends(0, 1), recvs(0)], false, None),
+            Reply::Chose(0, Taken::Failed)
+        ),
         e(0, Call::Exit, Reply::MainEnded),
     ]?;
     Ok(History {
@@ -159,7 +195,11 @@ fn choosing_closed_otherwise(alloc: Global) -> Result<History, AllocError> {
         e(0, Call::Take, ticket(0, 1)),
         e(0, claim(0, 1), Reply::Held),
         e(0, close(0), Reply::Closed(0)),
-        e(0, select(&[sends(0, 1), recvs(0)], false, None), Reply::Chose(1, Taken::Got(0, false, None))),
+        e(
+            0,
+            select(&[sends(0, 1), recvs(0)], false, None),
+            Reply::Chose(1, Taken::Got(0, false, None))
+        ),
         e(0, Call::Exit, Reply::MainEnded),
     ]?;
     Ok(History {
@@ -178,7 +218,11 @@ fn choosing_missing(alloc: Global) -> Result<History, AllocError> {
         e(0, Call::Acquire, Reply::Proc(PNo(0))),
         e(0, Call::Take, ticket(0, 1)),
         e(0, claim(0, 1), Reply::Held),
-        e(0, select(&[sends(0, 1), recvs(5)], true, None), Reply::Fault(Fault::NoSuchChannel)),
+        e(
+            0,
+            select(&[sends(0, 1), recvs(5)], true, None),
+            Reply::Fault(Fault::NoSuchChannel)
+        ),
         e(0, Call::Exit, Reply::MainEnded),
     ]?;
     Ok(History {
@@ -226,7 +270,11 @@ fn least_case_closed(alloc: Global) -> Result<History, AllocError> {
         e(0, Call::Poke, Reply::Nothing),
         e(0, Call::Yield, shelved(0, 2)),
         e(0, claim(1, 1), Reply::Held),
-        e(0, select(&[recvs(1), sends(0, 3), recvs(0)], false, None), Reply::Waits),
+        e(
+            0,
+            select(&[recvs(1), sends(0, 3), recvs(0)], false, None),
+            Reply::Waits
+        ),
         e(0, Call::Take, ticket(0, 2)),
         e(0, claim(0, 2), Reply::Held),
         e(0, close(0), Reply::Closed(1)),
