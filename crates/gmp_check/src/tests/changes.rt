@@ -98,11 +98,11 @@ impl Change {
     }
 
     fn of_woken(self, woken: Option<MNo>) -> Option<MNo> {
-        match (self, woken) {
-            (Change::Nobody, _) => None,
-            (Change::Somebody, None) => Some(MNo(0)),
-            (_, Some(m)) => Some(self.of_machine(m)),
-            (_, None) => None,
+        match woken {
+            Some(_) if self == Change::Nobody => None,
+            Some(m) => Some(self.of_machine(m)),
+            None if self == Change::Somebody => Some(MNo(0)),
+            None => None,
         }
     }
 
@@ -119,11 +119,11 @@ impl Change {
     }
 
     fn of_receiver(self, receiver: Option<Readiness>) -> Option<Readiness> {
-        match (self, receiver) {
-            (Change::Nobody, _) => None,
-            (Change::Somebody, None) => Some(SOMEBODY),
-            (_, Some(r)) => Some(self.of_readiness(r)),
-            (_, None) => None,
+        match receiver {
+            Some(_) if self == Change::Nobody => None,
+            Some(r) => Some(self.of_readiness(r)),
+            None if self == Change::Somebody => Some(SOMEBODY),
+            None => None,
         }
     }
 
