@@ -14,6 +14,8 @@ mod replay;
 mod state;
 mod status;
 mod table;
+#[cfg(test)]
+mod tests;
 
 pub use error::{OpenError, OutOfMemory, ReplayError};
 pub use replay::{Replay, outcome_of};
