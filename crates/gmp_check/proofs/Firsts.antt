@@ -1,5 +1,5 @@
 -- The first of those that wait.
-use Rattle.std.proofs.Common.{◌≡◌, ℕ, ◌+◌, ◌<◌, ◌≤◌, ◌⊎◌, inl, inr, Bool, true, false, Option, None, Some, List, [], length, take, get_or, refl, sym, ap, subst, ◌∙◌, arith}
+use Rattle.std.proofs.Common.{◌≡◌, ℕ, ◌+◌, ◌<◌, ◌≤◌, ◌⊎◌, inl, inr, Bool, true, false, Option, None, Some, List, length, take, get_or, refl, sym, ap, subst, ◌∙◌, arith}
 use Rattle.std.proofs.lemmas.Bool.{cases_eq, eqb-true, eqb-false, ltb-true, ltb-false}
 use Rattle.std.proofs.lemmas.List.{get_or-take, get_or_default, length-take-le, take_all}
 use Rattle.std.proofs.lemmas.Option.{slice_get_within}
@@ -130,10 +130,6 @@ one_more g x c direction offers i d first within so_far =
     (λ w (is, on). subst R (sym is) (refl, refl, refl, last_contained offers i d (get_or offers i d) within refl, on))
     so_far (first_of_one (is_on c direction last) last Q (λ w q. q) (λ on. (refl, on)))
 
--- no offer is the first of none
-pub first_of_none : (g : GNo) (x : Wait) (c : CNo) (direction : Direction) → x.offers ≡ [] → IsFirstOf (IsOfferOf g x c direction) None
-first_of_none g x c direction none = λ w (of_g, arrival, kind, (k, small, is), on). let e = ap length none in omega (arith, small, e)
-
 -- and of all
 pub all_of : (g : GNo) (x : Wait) (c : CNo) (direction : Direction) (offers : List Offer) (i : ℕ) (first : Option Waiter) → offers ≡ x.offers → length offers ≤ i
     → IsFirstOf (IsOfferOf g (record x { offers = take i offers }) c direction) first → IsFirstOf (IsOfferOf g x c direction) first
@@ -145,10 +141,6 @@ all_of g x c direction offers i first are end is =
 -- an offer of one of the goroutines before this number
 abbrev pub IsEarlierOn : Table → CNo → Direction → ℕ → Waiter → Type 0
 IsEarlierOn t c direction i w = IsOfferOn t c direction w × (w.g.0 < i)
-
--- none is before the first
-pub none_earlier : (t : Table) (c : CNo) (direction : Direction) → IsFirstOf (IsEarlierOn t c direction 0) None
-none_earlier t c direction = λ w (is, small). omega (arith, small)
 
 row_of : (t : Table) (w : Waiter) (i : ℕ) (row : Goroutine) (x : Wait) → w.g.0 ≡ i → slice_get t.goroutines i ≡ Some row → status_at t w.g ≡ Some (Waiting x) → row.status ≡ Waiting x
 row_of t w i row x same at is =

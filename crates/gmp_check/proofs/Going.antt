@@ -1,5 +1,5 @@
 -- In which way a communication goes.
-use Rattle.std.proofs.Common.{◌≡◌, ℕ, true, false, None, Some, List, [], ◌∷◌, ◌++◌, drop, refl, sym, ap, ◌∙◌}
+use Rattle.std.proofs.Common.{◌≡◌, ℕ, true, false, None, Some, List, [], ◌∷◌, ◌++◌, drop, refl, ap, ◌∙◌}
 use Rattle.std.specs.List.{slice_get}
 use Rattle.gmp_base.specs.declared.cases.Case.{Case}
 use Rattle.gmp_base.specs.declared.cases.Case.TheVariants as case
@@ -29,13 +29,6 @@ headed (y ∷ xs) x first = let same : y ≡ x = cc in ap (λ z. z ∷ xs) same
 headed_with : {A : Type 0} (xs ys : List A) (x : A) → slice_get xs 0 ≡ Some x → xs ++ ys ≡ x ∷ drop 1 (xs ++ ys)
 headed_with [] ys x first = absurd cc
 headed_with (y ∷ xs) ys x first = let same : y ≡ x = cc in ap (λ z. z ∷ xs ++ ys) same
-
--- some is first or nothing is there
-both : {A : Type 0} (xs : List A) (x : A) → slice_get xs 0 ≡ Some x → xs ≡ [] → ⊥
-both xs x first none = let e : None ≡ Some x = sym (ap (λ l. slice_get l 0) none) ∙ first in cc
-
-two : {A : Type 0} (xs : List A) (x : A) → slice_get xs 0 ≡ Some x → slice_get xs 0 ≡ None → ⊥
-two xs x first none = let e : None ≡ Some x = sym none ∙ first in cc
 
 -- Receives
 

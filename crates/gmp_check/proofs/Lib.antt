@@ -6,3 +6,4 @@ pub mod Going
 pub mod Deciding
 pub mod Parts
 pub mod Replaying
+pub mod Making

@@ -11,9 +11,9 @@ use Rattle.gmp_seq.specs.Fits.{AreLimits}
 use Rattle.gmp_seq.specs.Run.{IsLegal, IsStep}
 use Rattle.gmp_seq.specs.State.{State, opening}
 use Rattle.gmp_check.specs.declared.error.OpenError.{OpenError}
-use Rattle.gmp_check.specs.declared.error.OpenError.TheVariants as opening
+use Rattle.gmp_check.specs.declared.error.OpenError.TheVariants as open_error
 use Rattle.gmp_check.specs.declared.error.ReplayError.{ReplayError}
-use Rattle.gmp_check.specs.declared.error.ReplayError.TheVariants as replaying
+use Rattle.gmp_check.specs.declared.error.ReplayError.TheVariants as replay_error
 use Rattle.gmp_check.specs.Decides.{Decides}
 use Rattle.gmp_check.specs.Reached.{IsReachedUnder}
 use Rattle.gmp_check.specs.Replayed.{IsOpenError, IsReplayError, as_replay_error}
@@ -33,12 +33,9 @@ pub reached_next : (limits : Limits) (e : Entry) (old new : State) (b : Bool) �
 reached_next limits e old new true (bodies, capacities, h, within, legal) step = (bodies, capacities, h ++ e ∷ [], within, legal_next limits bodies capacities h e old new legal step)
 reached_next limits e old new false reached is = subst (IsReachedUnder limits) (sym is.0) reached
 
--- no other state follows
-pub only_next : (limits : Limits) (e : Entry) (old new other : State) (b : Bool) → IsReachedUnder limits old → Decides (IsStep limits e) old new b → IsStep limits e old other
-    → other ≡ new
-only_next limits e old new other true (bodies, capacities, h, within, legal) step also =
-    legal_determined limits bodies capacities h old legal e.m e.call e.reply other new also.1 step.1
-only_next limits e old new other false reached is also = absurd (is.1 other also)
+-- the entry fixes the state that follows
+pub next_fixed : (limits : Limits) (e : Entry) (old a b : State) → IsReachedUnder limits old → IsStep limits e old a → IsStep limits e old b → a ≡ b
+next_fixed limits e old a b (bodies, capacities, h, within, legal) one two = legal_determined limits bodies capacities h old legal e.m e.call e.reply a b one.1 two.1
 
 -- Errors
 
@@ -48,12 +45,12 @@ with_error (Err e) P Q on is = on e is
 
 pub opened_error : (limits : Limits) (bodies : ℕ) (capacities : List ℕ) (h : List Entry) (why : OpenError) (e : ReplayError) → e ≡ as_replay_error why
     → IsOpenError limits bodies capacities why → IsReplayError limits bodies capacities h e
-opened_error limits bodies capacities h opening.BadLimits e is beyond = subst (IsReplayError limits bodies capacities h) (sym is) beyond
-opened_error limits bodies capacities h opening.OutOfMemory e is within = subst (IsReplayError limits bodies capacities h) (sym is) within
+opened_error limits bodies capacities h open_error.BadLimits e is beyond = subst (IsReplayError limits bodies capacities h) (sym is) beyond
+opened_error limits bodies capacities h open_error.OutOfMemory e is within = subst (IsReplayError limits bodies capacities h) (sym is) within
 
 -- the entry at the index is no step
 pub no_step : (limits : Limits) (bodies : ℕ) (capacities : List ℕ) (h : List Entry) (i : ℕ) (e : Entry) (old new : State) → AreLimits limits bodies capacities
-    → IsLegal limits bodies capacities (take i h) old → slice_get h i ≡ Some e → Decides (IsStep limits e) old new false → IsReplayError limits bodies capacities h (replaying.NoStep i)
+    → IsLegal limits bodies capacities (take i h) old → slice_get h i ≡ Some e → Decides (IsStep limits e) old new false → IsReplayError limits bodies capacities h (replay_error.NoStep i)
 no_step limits bodies capacities h i e old new within legal at is = (within, (old, legal, e, at, is.1))
 
 -- one entry more

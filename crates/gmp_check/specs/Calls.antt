@@ -20,6 +20,10 @@ EntersBy m g reply old new = (new.table ≡ set_status old.table g (Calling m)) 
 abbrev pub LeavesBy : MNo → GNo → ℕ → Reply → State → State → Type 0
 LeavesBy m g number reply old new = Resumes g m number reply old.table new.table × Returns m reply old.machines new.machines × SameChannels old new
 
+-- it makes a channel
+abbrev pub IsMake : Call → Type 0
+IsMake c = (capacity : ℕ) × (c ≡ call.Make capacity)
+
 -- it is of the goroutine that the machine runs
 abbrev pub is_ask : Call → Bool
 is_ask (call.Go h) = true

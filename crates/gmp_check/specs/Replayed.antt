@@ -7,9 +7,9 @@ use Rattle.gmp_seq.specs.Fits.{AreLimits}
 use Rattle.gmp_seq.specs.Run.{IsLegal, IsStep}
 use Rattle.gmp_seq.specs.State.{State}
 use Rattle.gmp_check.specs.declared.error.OpenError.{OpenError}
-use Rattle.gmp_check.specs.declared.error.OpenError.TheVariants as opening
+use Rattle.gmp_check.specs.declared.error.OpenError.TheVariants as open_error
 use Rattle.gmp_check.specs.declared.error.ReplayError.{ReplayError}
-use Rattle.gmp_check.specs.declared.error.ReplayError.TheVariants as replaying
+use Rattle.gmp_check.specs.declared.error.ReplayError.TheVariants as replay_error
 
 -- the limits of a replay, and the state that it is in
 pub record Replayed : Type 0 where
@@ -27,16 +27,16 @@ IsNoStep limits bodies capacities h i =
 
 -- what an opening's error says
 abbrev pub IsOpenError : Limits → ℕ → List ℕ → OpenError → Type 0
-IsOpenError limits bodies capacities opening.BadLimits = AreLimits limits bodies capacities → ⊥
-IsOpenError limits bodies capacities opening.OutOfMemory = AreLimits limits bodies capacities
+IsOpenError limits bodies capacities open_error.BadLimits = AreLimits limits bodies capacities → ⊥
+IsOpenError limits bodies capacities open_error.OutOfMemory = AreLimits limits bodies capacities
 
 -- what the error of a whole replay says
 abbrev pub IsReplayError : Limits → ℕ → List ℕ → List Entry → ReplayError → Type 0
-IsReplayError limits bodies capacities h replaying.BadLimits = AreLimits limits bodies capacities → ⊥
-IsReplayError limits bodies capacities h (replaying.NoStep i) = AreLimits limits bodies capacities × IsNoStep limits bodies capacities h i
-IsReplayError limits bodies capacities h replaying.OutOfMemory = AreLimits limits bodies capacities
+IsReplayError limits bodies capacities h replay_error.BadLimits = AreLimits limits bodies capacities → ⊥
+IsReplayError limits bodies capacities h (replay_error.NoStep i) = AreLimits limits bodies capacities × IsNoStep limits bodies capacities h i
+IsReplayError limits bodies capacities h replay_error.OutOfMemory = AreLimits limits bodies capacities
 
 -- an opening's error as that of a whole replay
 abbrev pub as_replay_error : OpenError → ReplayError
-as_replay_error opening.BadLimits = replaying.BadLimits
-as_replay_error opening.OutOfMemory = replaying.OutOfMemory
+as_replay_error open_error.BadLimits = replay_error.BadLimits
+as_replay_error open_error.OutOfMemory = replay_error.OutOfMemory

@@ -1,7 +1,7 @@
 //! Why a history is not replayed.
 ghost use Rattle.std.specs.Prelude.{◌≡◌};
-ghost use Rattle.gmp_check.specs.declared.error.OpenError.TheVariants as opening;
-ghost use Rattle.gmp_check.specs.declared.error.ReplayError.TheVariants as replaying;
+ghost use Rattle.gmp_check.specs.declared.error.OpenError.TheVariants as open_error;
+ghost use Rattle.gmp_check.specs.declared.error.ReplayError.TheVariants as replay_error;
 ghost use Rattle.gmp_check.specs.Replayed.{as_replay_error};
 
 use std::alloc::AllocError;
@@ -29,7 +29,7 @@ pub enum OpenError {
 }
 
 impl From<AllocError> for OpenError {
-    ghost from_gives = { λ _ e. e ≡ opening.OutOfMemory };
+    ghost from_gives = { λ _ e. e ≡ open_error.OutOfMemory };
 
     fn from(_error: AllocError) -> OpenError {
         OpenError::OutOfMemory
@@ -50,7 +50,7 @@ pub enum ReplayError {
 }
 
 impl From<OutOfMemory> for ReplayError {
-    ghost from_gives = { λ _ e. e ≡ replaying.OutOfMemory };
+    ghost from_gives = { λ _ e. e ≡ replay_error.OutOfMemory };
 
     fn from(_error: OutOfMemory) -> ReplayError {
         ReplayError::OutOfMemory

@@ -1,4 +1,8 @@
 //! The plain, slow scheduler: which entries of a history are steps.
+//!
+//! [`Replay::step`] answers yes exactly where the definitions of `gmp_seq` have a step with the entry's machine, number, call and
+//! reply, whichever choice the reply names, and takes it. [`outcome_of`] answers the outcome of a whole history, or its first entry that
+//! is no step. Memory is wanted by an opening and by a make alone.
 #![tactic(auto)]
 
 mod answers;
@@ -10,6 +14,8 @@ mod replay;
 mod state;
 mod status;
 mod table;
+#[cfg(test)]
+mod tests;
 
 pub use error::{OpenError, OutOfMemory, ReplayError};
 pub use replay::{Replay, outcome_of};

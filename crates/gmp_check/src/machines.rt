@@ -1,6 +1,5 @@
 //! Processors and machines, in plain tables: who holds each processor, what each machine does, which of them spin.
-ghost use Rattle.std.specs.Prelude.{◌≡◌, ◌↔◌, false, None, is_none, replicate, slice_set, IsTrue, IfOk};
-ghost use Rattle.std.specs.List.{list_any};
+ghost use Rattle.std.specs.Prelude.{◌≡◌, ◌↔◌, false, None, replicate, slice_set, IsTrue, IfOk};
 ghost use Rattle.gmp_seq.specs.declared.status.Mode.{Mode};
 ghost use Rattle.gmp_seq.specs.Machines.{Acquires, IsAwake, IsIdle, IsParked, Holds, IsBare, Spins, Unspins, Pokes, Declares, Bares, Looks, Enters, set_holder, set_mode, set_spinning, has_processor, how_many_spin, is_held_by, is_parked, some_idle, some_parked, may_spin, spins, wants_poke};
 ghost use Rattle.gmp_check.specs.Decides.{Decides};
@@ -149,6 +148,8 @@ impl Machines {
         set(&mut self.spinning, m.0 as usize, spinning);
     }
 
+    // Each call answers whether the reply is one that the definitions allow, and changes the tables only where it is.
+
     pub(crate) fn acquire(&mut self, m: MNo, reply: Reply) -> bool
         ensures { Decides (Acquires m reply) self.old self.new result }
     {
@@ -230,7 +231,7 @@ impl Machines {
         }
     }
 
-    pub(crate) fn look(&self, m: MNo, reply: Reply) -> bool
+    pub(crate) fn woken(&self, m: MNo, reply: Reply) -> bool
         ensures { Decides (Looks m reply) self.now self.now result }
     {
         match reply {

@@ -1,9 +1,10 @@
 //! A replay of a history.
-ghost use Rattle.std.specs.Prelude.{◌≡◌, IfErr, IfOk, OnErr};
+ghost use Rattle.std.specs.Prelude.{◌≡◌, IfErr, IfOk, OnErr, OnOk};
 ghost use Rattle.gmp_seq.specs.Fits.{AreLimits};
 ghost use Rattle.gmp_seq.specs.Run.{IsStep};
 ghost use Rattle.gmp_seq.specs.State.{State, opening};
-ghost use Rattle.gmp_check.specs.Decides.{Decides};
+ghost use Rattle.gmp_check.specs.Calls.{IsMake};
+ghost use Rattle.gmp_check.specs.Decides.{Decides, Leads};
 ghost use Rattle.gmp_check.specs.Reached.{IsReachedUnder};
 ghost use Rattle.gmp_check.specs.Replayed.{EndsWith, IsOpenError, IsReplayError};
 
@@ -15,7 +16,7 @@ use std::marker::Model;
 
 /// The scheduler, one entry of a history after another. A contract sees the limits and the state.
 ///
-/// Each question scans plain lists, so an entry costs as much as there are goroutines, machines and processors.
+/// An entry takes time in proportion to the goroutines (a select for each of its cases), machines and processors.
 #[derive(Drop)]
 pub struct Replay {
     limits: Limits,
@@ -34,7 +35,7 @@ impl Model for Replay {
 }
 
 impl Replay {
-    /// A run that begins, with so many bodies, and channels of these capacities.
+    /// A run that begins, with so many bodies, and channels of these capacities. `BadLimits` exactly where a run may not have these.
     pub fn open(
         alloc: Global,
         limits: Limits,
@@ -54,13 +55,15 @@ impl Replay {
 
     /// Whether the entry is a step of the scheduler; where it is, the replay takes it.
     ///
-    /// A machine's number that is not its next, and an entry after an outcome, are no steps. Only a make needs memory.
+    /// An entry whose `k` is not the number of its machine's earlier entries is no step, nor is any after an outcome. Memory is wanted
+    /// only by a make that is a step.
     pub fn step(&mut self, entry: &Entry) -> Result<bool, OutOfMemory>
         ensures decides { IfOk result (Decides (IsStep self.old.limits entry.now) self.old.state self.new.state) }
         ensures limits { self.new.limits ≡ self.old.limits }
         ensures refused { OnErr result (self.new.state ≡ self.old.state) }
-        // No other state follows.
-        ensures only { (other : State) → IsStep self.old.limits entry.now self.old.state other → IfOk result (λ yes. other ≡ self.new.state) }
+        ensures needed { OnErr result (IsMake entry.now.call × Leads (IsStep self.old.limits entry.now) self.old.state) }
+        // The entry fixes the state that follows.
+        ensures determined { (a b : State) → IsStep self.old.limits entry.now self.old.state a → IsStep self.old.limits entry.now self.old.state b → a ≡ b }
     {
         Ok(self.state.step(self.limits, entry)?)
     }
@@ -82,6 +85,7 @@ pub fn outcome_of(
     capacities: &[u32],
     entries: &[Entry],
 ) -> Result<Option<Outcome>, ReplayError>
+    ensures within { OnOk result (AreLimits limits bodies capacities.now) }
     ensures ends { IfOk result (EndsWith limits bodies capacities.now entries.now) }
     ensures why { IfErr result (IsReplayError limits bodies capacities.now entries.now) }
 {

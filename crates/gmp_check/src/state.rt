@@ -4,13 +4,13 @@ ghost use Rattle.gmp_seq.specs.Run.{IsStep};
 ghost use Rattle.gmp_seq.specs.State.{opening};
 ghost use Rattle.gmp_seq.specs.Waits.{can, first_on, waiters};
 ghost use Rattle.gmp_seq.specs.Step.{outcome_after, some_can};
-ghost use Rattle.gmp_check.specs.Calls.{counted_one};
-ghost use Rattle.gmp_check.specs.Decides.{Decides};
+ghost use Rattle.gmp_check.specs.Calls.{IsMake, counted_one};
+ghost use Rattle.gmp_check.specs.Decides.{Decides, Leads};
 ghost use Rattle.gmp_check.specs.Reached.{IsReached, IsReachedUnder};
 
-mod asking;
-mod communicating;
+mod channel_calls;
 mod effect;
+mod transfers;
 
 use crate::channels::Channels;
 use crate::machines::Machines;
@@ -20,7 +20,7 @@ use gmp_seq::{Direction, Entry, Limits, Outcome, Reply, Waiter};
 use std::alloc::{AllocError, Global};
 use std::marker::Model;
 
-/// A contract sees the state of the definitions.
+/// A contract sees the state as `gmp_seq` has it.
 #[derive(Drop)]
 pub(crate) struct State {
     table: Table,
@@ -100,6 +100,7 @@ impl State {
         requires { IsReachedUnder limits self.old }
         ensures decides { IfOk result (Decides (IsStep limits entry.now) self.old self.new) }
         ensures refused { OnErr result (self.new ≡ self.old) }
+        ensures needed { OnErr result (IsMake entry.now.call × Leads (IsStep limits entry.now) self.old) }
     {
         if self.outcome.is_some() || self.count(entry.m) != Some(entry.k) {
             return Ok(false);
@@ -139,7 +140,7 @@ impl State {
         }
     }
 
-    /// Whether one of them can.
+    /// Whether one of these communications can proceed.
     fn some_can(&self, cases: &[Case]) -> bool
         requires { IsReached self.now }
         ensures { result ≡ some_can self.now cases.now }

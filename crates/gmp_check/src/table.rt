@@ -1,14 +1,11 @@
-//! The status table as a plain list of goroutines, which each question scans.
-ghost use Rattle.std.specs.Prelude.{◌≡◌, ◌↔◌, ◌<◌, ◌^◌, ◌∷◌, ◌-◌, [], false, Some, None, ℕ, Option, List, option_copied, replicate, slice_get, slice_set, IsTrue, IfOk, IfSome, IfNone};
-ghost use Rattle.std.specs.List.{list_any};
+//! The status table as a plain list of goroutines.
+ghost use Rattle.std.specs.Prelude.{◌≡◌, ◌<◌, ◌^◌, ◌∷◌, ◌-◌, Some, None, Option, option_copied, replicate, slice_get, slice_set, IfOk, IfSome, IfNone};
 ghost use Rattle.gmp_base.specs.declared.ask.Woke.{Woke};
 ghost use Rattle.gmp_base.specs.declared.number.GNo.{GNo};
 ghost use Rattle.gmp_seq.specs.declared.status.Place.{Place};
 ghost use Rattle.gmp_seq.specs.declared.status.Status.{Status};
 ghost use Rattle.gmp_seq.specs.State.{first_goroutine, dormant};
-ghost use Rattle.gmp_seq.specs.Step.{Takes, Puts, Claims, Starts, Yields, Exits, Sleeps, Goparks, Readies, Resumes};
-ghost use Rattle.gmp_seq.specs.Table.{IsReady, IsRunning, IsCalling, RunsNothing, epoch_at, is_astir, is_dormant, is_parked, is_ready_or_running, is_running_on, is_shelved, made_ready, made_wait, next_of, set_status, some_status, status_at};
-ghost use Rattle.gmp_check.specs.Decides.{Decides};
+ghost use Rattle.gmp_seq.specs.Table.{IsReady, IsRunning, IsCalling, epoch_at, is_astir, is_ready_or_running, is_running_on, is_shelved, made_ready, made_wait, next_of, set_status, some_status, status_at};
 
 mod calls;
 mod waiting;
@@ -20,7 +17,7 @@ use gmp_seq::{Goroutine, Kind, Offers, Place, Status, Wait};
 use std::alloc::{AllocError, Global};
 use std::marker::Model;
 
-/// A contract sees the table of the definitions.
+/// A contract sees the table as `gmp_seq` has it.
 #[derive(Drop)]
 pub(crate) struct Table {
     goroutines: Vec<Goroutine>,
@@ -107,6 +104,7 @@ impl Table {
         self.goroutines.iter().any(|row| is_shelved(&row.status))
     }
 
+    /// Whether somebody can go on, or comes back from a blocking call or at a deadline.
     pub(crate) fn has_astir(&self) -> bool
         ensures { result ≡ some_status is_astir self.now }
     {

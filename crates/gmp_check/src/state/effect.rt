@@ -3,8 +3,8 @@ ghost use Rattle.std.specs.Prelude.{◌≡◌, ◌↔◌, true, IsTrue, IfOk, On
 ghost use Rattle.gmp_seq.specs.declared.call.Call.TheVariants as call;
 ghost use Rattle.gmp_seq.specs.Step.{Effect, IsFree, Parks, has_work};
 ghost use Rattle.gmp_seq.specs.Table.{IsRunning};
-ghost use Rattle.gmp_check.specs.Calls.{EntersBy, LeavesBy, is_ask};
-ghost use Rattle.gmp_check.specs.Decides.{Decides};
+ghost use Rattle.gmp_check.specs.Calls.{EntersBy, IsMake, LeavesBy, is_ask};
+ghost use Rattle.gmp_check.specs.Decides.{Decides, Leads};
 ghost use Rattle.gmp_check.specs.Reached.{IsReached, SameRest};
 
 use super::State;
@@ -92,6 +92,7 @@ impl State {
         requires ask { is_ask call.now ≡ true }
         ensures decides { IfOk result (Decides (Effect limits m call.now reply) self.old self.new) }
         ensures refused { OnErr result (self.new ≡ self.old) }
+        ensures needed { OnErr result (IsMake call.now × Leads (Effect limits m call.now reply) self.old) }
         ensures rest { SameRest self.old self.new }
     {
         Ok(match call {
@@ -130,6 +131,7 @@ impl State {
         requires { IsReached self.old }
         ensures decides { IfOk result (Decides (Effect limits m call.now reply) self.old self.new) }
         ensures refused { OnErr result (self.new ≡ self.old) }
+        ensures needed { OnErr result (IsMake call.now × Leads (Effect limits m call.now reply) self.old) }
         ensures rest { SameRest self.old self.new }
     {
         Ok(match call {
@@ -144,7 +146,7 @@ impl State {
                 None => false,
             },
             Call::Spin => !self.table.runs_some(m) && self.machines.spin(m, reply),
-            Call::Woken => self.machines.look(m, reply),
+            Call::Woken => self.machines.woken(m, reply),
             Call::Unspin => self.machines.unspin(m, reply),
             Call::Poke => self.machines.poke(m, reply),
             Call::Declare => !self.table.runs_some(m) && self.machines.declare(m, reply),

@@ -1,4 +1,4 @@
-//! Calls that concern goroutines alone.
+//! Calls that concern goroutines alone. Each answers whether the reply is one that the definitions allow, and changes the table only where it is.
 ghost use Rattle.std.specs.Prelude.{◌<◌, ◌^◌};
 ghost use Rattle.gmp_seq.specs.Step.{Takes, Puts, Claims, Starts, Yields, Exits, Sleeps, Goparks, Readies};
 ghost use Rattle.gmp_seq.specs.Table.{epoch_at};

@@ -1,35 +1,10 @@
 //! Who waits on a channel.
 ghost use Rattle.std.specs.Prelude.{◌≡◌};
-ghost use Rattle.gmp_seq.specs.Waits.{direction_of, is_on, same_direction};
 ghost use Rattle.gmp_check.specs.First.{IsFirstOf, IsOfferAt, IsOfferOf, IsOfferOn, comes_before, sooner};
 
 use super::Table;
 use gmp_base::{CNo, GNo};
-use gmp_seq::{Deal, Direction, Status, Wait, Waiter};
-
-fn direction_of(deal: Deal) -> Direction
-    ensures { result ≡ direction_of deal }
-{
-    match deal {
-        Deal::Send(_) => Direction::Sending,
-        Deal::Receive => Direction::Receiving,
-    }
-}
-
-fn same_direction(a: Direction, b: Direction) -> bool
-    ensures { result ≡ same_direction a b }
-{
-    matches!(
-        (a, b),
-        (Direction::Sending, Direction::Sending) | (Direction::Receiving, Direction::Receiving)
-    )
-}
-
-fn is_on(c: CNo, direction: Direction, w: Waiter) -> bool
-    ensures { result ≡ is_on c direction w }
-{
-    w.offer.channel.0 == c.0 && same_direction(direction, direction_of(w.offer.deal))
-}
+use gmp_seq::{Direction, Status, Wait, Waiter};
 
 fn comes_before(x: Waiter, y: Waiter) -> bool
     ensures { result ≡ comes_before x y }
@@ -59,12 +34,12 @@ fn first_of(g: GNo, wait: &Wait, c: CNo, direction: Direction) -> Option<Waiter>
             kind: wait.kind,
             offer: *offer,
         };
-        first = sooner(first, is_on(c, direction, w).then_some(w));
+        first = sooner(first, w.is_on(c, direction).then_some(w));
     }
     first
 }
 
-/// The same of a goroutine with this status: one that doesn't wait has no offer.
+/// The first of the offers on the channel of a goroutine with this status: one that doesn't wait has none.
 fn first_at(g: GNo, status: &Status, c: CNo, direction: Direction) -> Option<Waiter>
     ensures { IsFirstOf (IsOfferAt g status.now c direction) result }
 {

@@ -1,5 +1,5 @@
 //! Changes of many goroutines at once, and the clock.
-ghost use Rattle.std.specs.Prelude.{◌≡◌, ◌<◌, ◌^◌, ℕ, map, None, Some, count_by, is_some, max, slice_index, EachIndex, slice_get, IfSome};
+ghost use Rattle.std.specs.Prelude.{◌≡◌, ◌<◌, ◌^◌, ℕ, map, None, Some, slice_get};
 ghost use Rattle.gmp_base.specs.declared.number.GNo.{GNo};
 ghost use Rattle.gmp_seq.specs.declared.status.Goroutine.{Goroutine};
 ghost use Rattle.gmp_seq.specs.Step.{Ticks};
@@ -55,7 +55,7 @@ fn wake_all(rows: &mut [Goroutine], cause: Cause)
 
 impl Table {
     /// How many goroutines the cause wakes.
-    pub(crate) fn how_many(&self, cause: Cause) -> usize
+    pub(crate) fn how_many_woken(&self, cause: Cause) -> usize
         ensures { result ≡ how_many_woken (answer_for cause) self.now }
     {
         let rows = self.goroutines.iter();
@@ -96,7 +96,7 @@ impl Table {
         let now = self.clock.max(moment);
         let cause = Cause::Due(now);
         match reply {
-            Reply::Woke(n) if n == self.how_many(cause) as u64 => {
+            Reply::Woke(n) if n == self.how_many_woken(cause) as u64 => {
                 self.wake(cause);
                 self.clock = now;
                 true

@@ -1,6 +1,6 @@
 use Rattle.std.proofs.Common.{subst}
 use Rattle.gmp_seq.specs.Run.{IsStep}
-use Rattle.gmp_check.proofs.Replaying.{only_next, reached_next}
+use Rattle.gmp_check.proofs.Replaying.{next_fixed, reached_next}
 use Rattle.gmp_check.specs.Decides.{Decides}
 use Rattle.gmp_check.specs.Reached.{IsReachedUnder}
 use Rattle.gmp_check.specs.Replayed.{Replayed}
@@ -15,9 +15,8 @@ pub returns-clause-decides : goal.returns-clause-decides
 returns-clause-decides c =
     subst (λ (r : Replayed). Decides (IsStep r.limits c.args.entry.now) r.state c.step.new.self c.in_ok-step.field-0) c.self.view_is c.in_ok-step.ensures.decides
 
-pub returns-clause-only : goal.returns-clause-only
-returns-clause-only c other step =
+pub returns-clause-determined : goal.returns-clause-determined
+returns-clause-determined c a b one two =
     let now = c.args.self.now in
     let reached = subst (λ (r : Replayed). IsReachedUnder r.limits r.state) c.self.view_is c.self.invariant in
-    let is = subst (λ (r : Replayed). Decides (IsStep r.limits c.args.entry.now) r.state c.step.new.self c.in_ok-step.field-0) c.self.view_is c.in_ok-step.ensures.decides in
-    only_next now.limits c.args.entry.now now.state c.step.new.self other c.in_ok-step.field-0 reached is step
+    next_fixed now.limits c.args.entry.now now.state a b reached one two

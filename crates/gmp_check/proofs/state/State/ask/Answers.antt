@@ -1,5 +1,6 @@
 use Rattle.std.proofs.Common.{length, sym, subst}
 use Rattle.gmp_base.specs.declared.cases.Case.TheVariants as case
+use Rattle.gmp_check.proofs.Making.{make_leads, on_error}
 use Rattle.gmp_check.proofs.Parts.{by_running, by_selecting, on_number, on_table}
 use Rattle.gmp_check.proofs.Reaching.{reached_arrivals, reached_young}
 use Rattle.gmp_check.specs.Calls.{EntersBy}
@@ -93,3 +94,9 @@ returns-in-Select-clause-decides c =
     let is = subst (λ l. Decides (Selects a.g l k.has_default k.until a.reply) a.self.now c.select.new.self c.select.result) c.as_slice.ensures.value c.select.ensures.decides in
     subst (λ x. Decides (Effect a.limits a.m x a.reply) a.self.now c.select.new.self c.select.result) (sym k.is)
     (by_selecting a.limits a.m a.g k.cases k.has_default k.until a.reply a.self.now c.select.new.self c.select.result c.requires.reached c.requires.runs c.as_slice.ensures.bound is)
+
+pub returns-in_err-make-in-Make-clause-needed : goal.returns-in_err-make-in-Make-clause-needed
+returns-in_err-make-in-Make-clause-needed c =
+    let a = c.args in
+    on_error c.from_residual.result _
+    (make_leads a.limits a.m a.g c.in-Make.capacity a.call.now a.reply a.self.now _ c.self-in-Make.view_is c.in-Make.is c.requires.runs c.in_err-make-in-Make.ensures.needed)

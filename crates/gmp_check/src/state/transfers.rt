@@ -7,7 +7,6 @@ ghost use Rattle.gmp_check.specs.Reached.{IsReached, SameRest};
 ghost use Rattle.gmp_check.specs.Ways.{IsWay, after};
 
 use super::State;
-use crate::answers::{offered, receiver_answer, sender_answer};
 use gmp_base::{CNo, Case};
 use gmp_seq::{Direction, Place, Relay, Taken, Transfer};
 
@@ -32,7 +31,7 @@ impl State {
     {
         match (self.channels.first(c), self.first_on(c, Direction::Sending)) {
             (Some(v), Some(w)) => Some(Transfer::Relayed(v, w)),
-            (None, Some(w)) => Some(Transfer::Relayed(offered(w), w)),
+            (None, Some(w)) => Some(Transfer::Relayed(w.offered(), w)),
             (Some(v), None) => Some(Transfer::First(v)),
             (None, None) if self.channels.is_closed(c) => Some(Transfer::Drained),
             (None, None) => None,
@@ -50,7 +49,7 @@ impl State {
         }
     }
 
-    /// What is told of it.
+    /// What is told of a communication that proceeds in this way.
     fn told(&self, how: Transfer) -> Taken
         requires { IsReached self.now }
         ensures { result ≡ told_of self.now.table how }
@@ -62,7 +61,7 @@ impl State {
             Transfer::First(v) => Taken::Got(v, true, None),
             Transfer::Relayed(v, w) => {
                 let sender = self.table.next(w.g);
-                let value = offered(w);
+                let value = w.offered();
                 Taken::Got(v, true, Some(Relay { sender, value }))
             }
             Transfer::Drained => Taken::Got(0, false, None),
@@ -77,7 +76,7 @@ impl State {
         match how {
             Transfer::Stored => self.channels.push(c, v),
             Transfer::Handed(w) => {
-                let woke = receiver_answer(w.kind, w.offer, v, true);
+                let woke = w.offer.receiver_answer(w.kind, v, true);
                 self.table.make_ready(w.g, Place::Out, woke);
             }
             Transfer::Failed | Transfer::First(_) | Transfer::Relayed(_, _) | Transfer::Drained =>
@@ -92,8 +91,8 @@ impl State {
         match how {
             Transfer::First(_) => self.channels.pop(c),
             Transfer::Relayed(_, w) => {
-                self.channels.relay(c, offered(w));
-                self.table.make_ready(w.g, Place::Out, sender_answer(w));
+                self.channels.relay(c, w.offered());
+                self.table.make_ready(w.g, Place::Out, w.sender_answer());
             }
             Transfer::Failed | Transfer::Handed(_) | Transfer::Stored | Transfer::Drained => {}
         }

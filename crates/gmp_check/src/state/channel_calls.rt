@@ -1,4 +1,4 @@
-//! Sends, receives, selects and closes as goroutines ask for them.
+//! Sends, receives, selects and closes. Each answers whether the reply is one that the definitions allow, and changes the state only where it is.
 ghost use Rattle.std.specs.Prelude.{◌≡◌, ◌≤◌, length, slice_get};
 ghost use Rattle.gmp_seq.specs.Step.{Blocks, Closes, Deals, Selects, none_missing};
 ghost use Rattle.gmp_seq.specs.Waits.{channel_of};
@@ -110,7 +110,7 @@ impl State {
             Reply::Fault(Fault::NoSuchChannel) => !has,
             Reply::Fault(Fault::CloseOfClosed) => has && is_closed,
             Reply::Closed(n)
-                if has && !is_closed && n == self.table.how_many(Cause::Closed(c)) as u64 => {
+                if has && !is_closed && n == self.table.how_many_woken(Cause::Closed(c)) as u64 => {
                 self.channels.close(c);
                 self.table.wake(Cause::Closed(c));
                 true

@@ -1,0 +1,103 @@
+//! One channel.
+ghost use Rattle.std.specs.Prelude.{◌≡◌, ◌<◌, ◌++◌, [], ◌∷◌, length, drop, slice_get, nat_lt, true, IfOk};
+ghost use Rattle.gmp_seq.specs.Channels.{new_channel};
+
+use circular_buffer::HeapCircularBuffer;
+use std::alloc::{AllocError, Global};
+use std::marker::Model;
+
+/// Its buffer has room for as many values as its capacity, and never grows.
+#[derive(Drop)]
+pub(crate) struct Channel {
+    items: HeapCircularBuffer<u64>,
+    closed: bool,
+}
+
+impl Model for Channel {
+    ghost use Rattle.std.specs.Prelude.{◌≤◌, length};
+    ghost use Rattle.gmp_seq.specs.Channels.{Channel as Contents};
+
+    ghost Value = { Contents };
+
+    ghost view = { λ c. record { capacity = c.items.capacity; items = c.items.items; closed = c.closed } };
+
+    ghost invariant = { λ c. length c.items.items ≤ c.items.capacity };
+}
+
+impl Channel {
+    /// Open and empty.
+    pub(crate) fn new(alloc: Global, capacity: u32) -> Result<Self, AllocError>
+        ensures { IfOk result (λ c. c ≡ new_channel capacity) }
+    {
+        let items = HeapCircularBuffer::with_capacity(alloc, capacity as usize)?;
+        Ok(Channel {
+            items,
+            closed: false,
+        })
+    }
+
+    pub(crate) fn is_closed(&self) -> bool
+        ensures { result ≡ self.now.closed }
+    {
+        self.closed
+    }
+
+    pub(crate) fn has_room(&self) -> bool
+        ensures { result ≡ nat_lt (length self.now.items) self.now.capacity }
+    {
+        self.items.len() < self.items.capacity()
+    }
+
+    pub(crate) fn len(&self) -> u64
+        ensures { result ≡ length self.now.items }
+    {
+        self.items.len() as u64
+    }
+
+    pub(crate) fn capacity(&self) -> u64
+        ensures { result ≡ self.now.capacity }
+    {
+        self.items.capacity() as u64
+    }
+
+    /// Puts a value last.
+    pub(crate) fn push(&mut self, v: u64)
+        requires { length self.old.items < self.old.capacity }
+        ensures { self.new ≡ record self.old { items = self.old.items ++ v ∷ [] } }
+    {
+        if self.items.try_push_back(v).is_err() {
+            unreachable!()
+        }
+    }
+
+    /// Takes the first value.
+    pub(crate) fn pop(&mut self) -> u64
+        requires { 0 < length self.old.items }
+        ensures first { self.old.items ≡ result ∷ drop 1 self.old.items }
+        ensures rest { self.new ≡ record self.old { items = drop 1 self.old.items } }
+    {
+        let Some(v) = self.items.pop_front() else {
+            unreachable!()
+        };
+        v
+    }
+
+    /// Puts a value last and takes the first, which may be that value.
+    pub(crate) fn relay(&mut self, v: u64) -> u64
+        ensures first { self.old.items ++ v ∷ [] ≡ result ∷ drop 1 (self.old.items ++ v ∷ []) }
+        ensures rest { self.new ≡ record self.old { items = drop 1 (self.old.items ++ v ∷ []) } }
+    {
+        if self.items.is_empty() {
+            return v;
+        }
+        let first = self.pop();
+        self.push(v);
+        first
+    }
+
+    pub(crate) fn close(&mut self)
+        ensures { self.new ≡ record self.old { closed = true } }
+    {
+        self.closed = true;
+    }
+}

@@ -1,0 +1,99 @@
+//! What an offer would do, and what one that waited is told.
+ghost use Rattle.std.specs.Prelude.{◌≡◌};
+ghost use Rattle.gmp_seq.specs.Table.{late_answer};
+ghost use Rattle.gmp_seq.specs.Waits.{closed_answer, direction_of, is_on, is_select, offered, receiver_answer, same_direction, sender_answer};
+
+use crate::status::{Deal, Direction, Kind, Offer, Waiter};
+use gmp_base::{CNo, Fault, Woke};
+
+fn same_direction(a: Direction, b: Direction) -> bool
+    ensures { result ≡ same_direction a b }
+{
+    matches!(
+        (a, b),
+        (Direction::Sending, Direction::Sending) | (Direction::Receiving, Direction::Receiving)
+    )
+}
+
+impl Deal {
+    /// Which end of the channel it is.
+    pub fn direction(self) -> Direction
+        ensures { result ≡ direction_of self }
+    {
+        match self {
+            Deal::Send(_) => Direction::Sending,
+            Deal::Receive => Direction::Receiving,
+        }
+    }
+}
+
+impl Kind {
+    fn is_select(self) -> bool
+        ensures { result ≡ is_select self }
+    {
+        matches!(self, Kind::Select)
+    }
+
+    /// What one that waits so is told when its deadline comes: a sleep is done, a select is late.
+    pub fn late_answer(self) -> Woke
+        ensures { result ≡ late_answer self }
+    {
+        match self {
+            Kind::Sleep => Woke::Done,
+            _ => Woke::Late,
+        }
+    }
+}
+
+impl Offer {
+    /// What a receiver is told that gets v, which was sent or not.
+    pub fn receiver_answer(self, kind: Kind, v: u64, sent: bool) -> Woke
+        ensures { result ≡ receiver_answer kind self v sent }
+    {
+        if kind.is_select() {
+            Woke::Chose(self.case, Some((v, sent)))
+        } else {
+            Woke::Got(v, sent)
+        }
+    }
+
+    /// What one is told whose channel is closed (Go specification, Close): a receiver gets the zero value, a sender the fault.
+    pub fn closed_answer(self, kind: Kind) -> Woke
+        ensures { result ≡ closed_answer kind self }
+    {
+        match self.deal {
+            Deal::Send(_) => Woke::Fault(Fault::SendOnClosed),
+            Deal::Receive => self.receiver_answer(kind, 0, false),
+        }
+    }
+}
+
+impl Waiter {
+    /// Whether the offer is on this channel, in this direction.
+    pub fn is_on(self, c: CNo, direction: Direction) -> bool
+        ensures { result ≡ is_on c direction self }
+    {
+        self.offer.channel.0 == c.0 && same_direction(direction, self.offer.deal.direction())
+    }
+
+    /// The value that a waiting sender offers, and 0 for a receiver.
+    pub fn offered(self) -> u64
+        ensures { result ≡ offered self }
+    {
+        match self.offer.deal {
+            Deal::Send(v) => v,
+            Deal::Receive => 0,
+        }
+    }
+
+    /// What a sender is told whose value is taken.
+    pub fn sender_answer(self) -> Woke
+        ensures { result ≡ sender_answer self }
+    {
+        if self.kind.is_select() {
+            Woke::Chose(self.offer.case, None)
+        } else {
+            Woke::Done
+        }
+    }
+}
