@@ -1,22 +1,24 @@
 use super::*;
 use gmp_base::{CNo, GNo};
 use gmp_seq::{Deal, Kind, Offer, Offers, Transfer, Waiter};
-use std::alloc::{AllocError, Global};
+use std::process::Abort;
 
-const C: Option<CNo> = Some(CNo(0));
+const RECEIVE: Offer = Offer {
+    case: 0,
+    channel: CNo(0),
+    deal: Deal::Receive,
+};
+
+const SEND_7: Offer = Offer {
+    case: 0,
+    channel: CNo(0),
+    deal: Deal::Send(7),
+};
 
 fn one(offer: Offer) -> Offers {
     let mut offers = Offers::new();
     offers.push(offer);
     offers
-}
-
-fn send(value: u64) -> Offer {
-    Offer {
-        case: 0,
-        channel: CNo(0),
-        deal: Deal::Send(value),
-    }
 }
 
 fn waiter(g: u16, arrival: u64, offer: Offer) -> Waiter {
@@ -28,58 +30,65 @@ fn waiter(g: u16, arrival: u64, offer: Offer) -> Waiter {
     }
 }
 
-fn channels(alloc: Global, capacities: &[u32]) -> Result<Channels, AllocError> {
-    Channels::open(alloc, 4, 8, capacities)
+/// Sends on channel 0.
+fn send(rt: &impl Abort, chans: &mut Channels, value: u64) -> Option<Transfer> {
+    let c = Some(CNo(0));
+    assert!(rt; chans.has(c));
+    chans.try_send(c, value)
+}
+
+/// Receives from channel 0.
+fn recv(rt: &impl Abort, chans: &mut Channels) -> Option<Transfer> {
+    let c = Some(CNo(0));
+    assert!(rt; chans.has(c));
+    chans.try_recv(c)
+}
+
+fn close(rt: &impl Abort, chans: &mut Channels) {
+    assert!(rt; chans.has(Some(CNo(0))));
+    chans.close(CNo(0));
 }
 
 #[test]
 fn values_come_in_the_order_in_which_they_were_sent(rt: HostRuntime) {
-    let mut chans = channels(rt.alloc(), &[2]).expect(&rt, "memory");
-    assert_eq!(rt; chans.try_recv(C), None);
-    assert_eq!(rt; chans.try_send(C, 5), Some(Transfer::Stored));
-    assert_eq!(rt; chans.try_send(C, 6), Some(Transfer::Stored));
-    assert_eq!(rt; chans.try_send(C, 7), None);
+    let mut chans = Channels::open(rt.alloc(), 4, 8, &[2]).expect(&rt, "memory");
+    chans.wait_on(GNo(3), 0, Kind::Plain, &one(SEND_7));
+    assert_eq!(rt; send(&rt, &mut chans, 5), Some(Transfer::Stored));
+    assert_eq!(rt; send(&rt, &mut chans, 6), Some(Transfer::Stored));
+    assert_eq!(rt; send(&rt, &mut chans, 8), None);
     assert_eq!(rt; (chans.len(CNo(0)), chans.cap(CNo(0))), (2, 2));
-    // A sender that waits is served by a receive: its value goes last.
-    chans.wait_on(GNo(3), 0, Kind::Plain, &one(send(7)));
-    let served = Transfer::Relayed(5, waiter(3, 0, send(7)));
-    assert_eq!(rt; chans.try_recv(C), Some(served));
-    assert_eq!(rt; chans.try_recv(C), Some(Transfer::First(6)));
-    chans.close(CNo(0));
-    assert_eq!(rt; chans.try_send(C, 8), Some(Transfer::Failed));
-    assert_eq!(rt; chans.try_recv(C), Some(Transfer::First(7)));
-    assert_eq!(rt; chans.try_recv(C), Some(Transfer::Drained));
+    let served = Transfer::Relayed(5, waiter(3, 0, SEND_7));
+    assert_eq!(rt; recv(&rt, &mut chans), Some(served));
+    assert_eq!(rt; recv(&rt, &mut chans), Some(Transfer::First(6)));
+    close(&rt, &mut chans);
+    assert_eq!(rt; send(&rt, &mut chans, 9), Some(Transfer::Failed));
+    assert_eq!(rt; recv(&rt, &mut chans), Some(Transfer::First(7)));
+    assert_eq!(rt; recv(&rt, &mut chans), Some(Transfer::Drained));
     assert!(rt; chans.is_closed(CNo(0)));
 }
 
 #[test]
-fn the_first_that_waits_is_served_first(rt: HostRuntime) {
-    let mut chans = channels(rt.alloc(), &[0]).expect(&rt, "memory");
-    let receive = Offer::default();
-    for (g, arrival) in [(2, 0), (5, 1), (4, 2)] {
-        chans.wait_on(GNo(g), arrival, Kind::Plain, &one(receive));
-    }
-    chans.withdraw(GNo(5));
-    for (g, arrival) in [(2, 0), (4, 2)] {
-        let served = Transfer::Handed(waiter(g, arrival, receive));
-        assert_eq!(rt; chans.try_send(C, 9), Some(served));
-    }
-    assert_eq!(rt; chans.try_send(C, 9), None);
+fn a_receiver_that_waits_is_served_once(rt: HostRuntime) {
+    let mut chans = Channels::open(rt.alloc(), 4, 8, &[0]).expect(&rt, "memory");
+    chans.wait_on(GNo(2), 4, Kind::Plain, &one(RECEIVE));
+    let served = Transfer::Handed(waiter(2, 4, RECEIVE));
+    assert_eq!(rt; send(&rt, &mut chans, 9), Some(served));
+    assert_eq!(rt; send(&rt, &mut chans, 9), None);
 }
 
 #[test]
-fn nobody_proceeds_on_nil(rt: HostRuntime) {
-    let mut chans = channels(rt.alloc(), &[]).expect(&rt, "memory");
-    assert_eq!(rt; chans.try_send(None, 1), None);
-    assert_eq!(rt; chans.try_recv(None), None);
-    assert!(rt; chans.has(None) && !chans.has(C));
+fn a_receiver_that_is_withdrawn_is_not_served(rt: HostRuntime) {
+    let mut chans = Channels::open(rt.alloc(), 4, 8, &[0]).expect(&rt, "memory");
+    chans.wait_on(GNo(2), 4, Kind::Plain, &one(RECEIVE));
+    chans.withdraw(GNo(2));
+    assert_eq!(rt; send(&rt, &mut chans, 9), None);
+    assert_eq!(rt; recv(&rt, &mut chans), None);
 }
 
 #[test]
-fn channels_get_the_next_numbers(rt: HostRuntime) {
-    let mut chans = channels(rt.alloc(), &[0, 1]).expect(&rt, "memory");
-    for (capacity, number) in [(4096, 2), (3, 3)] {
-        let c = chans.make(rt.alloc(), capacity).expect(&rt, "memory");
-        assert_eq!(rt; (c, chans.cap(c)), (CNo(number), u64::from(capacity)));
-    }
+fn a_channel_gets_the_next_number(rt: HostRuntime) {
+    let mut chans = Channels::open(rt.alloc(), 4, 8, &[]).expect(&rt, "memory");
+    assert!(rt; chans.has(None) && !chans.has(Some(CNo(0))));
+    let c = chans.make(rt.alloc(), 4096).expect(&rt, "memory");
+    assert_eq!(rt; (c, chans.cap(c), chans.len(c)), (CNo(0), 4096, 0));
 }

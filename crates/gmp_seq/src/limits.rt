@@ -39,7 +39,12 @@ impl Limits {
 mod tests {
     use super::*;
 
-    const SMALL: Limits = limits(1, 1, 2, 16);
+    const SMALL: Limits = Limits {
+        procs: 1,
+        machines: 1,
+        channels: 2,
+        entries: 16,
+    };
 
     const fn limits(procs: u8, machines: u8, channels: u16, entries: u32) -> Limits {
         Limits {

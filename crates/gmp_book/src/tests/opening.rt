@@ -89,5 +89,3 @@ fn want_of_memory_gives_back_what_was_handed_in(rt: HostRuntime) {
         }
     }
 }
-
-/// Limits that differ from the small ones.
