@@ -142,7 +142,7 @@ listed_fewer test rows g x y list kept at off on =
 
 -- Whether somebody is listed
 
-any_counted : {X : Type 0} (p : X → Bool) (xs : List X) → list_any p xs ≡ nat_lt 0 (count_by p xs)
+pub any_counted : {X : Type 0} (p : X → Bool) (xs : List X) → list_any p xs ≡ nat_lt 0 (count_by p xs)
 any_counted p [] = refl
 any_counted p (x ∷ xs) = by_test (p x) refl (any_counted p xs)
   where

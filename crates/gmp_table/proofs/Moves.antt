@@ -1,8 +1,7 @@
 -- A status table is kept where one goroutine changes, and the shelf with it.
-use Rattle.std.proofs.Common.{◌≡◌, ℕ, zero, suc, ◌+◌, ◌-◌, ◌<◌, ◌==◌, Bool, true, false, ◌&&◌, List, [], ◌∷◌, ◌++◌, Option, Some, None, length, set, drop, map, replicate, slice_get, count_by, nat_lt, max, is_some, refl, sym, ◌∙◌, ap, arith, length-set, zero-add}
+use Rattle.std.proofs.Common.{◌≡◌, ℕ, zero, suc, ◌+◌, ◌-◌, ◌<◌, ◌==◌, Bool, true, false, ◌&&◌, ◌||◌, List, [], ◌∷◌, ◌++◌, Option, Some, None, length, set, drop, replicate, slice_get, nat_lt, refl, sym, ◌∙◌, ap, arith, length-set}
 use Rattle.std.proofs.lemmas.Bool.Decides.{nat_tests}
 use Rattle.std.proofs.lemmas.Grind.{common_steps}
-use Rattle.std.proofs.lemmas.List.Sums.{sum_by-cons}
 use Rattle.std.proofs.lemmas.List.{length-replicate}
 use Rattle.std.proofs.lemmas.Option.{slice_get_within}
 use Rattle.std.specs.List.{list_any}
@@ -15,22 +14,12 @@ use Rattle.gmp_seq.specs.declared.status.Goroutine.{Goroutine}
 use Rattle.gmp_seq.specs.declared.status.Place.{Place}
 use Rattle.gmp_seq.specs.declared.status.Place.TheVariants.{Shelf, Out}
 use Rattle.gmp_seq.specs.declared.status.Status.{Status}
-use Rattle.gmp_seq.specs.declared.status.Status.TheVariants.{Ready, Waiting}
+use Rattle.gmp_seq.specs.declared.status.Status.TheVariants.{Dormant, Ready, Running, Calling, Waiting, Dead}
 use Rattle.gmp_seq.specs.State.{dormant, first_goroutine}
-use Rattle.gmp_seq.specs.declared.call.Reply.TheVariants as reply
-use Rattle.gmp_seq.specs.Step.{Ticks}
-use Rattle.gmp_seq.specs.Table.{Table, is_shelved, is_out, is_waiting, woken_with, due_answer}
-use Rattle.gmp_table.specs.Contents.{answer_in, turned, epoch_in}
-use Rattle.gmp_table.specs.Kept.{tally, count_status, IsListing, IsTable}
-use Rattle.gmp_table.proofs.Listing.{count_by-set, slice_get-set_same, pushed, popped, passed_by, first_passes, HasRow, row_of, listed_fewer, some_listed, dormant_none, dormant_listing}
-
--- nobody begins to wait where the row's new status is no wait
-still_set : (rows : List Goroutine) (g : GNo) (x y : Goroutine) → count_status is_waiting rows ≡ 0 → slice_get rows g.0 ≡ Some x → is_waiting y.status ≡ false
-    → count_status is_waiting (set rows g.0 y) ≡ 0
-still_set rows g x y still at calm =
-    let n = count_by-set (λ z. is_waiting z.status) rows g.0 x y at in
-    let n' : count_status is_waiting (set rows g.0 y) + tally (is_waiting x.status) ≡ count_status is_waiting rows + 0 = rw calm at n in
-    omega (arith, n', still)
+use Rattle.gmp_seq.specs.Table.{is_shelved, is_out, is_astir, is_ready_or_running}
+use Rattle.gmp_table.specs.Contents.{answer_in, turned, epoch_in, is_calling, has_deadline}
+use Rattle.gmp_table.specs.Kept.{count_status, IsListing, IsTable}
+use Rattle.gmp_table.proofs.Listing.{slice_get-set_same, pushed, popped, passed_by, first_passes, HasRow, row_of, listed_fewer, any_counted, some_listed, dormant_listing}
 
 -- The row of a goroutine that is off the shelf
 
@@ -49,13 +38,12 @@ off_within rows g off = let r = off_row rows g off in slice_get_within rows g.0 
 
 -- a goroutine off the shelf stays off it
 pub off_turned : (rows : List Goroutine) (g : GNo) (y : Goroutine) (shelf : List GNo) (capacity : ℕ) → IsTable rows shelf capacity → IsOff rows g
-    → is_shelved y.status ≡ false → is_waiting y.status ≡ false → IsTable (set rows g.0 y) shelf capacity
-off_turned rows g y shelf capacity kept off now_off calm =
+    → is_shelved y.status ≡ false → IsTable (set rows g.0 y) shelf capacity
+off_turned rows g y shelf capacity kept off now_off =
     let r = off_row rows g off in
     record {
       listing = passed_by is_shelved rows g r.row y shelf kept.listing r.at (r.is ∙ sym now_off);
       room = rw length-set kept.room;
-      still = still_set rows g r.row y kept.still r.at calm;
     }
 
 -- the shelf has room for one that is off it
@@ -70,13 +58,12 @@ off_room rows g shelf capacity kept off =
 
 -- a goroutine off the shelf goes onto it
 pub off_pushed : (rows : List Goroutine) (g : GNo) (y : Goroutine) (shelf : List GNo) (capacity : ℕ) → IsTable rows shelf capacity → IsOff rows g
-    → is_shelved y.status ≡ true → is_waiting y.status ≡ false → IsTable (set rows g.0 y) (keep_last capacity (shelf ++ g ∷ [])) capacity
-off_pushed rows g y shelf capacity kept off now_on calm =
+    → is_shelved y.status ≡ true → IsTable (set rows g.0 y) (keep_last capacity (shelf ++ g ∷ [])) capacity
+off_pushed rows g y shelf capacity kept off now_on =
     let r = off_row rows g off in
     rw (off_room rows g shelf capacity kept off) (record {
       listing = pushed is_shelved rows g r.row y shelf kept.listing r.at r.is now_on;
       room = rw length-set kept.room;
-      still = still_set rows g r.row y kept.still r.at calm;
     })
 
 -- The first on the shelf
@@ -110,15 +97,14 @@ top_is_shelved rows shelf capacity g kept first =
     shelved_row rows g (row_of is_shelved rows g (first_passes is_shelved rows g (drop 1 shelf) listing))
 
 pub top_popped : (rows : List Goroutine) (shelf : List GNo) (capacity : ℕ) (g : GNo) (y : Goroutine) → IsTable rows shelf capacity → slice_get shelf 0 ≡ Some g
-    → is_shelved y.status ≡ false → is_waiting y.status ≡ false → IsTable (set rows g.0 y) (drop 1 shelf) capacity
-top_popped rows shelf capacity g y kept first now_off calm =
+    → is_shelved y.status ≡ false → IsTable (set rows g.0 y) (drop 1 shelf) capacity
+top_popped rows shelf capacity g y kept first now_off =
     let top = top_is_shelved rows shelf capacity g kept first in
     let e = first_of shelf g first in
     let listing : IsListing is_shelved rows (g ∷ drop 1 shelf) = rw (← e) kept.listing in
     record {
       listing = popped is_shelved rows g _ y (drop 1 shelf) listing top.at refl now_off;
       room = rw length-set kept.room;
-      still = still_set rows g _ y kept.still top.at calm;
     }
 
 -- what is told by a ready goroutine's row
@@ -161,50 +147,44 @@ given_out rows r h = by_row (slice_get rows r.g.0) refl h
 pub out_off : (rows : List Goroutine) (r : Readiness) → IsGivenOut rows r → IsOff rows r.g
 out_off rows r out = rw out.at refl
 
--- Nobody waits
+-- Whether somebody is astir
 
--- a tick changes no row, and wakes nobody
-pub record IsUnwoken (now : ℕ) (rows : List Goroutine) : Type 0 where
-  pub same : map (λ (x : Goroutine). woken_with (due_answer now x.status) x) rows ≡ rows
-  pub none : count_by (λ (x : Goroutine). is_some (due_answer now x.status)) rows ≡ 0
-
--- one row that isn't woken, before rows that aren't
-unwoken_cons : (now : ℕ) (x : Goroutine) (rows : List Goroutine) → due_answer now x.status ≡ None → IsUnwoken now rows → IsUnwoken now (x ∷ rows)
-unwoken_cons now x rows none below = record {
-  same = ap (λ (o : Option Woke). woken_with o x ∷ map (λ (z : Goroutine). woken_with (due_answer now z.status) z) rows) none ∙ ap (λ (zs : List Goroutine). x ∷ zs) below.same;
-  none =
-      let n = sum_by-cons (λ (z : Goroutine). tally (is_some (due_answer now z.status))) x rows in
-      n ∙ (ap (λ (o : Option Woke). tally (is_some o) + count_by (λ (z : Goroutine). is_some (due_answer now z.status)) rows) none ∙ (zero-add _ ∙ below.none));
-}
-
-no_wait_no_answer : (now : ℕ) (s : Status) → is_waiting s ≡ false → due_answer now s ≡ None
-no_wait_no_answer now (Waiting w) e = absurd cc
-no_wait_no_answer now _ e = refl
-
-pub nobody_woken : (now : ℕ) (rows : List Goroutine) → count_status is_waiting rows ≡ 0 → IsUnwoken now rows
-nobody_woken now [] still = record { same = refl; none = refl }
-nobody_woken now (x ∷ rows) still =
-    let n = sum_by-cons (λ (z : Goroutine). tally (is_waiting z.status)) x rows in
-    let rest : count_status is_waiting rows ≡ 0 = omega (arith, n, still) in
-    let none : tally (is_waiting x.status) ≡ 0 = omega (arith, n, still) in
-    unwoken_cons now x rows (no_wait_no_answer now x.status (no_tally (is_waiting x.status) none)) (nobody_woken now rows rest)
+-- a test of either of three, of a whole list
+any_either : (rows : List Goroutine)
+    → list_any (λ (x : Goroutine). is_astir x.status) rows
+    ≡ ((list_any (λ (x : Goroutine). is_ready_or_running x.status) rows || list_any (λ (x : Goroutine). is_calling x.status) rows)
+    || list_any (λ (x : Goroutine). has_deadline x.status) rows)
+any_either [] = refl
+any_either (x ∷ xs) = by_status x.status _ _ _ (any_either xs)
   where
-    no_tally : (b : Bool) → tally b ≡ 0 → b ≡ false
-    no_tally true e = absurd (omega arith)
-    no_tally false e = refl
+    regroup : (a b c p q r : Bool) → ((a || b) || c) || ((p || q) || r) ≡ ((a || p) || (b || q)) || (c || r)
+    regroup true b c p q r = refl
+    regroup false true c true q r = refl
+    regroup false true c false q r = refl
+    regroup false false true true q r = refl
+    regroup false false true false true r = refl
+    regroup false false true false false r = refl
+    regroup false false false p q r = refl
 
--- a table whose clock shows this moment
-abbrev pub table_at : List Goroutine → ℕ → Table
-table_at rows clock = record { goroutines = rows; arrivals = 0; clock = clock }
+    astir_is : (s : Status) → is_astir s ≡ ((is_ready_or_running s || is_calling s) || has_deadline s)
+    astir_is Dormant = refl
+    astir_is (Ready place answer) = refl
+    astir_is (Running m) = refl
+    astir_is (Calling m) = refl
+    astir_is (Waiting w) = refl
+    astir_is Dead = refl
 
-pub ticks_unwoken : (rows : List Goroutine) (clock moment shown : ℕ) → shown ≡ max clock moment → count_status is_waiting rows ≡ 0
-    → Ticks moment (reply.Woke 0) (table_at rows clock) (table_at rows shown)
-ticks_unwoken rows clock moment shown e still =
-    let n = nobody_woken (max clock moment) rows still in
-    let m = nobody_woken shown rows still in (
-      ap (table_at rows) e ∙ ap (λ (gs : List Goroutine). table_at gs (max clock moment)) (sym n.same),
-      sym m.none,
-    )
+    by_status : (s : Status) (p q r : Bool) {rest : Bool} → rest ≡ ((p || q) || r)
+        → (is_astir s || rest) ≡ (((is_ready_or_running s || p) || (is_calling s || q)) || (has_deadline s || r))
+    by_status s p q r {rest} e =
+        ap (λ (b : Bool). b || rest) (astir_is s) ∙ (ap (λ (b : Bool). ((is_ready_or_running s || is_calling s) || has_deadline s) || b) e ∙ regroup _ _ _ p q r)
+
+pub astir_counted : (rows : List Goroutine)
+    → list_any (λ (x : Goroutine). is_astir x.status) rows
+    ≡ ((nat_lt 0 (count_status is_ready_or_running rows) || nat_lt 0 (count_status is_calling rows)) || nat_lt 0 (count_status has_deadline rows))
+astir_counted rows =
+    any_either rows
+    ∙ rw (any_counted (λ (x : Goroutine). is_ready_or_running x.status) rows, any_counted (λ (x : Goroutine). is_calling x.status) rows, any_counted (λ (x : Goroutine). has_deadline x.status) rows) refl
 
 -- The opening
 
@@ -212,7 +192,6 @@ pub dormant_table : (n : ℕ) → IsTable (replicate n dormant) [] n
 dormant_table n = record {
   listing = dormant_listing is_shelved n refl;
   room = rw length-replicate (omega arith);
-  still = dormant_none (λ (x : Goroutine). is_waiting x.status) n refl;
 }
 
 pub dormant_off : (n : ℕ) → 0 < n → IsOff (replicate n dormant) (record { 0 = 0 })

@@ -4,7 +4,8 @@ use Rattle.std.specs.Option.{option_map_or}
 use Rattle.gmp_base.specs.declared.number.GNo.{GNo}
 use Rattle.gmp_seq.specs.declared.status.Goroutine.{Goroutine}
 use Rattle.gmp_seq.specs.declared.status.Status.{Status}
-use Rattle.gmp_seq.specs.Table.{is_shelved, is_waiting}
+use Rattle.gmp_seq.specs.Table.{is_shelved, is_ready_or_running}
+use Rattle.gmp_table.specs.Contents.{is_calling, has_deadline}
 
 -- 1 where it holds
 abbrev pub tally : Bool → ℕ
@@ -27,8 +28,14 @@ pub record IsListing (test : Status → Bool) (rows : List Goroutine) (list : Li
   pub all : length list ≡ count_status test rows
   pub each : (i : ℕ) → times i list ≡ tally (passes_at test rows i)
 
--- the shelf lists each goroutine on it once and has room for all, and nobody waits yet
+-- as many rows as bodies, and how many of them are ready or running, are calling, wait with a deadline
+pub record IsCounted (rows : List Goroutine) (bodies going calling timed : ℕ) : Type 0 where
+  pub size : length rows ≡ bodies
+  pub going_is : going ≡ count_status is_ready_or_running rows
+  pub calling_is : calling ≡ count_status is_calling rows
+  pub timed_is : timed ≡ count_status has_deadline rows
+
+-- the shelf lists each goroutine on it once, and has room for all
 pub record IsTable (rows : List Goroutine) (shelf : List GNo) (capacity : ℕ) : Type 0 where
   pub listing : IsListing is_shelved rows shelf
   pub room : length rows ≤ capacity
-  pub still : count_status is_waiting rows ≡ 0

@@ -1,8 +1,12 @@
-//! The rows of the table.
-ghost use Rattle.std.specs.Prelude.{◌≡◌, ◌+◌, ◌<◌, ◌^◌, replicate, length, slice_get, option_copied, IfOk};
+//! The rows of the table, with counts, so that a question about all of them needs no scan.
+ghost use Rattle.std.specs.Prelude.{◌≡◌, ◌+◌, ◌<◌, ◌^◌, replicate, length, slice_get, slice_set, option_copied, nat_lt, IfOk};
 ghost use Rattle.gmp_seq.specs.State.{dormant};
-ghost use Rattle.gmp_table.specs.Contents.{epoch_in, answer_in, turned, risen};
+ghost use Rattle.gmp_seq.specs.Table.{is_ready_or_running, deadline_of, earlier, least_of};
+ghost use Rattle.gmp_table.specs.Contents.{epoch_in, answer_in, turned, risen, is_calling, has_deadline};
+ghost use Rattle.gmp_table.specs.Kept.{count_status};
+ghost use Rattle.gmp_table.specs.Waking.{IsFirst};
 
+use crate::wake::{Candidate, Wake};
 use gmp_base::{GNo, Woke};
 use gmp_seq::{Goroutine, Place, Status};
 use std::alloc::{AllocError, Global};
@@ -13,17 +17,62 @@ use std::marker::Model;
 pub(crate) struct Rows {
     list: Vec<Goroutine>,
     bodies: u16,
+    /// How many are ready or running.
+    going: usize,
+    /// How many are in a blocking call.
+    calling: usize,
+    /// How many wait with a deadline.
+    timed: usize,
 }
 
 impl Model for Rows {
-    ghost use Rattle.std.specs.Prelude.{List, ◌≡◌, length};
+    ghost use Rattle.std.specs.Prelude.{List};
     ghost use Rattle.gmp_seq.specs.declared.status.Goroutine.{Goroutine};
+    ghost use Rattle.gmp_table.specs.Kept.{IsCounted};
 
     ghost Value = { List Goroutine };
 
     ghost view = { λ r. r.list.items };
 
-    ghost invariant = { λ r. length r.list.items ≡ r.bodies };
+    ghost invariant = { λ r. IsCounted r.list.items r.bodies r.going r.calling r.timed };
+}
+
+fn is_going(status: &Status) -> bool
+    ensures { result ≡ is_ready_or_running status.now }
+{
+    matches!(status, Status::Ready(_, _) | Status::Running(_))
+}
+
+fn is_calling(status: &Status) -> bool
+    ensures { result ≡ is_calling status.now }
+{
+    matches!(status, Status::Calling(_))
+}
+
+fn deadline(status: &Status) -> Option<u64>
+    ensures { result ≡ deadline_of status.now }
+{
+    match status {
+        Status::Waiting(wait) => wait.until,
+        _ => None,
+    }
+}
+
+fn has_deadline(status: &Status) -> bool
+    ensures { result ≡ has_deadline status.now }
+{
+    deadline(status).is_some()
+}
+
+/// The earlier of two deadlines, where they stand.
+fn earlier(a: Option<u64>, b: Option<u64>) -> Option<u64>
+    ensures { result ≡ earlier a b }
+{
+    match (a, b) {
+        (None, b) => b,
+        (a, None) => a,
+        (Some(x), Some(y)) => Some(x.min(y)),
+    }
 }
 
 impl Rows {
@@ -38,7 +87,13 @@ impl Rows {
                 epoch: 0,
             });
         }
-        Ok(Rows { list, bodies })
+        Ok(Rows {
+            list,
+            bodies,
+            going: 0,
+            calling: 0,
+            timed: 0,
+        })
     }
 
     /// How many there are.
@@ -78,13 +133,27 @@ impl Rows {
         }
     }
 
+    /// Writes a row.
+    fn set(&mut self, g: GNo, row: Goroutine)
+        requires { g.0 < length self.old }
+        ensures { self.new ≡ slice_set self.old g.0 row }
+    {
+        let i = g.0 as usize;
+        let was = &self.list[i].status;
+        let (going, calling, timed) = (is_going(was), is_calling(was), has_deadline(was));
+        self.going = self.going - going as usize + is_going(&row.status) as usize;
+        self.calling = self.calling - calling as usize + is_calling(&row.status) as usize;
+        self.timed = self.timed - timed as usize + has_deadline(&row.status) as usize;
+        self.list[i] = row;
+    }
+
     /// Gives a goroutine another status.
     pub(crate) fn turn(&mut self, g: GNo, status: Status)
         requires { g.0 < length self.old }
         ensures { self.new ≡ turned self.old g status }
     {
         let epoch = self.epoch(g);
-        self.list[g.0 as usize] = Goroutine { status, epoch };
+        self.set(g, Goroutine { status, epoch });
     }
 
     /// Makes a goroutine ready by its next epoch, which is answered.
@@ -95,10 +164,59 @@ impl Rows {
         ensures rows { self.new ≡ risen self.old g place woke }
     {
         let epoch = self.epoch(g) + 1;
-        self.list[g.0 as usize] = Goroutine {
-            status: Status::Ready(place, woke),
-            epoch,
-        };
+        self.set(
+            g,
+            Goroutine {
+                status: Status::Ready(place, woke),
+                epoch,
+            },
+        );
         epoch
+    }
+
+    /// Whether anybody is ready or running.
+    pub(crate) fn any_going(&self) -> bool
+        ensures { result ≡ nat_lt 0 (count_status is_ready_or_running self.now) }
+    {
+        self.going > 0
+    }
+
+    /// Whether anybody is in a blocking call.
+    pub(crate) fn any_calling(&self) -> bool
+        ensures { result ≡ nat_lt 0 (count_status is_calling self.now) }
+    {
+        self.calling > 0
+    }
+
+    /// Whether anybody waits with a deadline.
+    pub(crate) fn any_timed(&self) -> bool
+        ensures { result ≡ nat_lt 0 (count_status has_deadline self.now) }
+    {
+        self.timed > 0
+    }
+
+    /// Who is woken next, and what it is told.
+    pub(crate) fn next_to_wake(&self, wake: Wake) -> Option<Candidate>
+        ensures { IsFirst wake self.now (length self.now) result }
+    {
+        let mut best = None;
+        for i in 0..self.bodies {
+            let next = Candidate::of(wake, GNo(i), &self.list[i as usize].status);
+            best = Candidate::earlier(best, next);
+        }
+        best
+    }
+
+    /// The least deadline.
+    pub(crate) fn least_deadline(&self) -> Option<u64>
+        ensures { result ≡ least_of self.now }
+    {
+        let mut least = None;
+        let mut i = self.list.len();
+        while i > 0 {
+            i -= 1;
+            least = earlier(deadline(&self.list[i].status), least);
+        }
+        least
     }
 }

@@ -1,26 +1,30 @@
 //! The status table.
-ghost use Rattle.std.specs.Prelude.{◌≡◌, ◌<◌, ◌^◌, true, Some, [], ◌∷◌, ◌++◌, slice_get, option_copied, length, IsTrue, ◌↔◌, IfOk, IfSome, IfNone};
+ghost use Rattle.std.specs.Prelude.{◌≡◌, ◌<◌, ◌^◌, true, Some, [], ◌∷◌, ◌++◌, max, slice_get, option_copied, length, IsTrue, ◌↔◌, IfOk, IfSome, IfNone};
 ghost use Rattle.gmp_base.specs.declared.ask.Woke.{Woke};
 ghost use Rattle.gmp_seq.specs.declared.call.Reply.{Reply};
-ghost use Rattle.gmp_seq.specs.Step.{Takes, Puts, Claims, Starts, Ticks};
-ghost use Rattle.gmp_seq.specs.Table.{IsReady, IsOffShelf, status_at, epoch_at, next_of, some_status, is_shelved, is_outstanding, set_status, made_ready};
+ghost use Rattle.gmp_seq.specs.Step.{Takes, Puts, Claims, Starts};
+ghost use Rattle.gmp_seq.specs.Table.{IsReady, IsOffShelf, status_at, epoch_at, next_of, some_status, is_shelved, is_astir, is_ready_or_running, is_outstanding, least_deadline, set_status, made_ready, made_wait};
 ghost use Rattle.gmp_table.specs.Kept.{IsListing};
 ghost use Rattle.gmp_table.specs.Contents.{Contents, opening_contents};
+ghost use Rattle.gmp_table.specs.Waking.{IsFirst};
 
 use crate::rows::Rows;
+use crate::wake::{Candidate, Wake};
 use circular_buffer::HeapCircularBuffer;
 use gmp_base::{GNo, MNo, Readiness, Woke};
-use gmp_seq::{Goroutine, Place, Status};
+use gmp_seq::{Goroutine, Kind, Offers, Place, Status, Wait};
 use std::alloc::{AllocError, Global};
 use std::marker::Model;
 
 /// The goroutines and the shelf, first in, first out. A contract sees the table, and the shelf in order.
 ///
-/// Only the opening takes memory, and no call looks at all goroutines.
+/// Only the opening takes memory.
 #[derive(Drop)]
 pub struct StatusTable {
     rows: Rows,
     shelf: HeapCircularBuffer<GNo>,
+    /// How many waits began.
+    arrivals: u64,
     clock: u64,
 }
 
@@ -30,7 +34,7 @@ impl Model for StatusTable {
 
     ghost Value = { Contents };
 
-    ghost view = { λ t. record { table = record { goroutines = t.rows; arrivals = 0; clock = t.clock }; shelf = t.shelf.items } };
+    ghost view = { λ t. record { table = record { goroutines = t.rows; arrivals = t.arrivals; clock = t.clock }; shelf = t.shelf.items } };
 
     ghost invariant = { λ t. IsTable t.rows t.shelf.items t.shelf.capacity };
 }
@@ -48,6 +52,7 @@ impl StatusTable {
         Ok(StatusTable {
             rows,
             shelf,
+            arrivals: 0,
             clock: 0,
         })
     }
@@ -73,6 +78,27 @@ impl StatusTable {
         ensures listing { IsListing is_shelved self.now.table.goroutines self.now.shelf }
     {
         !self.shelf.is_empty()
+    }
+
+    /// Whether somebody is ready or running.
+    pub fn has_going(&self) -> bool
+        ensures { result ≡ some_status is_ready_or_running self.now.table }
+    {
+        self.rows.any_going()
+    }
+
+    /// Whether somebody is ready, running or calling, or waits with a deadline.
+    pub fn has_astir(&self) -> bool
+        ensures { result ≡ some_status is_astir self.now.table }
+    {
+        self.rows.any_going() | self.rows.any_calling() | self.rows.any_timed()
+    }
+
+    /// The least deadline of all that wait, in nanoseconds: found by a look at all goroutines.
+    pub fn least_deadline(&self) -> Option<u64>
+        ensures { result ≡ least_deadline self.now.table }
+    {
+        self.rows.least_deadline()
     }
 
     /// Whether the ticket of this readiness is given out, and not yet claimed or put back.
@@ -110,6 +136,20 @@ impl StatusTable {
         ensures { result ≡ self.now.table.clock }
     {
         self.clock
+    }
+
+    /// How many waits began so far.
+    pub fn arrivals(&self) -> u64
+        ensures { result ≡ self.now.table.arrivals }
+    {
+        self.arrivals
+    }
+
+    /// Who is woken next, and what it is told: found by a look at all goroutines.
+    pub fn next_to_wake(&self, wake: Wake) -> Option<Candidate>
+        ensures { IsFirst wake self.now.table.goroutines (length self.now.table.goroutines) result }
+    {
+        self.rows.next_to_wake(wake)
     }
 
     /// Gives out the ticket of the goroutine that is on the shelf for longest.
@@ -202,12 +242,33 @@ impl StatusTable {
         self.rows.turn(g, Status::Dead);
     }
 
-    /// Lets the clock show this moment, in nanoseconds, unless it showed a later one. Nobody waits, so nobody is woken.
-    pub fn tick(&mut self, moment: u64)
-        ensures ticks { Ticks moment (Reply.Woke 0) self.old.table self.new.table }
-        ensures same { self.new.table.goroutines ≡ self.old.table.goroutines }
+    /// A goroutine that is off the shelf begins to wait, with these offers, until this moment, in nanoseconds.
+    pub fn wait(&mut self, g: GNo, kind: Kind, offers: Offers, until: Option<u64>)
+        requires off { IsOffShelf self.old.table g }
+        requires few { self.old.table.arrivals < 2 ^ 63 }
+        ensures table { self.new.table ≡ made_wait self.old.table g kind offers until }
         ensures shelf { self.new.shelf ≡ self.old.shelf }
     {
-        self.clock = self.clock.max(moment);
+        let arrival = self.arrivals;
+        self.rows.turn(
+            g,
+            Status::Waiting(Wait {
+                arrival,
+                kind,
+                offers,
+                until,
+            }),
+        );
+        self.arrivals = arrival + 1;
+    }
+
+    /// Lets the clock show this moment, in nanoseconds, unless it showed a later one, and answers what it shows.
+    pub fn show(&mut self, moment: u64) -> u64
+        ensures shown { result ≡ max self.old.table.clock moment }
+        ensures table { self.new ≡ record self.old { table = record self.old.table { clock = result } } }
+    {
+        let shown = self.clock.max(moment);
+        self.clock = shown;
+        shown
     }
 }

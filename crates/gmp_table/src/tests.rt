@@ -17,8 +17,8 @@ fn opens(rt: HostRuntime) -> Result<(), Fail> {
     assert!(rt; !table.has_shelved());
     assert_eq!(rt; table.unshelve(), None);
     assert!(rt; !table.runs(MNo(0), GNo(0)));
-    table.tick(7);
-    table.tick(3);
+    assert_eq!(rt; table.show(7), 7);
+    assert_eq!(rt; table.show(3), 7);
     assert_eq!(rt; table.clock(), 7);
     Ok(())
 }

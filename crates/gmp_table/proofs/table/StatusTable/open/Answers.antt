@@ -11,4 +11,4 @@ invariant_of-result c =
     let main : GNo = record { 0 = 0 } in
     let rows : c.in_ok-rows.rows ≡ replicate n dormant = search rules in
     let shelf : c.in_ok-shelf.shelf ≡ buffer [] n = search rules in
-    rw (c.rise.ensures.rows, c.push_back.ensures.items, rows, shelf) (off_pushed (replicate n dormant) main _ [] n (dormant_table n) (dormant_off n c.requires) refl refl)
+    rw (c.rise.ensures.rows, c.push_back.ensures.items, rows, shelf) (off_pushed (replicate n dormant) main _ [] n (dormant_table n) (dormant_off n c.requires) refl)

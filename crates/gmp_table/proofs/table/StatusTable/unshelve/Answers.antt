@@ -24,7 +24,7 @@ pub invariant_of-self-2 : goal.invariant_of-self-2
 invariant_of-self-2 c =
     let first = sym c.pop_front.ensures.value ∙ c.in_ok-g.was in
     rw (c.turn.ensures, c.pop_front.ensures.items) (top_popped c.self.inside.rows c.self.inside.shelf.items _ c.in_ok-g.g
-    (record { status = Ready Out c.in-Some.woke; epoch = epoch_in c.self.inside.rows c.in_ok-g.g }) c.self.invariant first refl refl)
+    (record { status = Ready Out c.in-Some.woke; epoch = epoch_in c.self.inside.rows c.in_ok-g.g }) c.self.invariant first refl)
 
 pub returns-clause-taken : goal.returns-clause-taken
 returns-clause-taken c =
