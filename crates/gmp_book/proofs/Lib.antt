@@ -8,3 +8,5 @@ pub mod Bodies
 pub mod OpeningBook
 pub mod Placed
 pub mod Granted
+pub mod Arrivals
+pub mod Ties

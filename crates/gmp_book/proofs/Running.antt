@@ -6,23 +6,34 @@ use Rattle.std.proofs.lemmas.Bool.{eqb-true, eq-eqb, false≢true, cases_eq}
 use Rattle.gmp_base.specs.declared.ask.Fault.TheVariants as fault
 use Rattle.gmp_base.specs.declared.ask.Woke.{Woke}
 use Rattle.gmp_base.specs.declared.ask.Woke.TheVariants as woke
+use Rattle.gmp_base.specs.declared.cases.Case.{Case}
+use Rattle.gmp_base.specs.declared.cases.Case.TheVariants as case
 use Rattle.gmp_base.specs.declared.number.GNo.{GNo}
 use Rattle.gmp_base.specs.declared.number.MNo.{MNo}
 use Rattle.gmp_base.specs.declared.number.Readiness.{Readiness}
 use Rattle.gmp_seq.specs.declared.call.Reply.{Reply}
 use Rattle.gmp_seq.specs.declared.call.Reply.TheVariants as reply
+use Rattle.gmp_seq.specs.declared.status.Direction.TheVariants.{Sending, Receiving}
 use Rattle.gmp_seq.specs.declared.status.Goroutine.{Goroutine}
+use Rattle.gmp_seq.specs.declared.status.Kind.{Kind}
+use Rattle.gmp_seq.specs.declared.status.Offer.{Offer}
+use Rattle.gmp_seq.specs.declared.status.Place.{Place}
 use Rattle.gmp_seq.specs.declared.status.Place.TheVariants.{Shelf, Out}
 use Rattle.gmp_seq.specs.declared.status.Status.{Status}
 use Rattle.gmp_seq.specs.declared.status.Status.TheVariants as status
+use Rattle.gmp_seq.specs.declared.status.Transfer.{Transfer}
+use Rattle.gmp_seq.specs.declared.status.Transfer.TheVariants.{Failed, Handed, Stored, First, Relayed, Drained}
+use Rattle.gmp_seq.specs.declared.status.Wait.{Wait}
 use Rattle.gmp_seq.specs.State.{dormant, first_goroutine}
-use Rattle.gmp_seq.specs.Step.{Takes, Puts, Claims, Starts}
-use Rattle.gmp_seq.specs.Table.{Table, IsRunning, RunsNothing, epoch_at, is_running_on, some_status, set_status, made_ready}
+use Rattle.gmp_seq.specs.Step.{Takes, Puts, Claims, Starts, served_by}
+use Rattle.gmp_seq.specs.Table.{Table, IsRunning, RunsNothing, status_at, epoch_at, is_running_on, some_status, set_status, made_ready, made_wait}
+use Rattle.gmp_seq.specs.Waits.{Channel, Proceeds, waiters}
 use Rattle.gmp_seq.proofs.Asleep.{fails_at}
 use Rattle.gmp_seq.proofs.Epochs.{at_set}
 use Rattle.gmp_seq.proofs.Manned.{status_of, status_set, free_runs_none}
 use Rattle.gmp_seq.proofs.Needed.{some_place}
 use Rattle.gmp_seq.proofs.OneEach.{row_at}
+use Rattle.gmp_seq.proofs.Waiting.{first_waits}
 use Rattle.gmp_table.proofs.Listing.{slice_get-set_same, slice_get-set_other}
 use Rattle.gmp_book.specs.Kept.{AreRunners, is_runner}
 
@@ -207,6 +218,39 @@ module _ (t : Table) (machines : ℕ) (runners : List (Option GNo)) (kept : AreR
   pub exits_runners : (m : MNo) (g : GNo) (new : Table) → IsRunning t g m → new ≡ set_status t g status.Dead → AreRunners new machines (set runners m.0 None)
   exits_runners m g new runs is =
       freed_runners new m g (record { status = status.Dead; epoch = epoch_at t g }) runs (goroutines_are new (set_status t g status.Dead) is) (λ n e. cc)
+
+  pub waits_runners : (m : MNo) (g : GNo) (why : Kind) (offers : List Offer) (until : Option ℕ) (new : Table) → IsRunning t g m → new ≡ made_wait t g why offers until
+      → AreRunners new machines (set runners m.0 None)
+  waits_runners m g why offers until new runs is =
+      let w : Wait = record { arrival = t.arrivals; kind = why; offers = offers; until = until } in
+      freed_runners new m g (record { status = status.Waiting w; epoch = epoch_at t g }) runs (goroutines_are new (made_wait t g why offers until) is) (λ n e. cc)
+
+  -- one that doesn't run becomes ready
+  pub other_ready_runners : (g : GNo) (s : Status) (place : Place) (told : Woke) (new : Table) → status_at t g ≡ Some s → ((m : MNo) → s ≡ status.Running m → ⊥)
+      → new ≡ made_ready t g place told → AreRunners new machines runners
+  other_ready_runners g s place told new was idle is =
+      let row = row_at t g s was in
+      other_runners new g row.0 (record { status = status.Ready place told; epoch = epoch_at t g + 1 }) row.1 (goroutines_are new (made_ready t g place told) is)
+      (λ m e. idle m (sym row.2 ∙ e)) (λ m e. cc)
+
+  pub served_runners : (g : GNo) (w : Wait) (place : Place) (told : Woke) (new : Table) → status_at t g ≡ Some (status.Waiting w) → new ≡ made_ready t g place told
+      → AreRunners new machines runners
+  served_runners g w place told new waits is = other_ready_runners g (status.Waiting w) place told new waits (λ m e. cc) is
+
+  -- a communication proceeds
+  pub proceeds_runners : (old channels : List Channel) (c : Case) (how : Transfer) (new : Table) → Proceeds old (waiters t) c how channels → new ≡ served_by t c how
+      → AreRunners new machines runners
+  proceeds_runners old channels (case.Send (Some c) v) (Handed w) new proceeds is =
+      let waits = (first_waits t c Receiving w proceeds.1).0 in
+      served_runners w.g waits.wait Out _ new waits.status is
+  proceeds_runners old channels (case.Recv (Some c)) (Relayed v w) new proceeds is =
+      let waits = (first_waits t c Sending w proceeds.1).0 in
+      served_runners w.g waits.wait Out _ new waits.status is
+  proceeds_runners old channels (case.Send (Some c) v) Failed new proceeds is = same_runners new (goroutines_are new t is)
+  proceeds_runners old channels (case.Send (Some c) v) Stored new proceeds is = same_runners new (goroutines_are new t is)
+  proceeds_runners old channels (case.Recv (Some c)) (First v) new proceeds is = same_runners new (goroutines_are new t is)
+  proceeds_runners old channels (case.Recv (Some c)) Drained new proceeds is = same_runners new (goroutines_are new t is)
+  proceeds_runners old channels _ how new proceeds is = absurd proceeds
 
 -- at the opening nobody runs
 none_there : (k i : ℕ) (g : GNo) → slice_get (replicate k None) i ≡ Some (Some g) → ⊥

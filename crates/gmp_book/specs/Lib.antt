@@ -7,3 +7,4 @@ pub mod LedgerView
 pub mod Book
 pub mod Went
 pub mod Laws
+pub mod Tied
