@@ -3,25 +3,35 @@ use Rattle.std.proofs.Common.{◌≡◌, ℕ, Option, ◌+◌, ◌<◌, ◌≤�
 use Rattle.std.specs.Prelude.{IfNone}
 use Rattle.std.proofs.lemmas.Option.{slice_get_within, slice_get-get_or}
 use Rattle.std.proofs.lemmas.List.Sums.{get_or-le-sum_by}
+use Rattle.gmp_base.specs.declared.ask.Fault.TheVariants as fault
+use Rattle.gmp_base.specs.declared.cases.Case.{Case}
+use Rattle.gmp_base.specs.declared.number.CNo.{CNo}
 use Rattle.gmp_base.specs.declared.number.GNo.{GNo}
 use Rattle.gmp_base.specs.declared.number.MNo.{MNo}
+use Rattle.gmp_base.specs.declared.number.PNo.{PNo}
 use Rattle.gmp_seq.specs.declared.call.Call.{Call}
 use Rattle.gmp_seq.specs.declared.call.Entry.{Entry}
 use Rattle.gmp_seq.specs.declared.call.Outcome.{Outcome}
+use Rattle.gmp_seq.specs.declared.call.Limits.{Limits}
 use Rattle.gmp_seq.specs.declared.call.Reply.{Reply}
+use Rattle.gmp_seq.specs.declared.call.Reply.TheVariants as reply
 use Rattle.gmp_seq.specs.declared.status.Mode.TheVariants.{Awake}
 use Rattle.gmp_seq.specs.Laws.{IsInOrder}
-use Rattle.gmp_seq.specs.Machines.{IsAwake}
+use Rattle.gmp_seq.specs.Machines.{Machines, Holds, IsAwake}
 use Rattle.gmp_seq.specs.Run.{Run}
 use Rattle.gmp_seq.specs.State.{State, opening}
-use Rattle.gmp_seq.specs.Step.{Effect, outcome_after}
+use Rattle.gmp_seq.specs.Step.{Closes, Deals, Effect, Parks, outcome_after}
 use Rattle.gmp_seq.specs.Table.{IsRunning, epoch_at}
 use Rattle.gmp_seq.proofs.Counts.{legal_total}
 use Rattle.gmp_seq.proofs.InOrder.{legal_in_order}
 use Rattle.gmp_seq.proofs.Runs.{run_join}
 use Rattle.gmp_seq.proofs.Sizes.{legal_sizes}
-use Rattle.gmp_book.specs.Kept.{IsKept}
+use Rattle.gmp_book.specs.declared.ledger.Parking.{Parking}
+use Rattle.gmp_book.specs.declared.ledger.Parking.TheVariants as parks
+use Rattle.gmp_book.specs.Kept.{IsKept, IsSized}
 use Rattle.gmp_book.specs.Log.{Log}
+use Rattle.gmp_book.specs.Present.{Present, SameSizes, state_of}
+use Rattle.gmp_book.specs.Replies.{Foresees, after_park, parking}
 use Rattle.gmp_book.specs.Written.{Written, HasRoomFor}
 
 pub in_order : (log : Log) (space : ℕ) → IsKept log space → IsInOrder log.limits log.state
@@ -100,3 +110,57 @@ ongoing_room old now space None is kept lasts =
     let within = (in_order old space kept).ongoing lasts in
     let total = legal_total old.limits old.bodies old.capacities old.history old.state kept.legal in
     subst (λ (l : Log). length l.history < l.limits.entries) is (omega (arith, within, total))
+
+-- fewer waits began than there are numbers for them
+pub few_waits : (old now : Log) (space : ℕ) → old ≡ now → IsKept old space → old.state.table.arrivals < 2 ^ 63
+few_waits old now space is kept =
+    let order = in_order old space kept in
+    omega (arith, order.arrivals, order.entries, kept.within.entries.1)
+
+-- the sizes stay
+pub sized_on : (limits : Limits) (p q : Present) → IsSized limits p → SameSizes p q → IsSized limits q
+sized_on limits p q sized same = record {
+  channels = same.limit ∙ sized.channels;
+  machines = same.machines ∙ sized.machines;
+}
+
+-- a machine that is awake is one of those that the goroutines know
+pub awake_there : (old now : Log) (space : ℕ) (p : Present) (m : MNo) → old ≡ now → IsKept old space → IsSized old.limits p → IsAwake now.state.machines m → m.0 < p.machines
+awake_there old now space p m is kept sized awake =
+    let there = awake_machine old now space m is kept awake in
+    omega (arith, there, sized.machines)
+
+-- a state of these goroutines and channels with these machines, counts and outcome
+abbrev pub state_in : Present → Machines → List ℕ → Option Outcome → State
+state_in p machines counts outcome = record { table = p.table; channels = p.channels; machines = machines; counts = counts; outcome = outcome }
+
+-- what is done to goroutines and channels is done in any state that has them
+
+pub deals_in : (g : GNo) (c : Case) (answer : Reply) (p q : Present) (machines : Machines) (counts counts' : List ℕ) (outcome outcome' : Option Outcome)
+    → Deals g c answer (state_of p) (state_of q) → Deals g c answer (state_in p machines counts outcome) (state_in q machines counts' outcome')
+deals_in g c (reply.Sent to) p q machines counts counts' outcome outcome' (made, (how, proceeds, told, table, same)) = (made, (how, proceeds, told, table, refl))
+deals_in g c (reply.Got v sent from) p q machines counts counts' outcome outcome' (made, (how, proceeds, told, table, same)) = (made, (how, proceeds, told, table, refl))
+deals_in g c (reply.Fault fault.SendOnClosed) p q machines counts counts' outcome outcome' (made, (how, proceeds, told, table, same)) = (made, (how, proceeds, told, table, refl))
+deals_in g c reply.Waits p q machines counts counts' outcome outcome' (made, (none, table, channels, same)) = (made, (none, table, channels, refl))
+deals_in g c (reply.Fault fault.NoSuchChannel) p q machines counts counts' outcome outcome' (missing, (table, channels, same)) = (missing, (table, channels, refl))
+deals_in g c _ p q machines counts counts' outcome outcome' deals = absurd deals
+
+pub closes_in : (c : Option CNo) (answer : Reply) (p q : Present) (machines : Machines) (counts counts' : List ℕ) (outcome outcome' : Option Outcome)
+    → Closes c answer (state_of p) (state_of q) → Closes c answer (state_in p machines counts outcome) (state_in q machines counts' outcome')
+closes_in (Some c) (reply.Closed n) p q machines counts counts' outcome outcome' (made, opened, channels, table, count, same) = (made, opened, channels, table, count, refl)
+closes_in (Some c) (reply.Fault fault.CloseOfClosed) p q machines counts counts' outcome outcome' (made, closed, (table, channels, same)) = (made, closed, (table, channels, refl))
+closes_in (Some c) (reply.Fault fault.NoSuchChannel) p q machines counts counts' outcome outcome' (missing, (table, channels, same)) = (missing, (table, channels, refl))
+closes_in None (reply.Fault fault.CloseOfNil) p q machines counts counts' outcome outcome' (table, channels, same) = (table, channels, refl)
+closes_in _ _ p q machines counts counts' outcome outcome' closes = absurd closes
+
+-- a machine with nothing to do is answered so, and parks where that is the answer
+pub parks_by : (m : MNo) (old new : State) (answer : Parking) → Foresees old answer → new.table ≡ old.table → new.channels ≡ old.channels
+    → new.machines ≡ after_park m answer old.machines → Parks m (parking answer) old new
+parks_by m old new parks.Work h table channels machines = (h, (table, channels, machines))
+parks_by m old new parks.AllAsleep h table channels machines = (h.0, h.1, (table, channels, machines))
+parks_by m old new (parks.Mind until) h table channels machines = (h.0, h.1, h.2, (table, channels, machines))
+parks_by m old new parks.Parked h table channels machines = (h.0, h.1, h.2, table, channels, machines)
+
+-- a machine that holds a processor is awake
+pub holder_awake : (old now : Log) (space : ℕ) (m : MNo) (p : PNo) → old ≡ now → IsKept old space → Holds now.state.machines m p → IsAwake now.state.machines m
+holder_awake old now space m p is kept holds = (in_order now space (subst (λ (l : Log). IsKept l space) is kept)).holder m p holds

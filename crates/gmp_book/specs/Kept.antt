@@ -7,6 +7,8 @@ use Rattle.gmp_seq.specs.Fits.{AreLimits}
 use Rattle.gmp_seq.specs.Run.{IsLegal}
 use Rattle.gmp_seq.specs.Table.{Table, IsRunning}
 use Rattle.gmp_book.specs.Log.{Log}
+use Rattle.gmp_book.specs.Present.{Present}
+use Rattle.gmp_seq.specs.declared.call.Limits.{Limits}
 
 -- the number of each processor and machine fits its type
 pub record IsSmall (holders : List (Option MNo)) (modes : List Mode) : Type 0 where
@@ -18,6 +20,11 @@ pub record IsKept (log : Log) (space : ℕ) : Type 0 where
   pub legal : IsLegal log.limits log.bodies log.capacities log.history log.state
   pub within : AreLimits log.limits log.bodies log.capacities
   pub room : log.limits.entries ≤ space
+
+-- there may be as many channels, and there are as many machines, as the limits say
+pub record IsSized (limits : Limits) (present : Present) : Type 0 where
+  pub channels : present.limit ≡ limits.channels
+  pub machines : present.machines ≡ limits.machines
 
 -- the list has the goroutine that each machine runs, if it runs one
 pub record AreRunners (t : Table) (machines : ℕ) (runners : List (Option GNo)) : Type 0 where

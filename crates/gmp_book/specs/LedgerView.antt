@@ -1,6 +1,4 @@
 -- The run that a ledger's parts make.
-use Rattle.std.specs.Prelude.{map}
-use Rattle.gmp_seq.specs.Channels.{new_channel}
 use Rattle.gmp_book.specs.declared.ledger.Ledger.TheInside.{Inside}
 use Rattle.gmp_book.specs.Log.{Log}
 
@@ -12,8 +10,8 @@ log_of l = record {
   capacities = l.capacities.items;
   history = l.journal.entries;
   state = record {
-    table = l.table.table;
-    channels = map new_channel l.capacities.items;
+    table = l.goroutines.table;
+    channels = l.goroutines.channels;
     machines = l.machines;
     counts = l.journal.counts;
     outcome = l.outcome;

@@ -8,3 +8,4 @@ pub mod Book
 pub mod Went
 pub mod Laws
 pub mod Tied
+pub mod Present

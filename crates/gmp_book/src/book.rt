@@ -277,13 +277,12 @@ impl<T, Q> Book<T, Q> {
         self.ledger.try_poke(pass)
     }
 
-    /// Lets the clock show this moment, in nanoseconds, unless it showed a later one. The answer counts those whom that wakes:
-    /// nobody waits yet, so it is 0.
+    /// Lets the clock show this moment, in nanoseconds, unless it showed a later one. All whose deadline is due go onto the shelf, by
+    /// their deadlines, and then by the beginnings of their waits. The answer counts them.
     pub fn tick(&mut self, pass: &mut Pass, now: u64) -> Result<u64, Refusal>
         ensures refused { refusal_in result ≡ refusal_of self.old.log pass.old (Call.Tick now) [] }
         ensures err { OnErr result ((self.new ≡ self.old) × (pass.new ≡ pass.old)) }
         ensures entry { IfOk result (λ n. Records self.old.log pass.old (Call.Tick now) (Reply.Woke n) self.new.log pass.new) }
-        ensures nobody { IfOk result (λ n. (n ≡ 0) × (self.new.log.state.table.goroutines ≡ self.old.log.state.table.goroutines)) }
         ensures values { OnOk result (SameValues self.old self.new) }
     {
         self.ledger.try_tick(pass, now)

@@ -44,7 +44,7 @@ impl Model for Goroutines {
 /// Starts a body, where there is one that is dormant.
 fn start(table: &mut StatusTable, body: GNo) -> Result<Readiness, Fault>
     requires { epoch_at table.old.table body < 2 ^ 63 }
-    ensures starts { Starts body (started result) table.old.table table.new.table }
+    ensures { Starts body (started result) table.old.table table.new.table }
 {
     match table.get(body) {
         None => Err(Fault::NoSuchBody),

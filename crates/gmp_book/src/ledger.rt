@@ -1,27 +1,29 @@
 //! The run so far, and the calls that go on with it.
-ghost use Rattle.std.specs.Prelude.{◌≡◌, ◌↔◌, ◌+◌, ◌<◌, ◌^◌, ◌≢◌, None, Some, [], ◌∷◌, ◌++◌, length, slice_index, slice_set, IfOk, IfNone, IfSome, is_none, position};
+ghost use Rattle.std.specs.Prelude.{◌≡◌, ◌↔◌, ◌+◌, ◌<◌, ◌^◌, ◌≢◌, false, None, Some, [], ◌∷◌, ◌++◌, length, slice_index, slice_set, IfOk, IfNone, IfSome, is_none, position};
 ghost use Rattle.gmp_base.specs.declared.number.GNo.{GNo};
 ghost use Rattle.gmp_seq.specs.Fits.{AreLimits};
-ghost use Rattle.gmp_seq.specs.Machines.{is_parked};
+ghost use Rattle.gmp_seq.specs.Machines.{Holds, is_parked, spins};
 ghost use Rattle.gmp_seq.specs.Needs.{Needs};
 ghost use Rattle.gmp_seq.specs.Run.{IsLegal};
 ghost use Rattle.gmp_seq.specs.declared.status.Place.TheVariants.{Shelf, Out};
-ghost use Rattle.gmp_seq.specs.Step.{Starts, outcome_after};
-ghost use Rattle.gmp_seq.specs.Table.{IsReady, IsRunning, epoch_at, is_outstanding, next_of, set_status, made_ready};
+ghost use Rattle.gmp_seq.specs.declared.status.Status.{Status};
+ghost use Rattle.gmp_seq.specs.Step.{outcome_after};
+ghost use Rattle.gmp_seq.specs.Table.{IsReady, IsRunning, RunsNothing, is_outstanding, next_of, set_status, made_ready};
 ghost use Rattle.gmp_book.specs.Written.{HasRoomFor};
 ghost use Rattle.gmp_book.specs.Log.{Enters, opening_log};
-ghost use Rattle.gmp_book.specs.Replies.{acquired, taken, started, left, poked};
+ghost use Rattle.gmp_book.specs.Replies.{Foresees};
+ghost use Rattle.gmp_book.specs.Replies.{acquired, taken, started, left, poked, parking};
 
+mod communicating;
 mod passing;
 mod refusing;
 
+use crate::goroutines::Goroutines;
 use crate::journal::Journal;
 use crate::machines::Machines;
 use crate::replies;
-use crate::runners::Runners;
 use gmp_base::{Fault, GNo, MNo, PNo, Readiness, Woke};
-use gmp_seq::{Call, Entry, Limits, Outcome, Reply, Status};
-use gmp_table::StatusTable;
+use gmp_seq::{Call, Entry, Limits, Outcome, Reply};
 use std::alloc::{AllocError, Global};
 use std::marker::Model;
 
@@ -55,9 +57,8 @@ pub(crate) struct Ledger {
     limits: Limits,
     bodies: u16,
     capacities: Vec<u32>,
-    table: StatusTable,
+    goroutines: Goroutines,
     machines: Machines,
-    runners: Runners,
     journal: Journal,
     outcome: Option<Outcome>,
 }
@@ -65,7 +66,7 @@ pub(crate) struct Ledger {
 impl Model for Ledger {
     ghost use Rattle.gmp_book.specs.Written.{HasRoomFor};
     ghost use Rattle.gmp_book.specs.Log.{Log};
-    ghost use Rattle.gmp_book.specs.Kept.{IsKept, AreRunners};
+    ghost use Rattle.gmp_book.specs.Kept.{IsKept, IsSized};
 
     ghost Value = { Log };
 
@@ -73,7 +74,7 @@ impl Model for Ledger {
 
     ghost view = { log_of };
 
-    ghost invariant = { λ l. IsKept (log_of l) l.journal.room × AreRunners l.table.table l.limits.machines l.runners };
+    ghost invariant = { λ l. IsKept (log_of l) l.journal.room × IsSized l.limits l.goroutines };
 }
 
 /// Makes the entry of a call that was answered so, and ends the run where the reply or the last entry does.
@@ -101,18 +102,17 @@ fn enter(
     };
 }
 
-/// Starts a body, where there is one that is dormant.
-fn start(table: &mut StatusTable, body: GNo) -> Result<Readiness, Fault>
-    requires { epoch_at table.old.table body < 2 ^ 63 }
-    ensures { Starts body (started result) table.old.table table.new.table }
-{
-    match table.get(body) {
-        None => Err(Fault::NoSuchBody),
-        Some(row) => match row.status {
-            Status::Dormant => Ok(table.start(body)),
-            _ => Err(Fault::AlreadyStarted),
-        },
-    }
+/// What a machine is answered that has nothing to do.
+#[derive(Clone, Copy, Debug, PartialEq, Eq)]
+pub enum Parking {
+    /// It is parked, until it is woken.
+    Parked,
+    /// There is a goroutine on the shelf and an idle processor.
+    Work,
+    /// The least deadline, in nanoseconds: nobody else can run before it.
+    Mind(u64),
+    /// Nobody can ever go on, and the run is over.
+    AllAsleep,
 }
 
 impl Ledger {
@@ -127,18 +127,17 @@ impl Ledger {
         requires { AreLimits limits bodies capacities.items }
         ensures { IfOk result (λ l. l ≡ opening_log run limits bodies capacities.items) }
     {
-        let table = StatusTable::open(alloc, bodies)?;
+        let goroutines =
+            Goroutines::open(alloc, limits.machines, limits.channels, bodies, &capacities)?;
         let machines = Machines::awake(alloc, limits.procs, limits.machines)?;
-        let runners = Runners::none(alloc, limits.machines)?;
         let journal = Journal::with_room(alloc, limits.machines, limits.entries)?;
         Ok(Ledger {
             run,
             limits,
             bodies,
             capacities,
-            table,
+            goroutines,
             machines,
-            runners,
             journal,
             outcome: None,
         })
@@ -173,7 +172,7 @@ impl Ledger {
     pub(crate) fn is_outstanding(&self, r: Readiness) -> bool
         ensures { result ≡ is_outstanding self.now.state.table r }
     {
-        self.table.is_outstanding(r)
+        self.goroutines.is_outstanding(r)
     }
 
     /// m, which holds no processor, holds the least idle one.
@@ -201,7 +200,7 @@ impl Ledger {
         requires needs { Needs m Call.Take self.old.state }
         ensures { Enters self.old m Call.Take (taken result) self.new }
     {
-        let r = self.table.unshelve();
+        let r = self.goroutines.take();
         enter(
             &mut self.journal,
             &mut self.outcome,
@@ -219,7 +218,7 @@ impl Ledger {
         requires needs { Needs m (Call.Put r) self.old.state }
         ensures { Enters self.old m (Call.Put r) Reply.Shelf self.new }
     {
-        self.table.shelve(r);
+        self.goroutines.put(r);
         enter(
             &mut self.journal,
             &mut self.outcome,
@@ -237,8 +236,7 @@ impl Ledger {
         ensures records { Enters self.old m (Call.Claim r) Reply.Held self.new }
         ensures woke { IsReady self.old.state.table r Out result }
     {
-        let woke = self.table.claim(m, r);
-        self.runners.set(m, Some(r.g));
+        let woke = self.goroutines.claim(m, r);
         enter(
             &mut self.journal,
             &mut self.outcome,
@@ -256,7 +254,7 @@ impl Ledger {
         requires needs { Needs m (Call.Go body) self.old.state }
         ensures { Enters self.old m (Call.Go body) (started result) self.new }
     {
-        let started = start(&mut self.table, body);
+        let started = self.goroutines.go(body);
         enter(
             &mut self.journal,
             &mut self.outcome,
@@ -276,8 +274,7 @@ impl Ledger {
         ensures records { Enters self.old m Call.Yield (Reply.Shelved result) self.new }
         ensures table { self.new.state.table ≡ made_ready self.old.state.table g Shelf Woke.Done }
     {
-        let r = self.table.requeue(g, Woke::Done);
-        self.runners.set(m, None);
+        let r = self.goroutines.yield_to(m, g);
         enter(
             &mut self.journal,
             &mut self.outcome,
@@ -298,8 +295,7 @@ impl Ledger {
         ensures ends { g.0 ≡ 0 → self.new.state.outcome ≡ Some Outcome.MainEnded }
         ensures table { self.new.state.table ≡ set_status self.old.state.table g Status.Dead }
     {
-        self.table.dead(g);
-        self.runners.set(m, None);
+        self.goroutines.exit(m, g);
         let exited = Exited::of(g);
         enter(
             &mut self.journal,
@@ -331,25 +327,77 @@ impl Ledger {
         woken
     }
 
-    /// Lets the clock show this moment, in nanoseconds, unless it showed a later one.
-    /// It counts those that it wakes, and nobody waits yet.
+    /// m, which runs nothing, gives up p, which it holds.
+    pub(crate) fn declare(&mut self, m: MNo, p: PNo)
+        requires ongoing { self.old.state.outcome ≡ None }
+        requires free { RunsNothing self.old.state.table m }
+        requires calm { spins self.old.state.machines m ≡ false }
+        requires holds { Holds self.old.state.machines m p }
+        ensures { Enters self.old m Call.Declare (Reply.Idle p) self.new }
+    {
+        self.machines.release(m, p);
+        enter(
+            &mut self.journal,
+            &mut self.outcome,
+            self.limits,
+            m,
+            Call::Declare,
+            Reply::Idle(p),
+        );
+    }
+
+    /// What m, which has nothing to do, is answered now.
+    fn prospect(&self) -> Parking
+        ensures { Foresees self.now.state result }
+    {
+        if self.goroutines.has_shelved() && self.machines.has_idle() {
+            return Parking::Work;
+        }
+        if !self.goroutines.has_astir() {
+            return Parking::AllAsleep;
+        }
+        match self.goroutines.minded() {
+            Some(until) => Parking::Mind(until),
+            None => Parking::Parked,
+        }
+    }
+
+    /// m has nothing to do: it parks, unless there is work, or a deadline to mind, or all are asleep.
+    pub(crate) fn park(&mut self, m: MNo) -> Parking
+        requires ongoing { self.old.state.outcome ≡ None }
+        requires needs { Needs m Call.Park self.old.state }
+        ensures { Enters self.old m Call.Park (parking result) self.new }
+    {
+        let answer = self.prospect();
+        self.machines.rest(m, answer);
+        enter(
+            &mut self.journal,
+            &mut self.outcome,
+            self.limits,
+            m,
+            Call::Park,
+            replies::parking(answer),
+        );
+        answer
+    }
+
+    /// Lets the clock show this moment, in nanoseconds, unless it showed a later one, and wakes all whose deadline is due.
+    /// It counts them.
     pub(crate) fn tick(&mut self, m: MNo, moment: u64) -> u64
         requires ongoing { self.old.state.outcome ≡ None }
         requires needs { Needs m (Call.Tick moment) self.old.state }
-        ensures records { Enters self.old m (Call.Tick moment) (Reply.Woke result) self.new }
-        ensures same { self.new.state.table.goroutines ≡ self.old.state.table.goroutines }
-        ensures none { result ≡ 0 }
+        ensures { Enters self.old m (Call.Tick moment) (Reply.Woke result) self.new }
     {
-        self.table.tick(moment);
+        let count = self.goroutines.tick(moment);
         enter(
             &mut self.journal,
             &mut self.outcome,
             self.limits,
             m,
             Call::Tick(moment),
-            Reply::Woke(0),
+            Reply::Woke(count),
         );
-        0
+        count
     }
 
     /// What the run was opened with, and its history in the room that it has.
@@ -365,9 +413,8 @@ impl Ledger {
             limits,
             bodies: _,
             capacities,
-            table: _,
+            goroutines: _,
             machines: _,
-            runners: _,
             journal,
             outcome: _,
         } = self;

@@ -11,6 +11,7 @@
 #![tactic(auto)]
 
 mod book;
+mod goroutines;
 mod handed;
 mod journal;
 pub mod laws;

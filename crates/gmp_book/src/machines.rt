@@ -3,10 +3,12 @@ ghost use Rattle.std.specs.Prelude.{◌≡◌, false, None, Some, replicate, is_
 ghost use Rattle.std.specs.Option.{option_map_or};
 ghost use Rattle.std.specs.List.{list_any};
 ghost use Rattle.gmp_seq.specs.declared.status.Mode.{Mode};
-ghost use Rattle.gmp_seq.specs.Machines.{Acquires, Pokes, IsAwake, has_processor, is_held_by, is_parked, spins, wants_poke};
+ghost use Rattle.gmp_seq.specs.Machines.{Acquires, Declares, Holds, Pokes, IsAwake, has_processor, is_held_by, is_parked, some_idle, spins, wants_poke};
+ghost use Rattle.gmp_seq.specs.declared.call.Reply.{Reply};
 ghost use Rattle.gmp_book.specs.Refusals.{is_awake_mode, is_calling_mode};
-ghost use Rattle.gmp_book.specs.Replies.{acquired, poked};
+ghost use Rattle.gmp_book.specs.Replies.{acquired, after_park, poked};
 
+use crate::ledger::Parking;
 use gmp_base::{MNo, PNo};
 use gmp_seq::Mode;
 use std::alloc::{AllocError, Global};
@@ -134,6 +136,32 @@ impl Machines {
         };
         self.holders[i] = Some(m);
         Some(PNo(i as u8))
+    }
+
+    /// m gives up p, which it holds.
+    pub(crate) fn release(&mut self, m: MNo, p: PNo)
+        requires calm { spins self.old m ≡ false }
+        requires holds { Holds self.old m p }
+        ensures { Declares m (Reply.Idle p) self.old self.new }
+    {
+        self.holders[p.0 as usize] = None;
+    }
+
+    /// Whether a processor is idle.
+    pub(crate) fn has_idle(&self) -> bool
+        ensures { result ≡ some_idle self.now }
+    {
+        has_idle(&self.holders)
+    }
+
+    /// m, which is awake and has nothing to do, parks where it is answered so.
+    pub(crate) fn rest(&mut self, m: MNo, answer: Parking)
+        requires { IsAwake self.old m }
+        ensures { self.new ≡ after_park m answer self.old }
+    {
+        if answer == Parking::Parked {
+            self.modes[m.0 as usize] = Mode::Parked;
+        }
     }
 
     /// Whether a parked machine is to be woken: nobody spins, a processor is idle, and some machine is parked.

@@ -2,7 +2,7 @@
 ghost use Rattle.std.specs.Prelude.{◌≡◌};
 ghost use Rattle.gmp_book.specs.Replies as replies;
 
-use crate::ledger::Exited;
+use crate::ledger::{Exited, Parking};
 use gmp_base::{Fault, MNo, PNo, Readiness};
 use gmp_seq::Reply;
 
@@ -48,5 +48,16 @@ pub(crate) fn poked(m: Option<MNo>) -> Reply
     match m {
         Some(m) => Reply::Wakes(m),
         None => Reply::Nothing,
+    }
+}
+
+pub(crate) fn parking(answer: Parking) -> Reply
+    ensures { result ≡ replies.parking answer }
+{
+    match answer {
+        Parking::Parked => Reply::Parked,
+        Parking::Work => Reply::Work,
+        Parking::Mind(until) => Reply::Mind(until),
+        Parking::AllAsleep => Reply::AllAsleep,
     }
 }

@@ -197,7 +197,8 @@ impl Rows {
 
     /// Who is woken next, and what it is told.
     pub(crate) fn next_to_wake(&self, wake: Wake) -> Option<Candidate>
-        ensures { IsFirst wake self.now (length self.now) result }
+        ensures first { IsFirst wake self.now (length self.now) result }
+        ensures few { length self.now < 2 ^ 16 }
     {
         let mut best = None;
         for i in 0..self.bodies {

@@ -147,7 +147,9 @@ impl StatusTable {
 
     /// Who is woken next, and what it is told: found by a look at all goroutines.
     pub fn next_to_wake(&self, wake: Wake) -> Option<Candidate>
-        ensures { IsFirst wake self.now.table.goroutines (length self.now.table.goroutines) result }
+        ensures first { IsFirst wake self.now.table.goroutines (length self.now.table.goroutines) result }
+        // So few can be woken.
+        ensures few { length self.now.table.goroutines < 2 ^ 16 }
     {
         self.rows.next_to_wake(wake)
     }

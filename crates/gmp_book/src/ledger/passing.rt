@@ -156,8 +156,6 @@ impl Ledger {
         ensures refused { refusal_in result ≡ refusal_of self.old pass.old (Call.Tick moment) [] }
         ensures err { OnErr result ((self.new ≡ self.old) × (pass.new ≡ pass.old)) }
         ensures records { IfOk result (λ n. Records self.old pass.old (Call.Tick moment) (Reply.Woke n) self.new pass.new) }
-        ensures none { IfOk result (λ n. n ≡ 0) }
-        ensures same { OnOk result (self.new.state.table.goroutines ≡ self.old.state.table.goroutines) }
     {
         if let Some(why) = self.refusal(pass, &Call::Tick(moment), &[]) {
             return Err(why);

@@ -128,7 +128,7 @@ impl Ledger {
         ensures { result ≡ is_spent self.now.state value }
     {
         match value {
-            Handed::Ticket(_, r) => !self.table.is_outstanding(r),
+            Handed::Ticket(_, r) => !self.goroutines.is_outstanding(r),
             _ => false,
         }
     }
@@ -149,21 +149,21 @@ impl Ledger {
     fn runs_some(&self, m: MNo) -> bool
         ensures { result ≡ runs_some self.now.state m }
     {
-        self.runners.runs(m)
+        self.goroutines.runs_some(m)
     }
 
     /// Whether m runs g.
     fn runs(&self, m: MNo, g: GNo) -> bool
         ensures { result ≡ option_map_or (is_running_on m) (status_at self.now.state.table g) false }
     {
-        self.table.runs(m, g)
+        self.goroutines.runs(m, g)
     }
 
     /// Whether m makes the blocking call of g.
     fn calls_for(&self, m: MNo, g: GNo) -> bool
         ensures { result ≡ option_map_or (is_calling_on m) (status_at self.now.state.table g) false }
     {
-        match self.table.get(g) {
+        match self.goroutines.get(g) {
             Some(row) => match &row.status {
                 Status::Calling(n) => m.0 == n.0,
                 _ => false,

@@ -1,11 +1,11 @@
-use Rattle.gmp_book.proofs.Running.{puts_runners}
-use Rattle.std.proofs.Common.{refl, subst, sym}
+use Rattle.gmp_book.proofs.Entered.{has_room, kept_on, sized_on}
+use Rattle.gmp_book.proofs.Granted.{out_test}
+use Rattle.gmp_book.specs.LedgerView.{log_of}
 use Rattle.gmp_book.specs.Log.{Log}
 use Rattle.gmp_seq.specs.Needs.{Needs}
-use Rattle.gmp_seq.specs.declared.call.Reply.TheVariants as reply
 use Rattle.gmp_seq.specs.declared.call.Call.TheVariants as call
-use Rattle.gmp_book.specs.LedgerView.{log_of}
-use Rattle.gmp_book.proofs.Entered.{has_room, kept_on}
+use Rattle.gmp_seq.specs.declared.call.Reply.TheVariants as reply
+use Rattle.std.proofs.Common.{refl, subst, sym}
 use Rattle.gmp_book.proofs.ledger.Ledger.put.Goals as goal
 
 pub enter-requires : goal.enter-requires
@@ -16,9 +16,10 @@ enter-requires c =
 pub invariant_of-self : goal.invariant_of-self
 invariant_of-self c =
     let i = c.self.inside in
-    let needs = subst (λ (l : Log). Needs c.args.m (call.Put c.args.r) l.state) (sym c.self.view_is) c.requires.needs in (
-      kept_on (log_of i) c.args.self.now i.journal.room c.enter.new.journal.room c.args.m (call.Put c.args.r) reply.Shelf c.enter.new.journal.entries
-          (record (log_of i).state { table = c.shelve.new.self.table; counts = c.enter.new.journal.counts; outcome = c.enter.new.outcome }) c.self.view_is c.self.invariant.0 c.requires.ongoing c.requires.needs.0
-          (needs.0, (c.shelve.ensures.puts, refl, refl)) c.enter.ensures.entries c.enter.ensures.counts c.enter.ensures.outcome c.enter.ensures.room,
-      puts_runners i.table.table i.limits.machines i.runners c.self.invariant.1 c.args.r c.shelve.new.self.table c.shelve.ensures.puts,
+    let needs = subst (λ (l : Log). Needs c.args.m (call.Put c.args.r) l.state) (sym c.self.view_is) c.requires.needs in
+    (
+      kept_on (log_of i) c.args.self.now i.journal.room c.enter.new.journal.room c.args.m (call.Put c.args.r) (reply.Shelf) c.enter.new.journal.entries
+          (record (log_of i).state { table = c.put.new.self.table; channels = c.put.new.self.channels; counts = c.enter.new.journal.counts; outcome = c.enter.new.outcome }) c.self.view_is c.self.invariant.0 c.requires.ongoing c.requires.needs.0
+          (needs.0, (c.put.ensures.puts, c.put.ensures.only.channels, refl)) c.enter.ensures.entries c.enter.ensures.counts c.enter.ensures.outcome c.enter.ensures.room,
+      sized_on i.limits i.goroutines c.put.new.self c.self.invariant.1 c.put.ensures.only.sizes,
     )

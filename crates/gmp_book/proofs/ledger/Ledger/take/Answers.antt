@@ -1,11 +1,9 @@
-use Rattle.gmp_book.proofs.Running.{takes_runners}
-use Rattle.gmp_book.proofs.Answered.{takes_of}
-use Rattle.std.proofs.Common.{refl, subst, sym}
+use Rattle.gmp_book.proofs.Entered.{has_room, kept_on, sized_on}
+use Rattle.gmp_book.specs.LedgerView.{log_of}
 use Rattle.gmp_book.specs.Log.{Log}
 use Rattle.gmp_seq.specs.Needs.{Needs}
 use Rattle.gmp_seq.specs.declared.call.Call.TheVariants as call
-use Rattle.gmp_book.specs.LedgerView.{log_of}
-use Rattle.gmp_book.proofs.Entered.{has_room, kept_on}
+use Rattle.std.proofs.Common.{refl, subst, sym}
 use Rattle.gmp_book.proofs.ledger.Ledger.take.Goals as goal
 
 pub enter-requires : goal.enter-requires
@@ -16,9 +14,10 @@ enter-requires c =
 pub invariant_of-self : goal.invariant_of-self
 invariant_of-self c =
     let i = c.self.inside in
-    let needs = subst (λ (l : Log). Needs c.args.m call.Take l.state) (sym c.self.view_is) c.requires.needs in (
-      kept_on (log_of i) c.args.self.now i.journal.room c.enter.new.journal.room c.args.m call.Take c.taken.result c.enter.new.journal.entries
-          (record (log_of i).state { table = c.unshelve-r.new.self.table; counts = c.enter.new.journal.counts; outcome = c.enter.new.outcome }) c.self.view_is c.self.invariant.0 c.requires.ongoing c.requires.needs
-          (needs, (rw c.taken.ensures (takes_of c.unshelve-r.result i.table.table c.unshelve-r.new.self.table c.unshelve-r.ensures.none c.unshelve-r.ensures.taken), refl, refl)) c.enter.ensures.entries c.enter.ensures.counts c.enter.ensures.outcome c.enter.ensures.room,
-      takes_runners i.table.table i.limits.machines i.runners c.self.invariant.1 c.taken.result c.unshelve-r.new.self.table (rw c.taken.ensures (takes_of c.unshelve-r.result i.table.table c.unshelve-r.new.self.table c.unshelve-r.ensures.none c.unshelve-r.ensures.taken)),
+    let needs = subst (λ (l : Log). Needs c.args.m (call.Take) l.state) (sym c.self.view_is) c.requires.needs in
+    (
+      kept_on (log_of i) c.args.self.now i.journal.room c.enter.new.journal.room c.args.m (call.Take) (c.taken.result) c.enter.new.journal.entries
+          (record (log_of i).state { table = c.take-r.new.self.table; channels = c.take-r.new.self.channels; counts = c.enter.new.journal.counts; outcome = c.enter.new.outcome }) c.self.view_is c.self.invariant.0 c.requires.ongoing c.requires.needs
+          (needs, (rw c.taken.ensures c.take-r.ensures.takes, c.take-r.ensures.only.channels, refl)) c.enter.ensures.entries c.enter.ensures.counts c.enter.ensures.outcome c.enter.ensures.room,
+      sized_on i.limits i.goroutines c.take-r.new.self c.self.invariant.1 c.take-r.ensures.only.sizes,
     )

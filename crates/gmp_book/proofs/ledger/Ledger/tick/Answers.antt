@@ -1,12 +1,16 @@
-use Rattle.gmp_book.proofs.Running.{same_runners}
-use Rattle.std.proofs.Common.{refl, subst, sym}
+use Rattle.gmp_book.proofs.Entered.{has_room, kept_on, sized_on, young}
+use Rattle.gmp_book.specs.LedgerView.{log_of}
 use Rattle.gmp_book.specs.Log.{Log}
 use Rattle.gmp_seq.specs.Needs.{Needs}
-use Rattle.gmp_seq.specs.declared.call.Reply.TheVariants as reply
 use Rattle.gmp_seq.specs.declared.call.Call.TheVariants as call
-use Rattle.gmp_book.specs.LedgerView.{log_of}
-use Rattle.gmp_book.proofs.Entered.{has_room, kept_on}
+use Rattle.gmp_seq.specs.declared.call.Reply.TheVariants as reply
+use Rattle.std.proofs.Common.{refl, subst, sym}
 use Rattle.gmp_book.proofs.ledger.Ledger.tick.Goals as goal
+
+pub tick-count-requires : goal.tick-count-requires
+tick-count-requires c =
+    let i = c.self.inside in
+    record { young = λ h. young (log_of i) c.args.self.now i.journal.room h c.self.view_is c.self.invariant.0 }
 
 pub enter-requires : goal.enter-requires
 enter-requires c =
@@ -16,9 +20,10 @@ enter-requires c =
 pub invariant_of-self : goal.invariant_of-self
 invariant_of-self c =
     let i = c.self.inside in
-    let needs = subst (λ (l : Log). Needs c.args.m (call.Tick c.args.moment) l.state) (sym c.self.view_is) c.requires.needs in (
-      kept_on (log_of i) c.args.self.now i.journal.room c.enter.new.journal.room c.args.m (call.Tick c.args.moment) (reply.Woke 0) c.enter.new.journal.entries
-          (record (log_of i).state { table = c.tick.new.self.table; counts = c.enter.new.journal.counts; outcome = c.enter.new.outcome }) c.self.view_is c.self.invariant.0 c.requires.ongoing c.requires.needs
-          (needs, (c.tick.ensures.ticks, refl, refl)) c.enter.ensures.entries c.enter.ensures.counts c.enter.ensures.outcome c.enter.ensures.room,
-      same_runners i.table.table i.limits.machines i.runners c.self.invariant.1 c.tick.new.self.table c.tick.ensures.same,
+    let needs = subst (λ (l : Log). Needs c.args.m (call.Tick c.args.moment) l.state) (sym c.self.view_is) c.requires.needs in
+    (
+      kept_on (log_of i) c.args.self.now i.journal.room c.enter.new.journal.room c.args.m (call.Tick c.args.moment) (reply.Woke c.tick-count.result) c.enter.new.journal.entries
+          (record (log_of i).state { table = c.tick-count.new.self.table; channels = c.tick-count.new.self.channels; counts = c.enter.new.journal.counts; outcome = c.enter.new.outcome }) c.self.view_is c.self.invariant.0 c.requires.ongoing c.requires.needs
+          (needs, (c.tick-count.ensures.ticks, c.tick-count.ensures.only.channels, refl)) c.enter.ensures.entries c.enter.ensures.counts c.enter.ensures.outcome c.enter.ensures.room,
+      sized_on i.limits i.goroutines c.tick-count.new.self c.self.invariant.1 c.tick-count.ensures.only.sizes,
     )

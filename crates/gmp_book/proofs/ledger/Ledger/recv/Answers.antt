@@ -1,0 +1,39 @@
+use Rattle.gmp_base.specs.declared.cases.Case.TheVariants as case
+use Rattle.gmp_book.proofs.Entered.{awake_there, deals_in, few_waits, has_room, kept_on, runner_wakes, sized_on, young}
+use Rattle.gmp_book.specs.LedgerView.{log_of}
+use Rattle.gmp_book.specs.Log.{Log}
+use Rattle.gmp_seq.specs.Table.{IsRunning}
+use Rattle.gmp_seq.specs.declared.call.Call.TheVariants as call
+use Rattle.std.proofs.Common.{refl, subst, sym}
+use Rattle.gmp_book.proofs.ledger.Ledger.recv.Goals as goal
+
+pub recv-reply-requires-clause-young : goal.recv-reply-requires-clause-young
+recv-reply-requires-clause-young c =
+    let i = c.self.inside in
+    λ h. young (log_of i) c.args.self.now i.journal.room h c.self.view_is c.self.invariant.0
+
+pub recv-reply-requires-clause-few : goal.recv-reply-requires-clause-few
+recv-reply-requires-clause-few c =
+    let i = c.self.inside in
+    few_waits (log_of i) c.args.self.now i.journal.room c.self.view_is c.self.invariant.0
+
+pub recv-reply-requires-clause-there : goal.recv-reply-requires-clause-there
+recv-reply-requires-clause-there c =
+    let i = c.self.inside in
+    awake_there (log_of i) c.args.self.now i.journal.room i.goroutines c.args.m c.self.view_is c.self.invariant.0 c.self.invariant.1 (runner_wakes (log_of i) c.args.self.now i.journal.room c.args.m c.args.g c.self.view_is c.self.invariant.0 c.requires.runs)
+
+pub enter-requires : goal.enter-requires
+enter-requires c =
+    let i = c.self.inside in
+    has_room (log_of i) c.args.self.now i.journal c.args.m c.self.view_is c.self.invariant.0 refl refl c.requires.ongoing (runner_wakes (log_of i) c.args.self.now i.journal.room c.args.m c.args.g c.self.view_is c.self.invariant.0 c.requires.runs)
+
+pub invariant_of-self : goal.invariant_of-self
+invariant_of-self c =
+    let i = c.self.inside in
+    let runs = subst (λ (l : Log). IsRunning l.state.table c.args.g c.args.m) (sym c.self.view_is) c.requires.runs in
+    (
+      kept_on (log_of i) c.args.self.now i.journal.room c.enter.new.journal.room c.args.m (call.Recv c.args.c) (c.recv-reply.result) c.enter.new.journal.entries
+          (record (log_of i).state { table = c.recv-reply.new.self.table; channels = c.recv-reply.new.self.channels; counts = c.enter.new.journal.counts; outcome = c.enter.new.outcome }) c.self.view_is c.self.invariant.0 c.requires.ongoing (runner_wakes (log_of i) c.args.self.now i.journal.room c.args.m c.args.g c.self.view_is c.self.invariant.0 c.requires.runs)
+          (c.args.g, runs, deals_in c.args.g (case.Recv c.args.c) c.recv-reply.result i.goroutines c.recv-reply.new.self i.machines _ _ _ _ c.recv-reply.ensures.deals) c.enter.ensures.entries c.enter.ensures.counts c.enter.ensures.outcome c.enter.ensures.room,
+      sized_on i.limits i.goroutines c.recv-reply.new.self c.self.invariant.1 c.recv-reply.ensures.sizes,
+    )
