@@ -13,7 +13,8 @@ set_map f [] i x = refl
 set_map f (y ∷ ys) zero x = refl
 set_map f (y ∷ ys) (suc i) x = ap (λ (zs : List _). f y ∷ zs) (set_map f ys i x)
 
-set_same : {A B : Type 0} (f : A → B) (xs : List A) (i : ℕ) (x y : A) → slice_get xs i ≡ Some x → f x ≡ f y → map f (set xs i y) ≡ map f xs
+-- a row changes, and keeps its test
+pub set_same : {A B : Type 0} (f : A → B) (xs : List A) (i : ℕ) (x y : A) → slice_get xs i ≡ Some x → f x ≡ f y → map f (set xs i y) ≡ map f xs
 set_same f [] i x y at same = refl
 set_same {B = B} f (z ∷ zs) zero x y at same =
     let e : z ≡ x = cc in

@@ -10,3 +10,4 @@ pub mod Placed
 pub mod Granted
 pub mod Arrivals
 pub mod Ties
+pub mod Talking
