@@ -1,7 +1,7 @@
 -- Bodies and owners in their places, by calls on channels and by the sleep of machines.
-use Rattle.std.proofs.Common.{◌≡◌, ℕ, Bool, true, false, Option, None, Some, List, [], ◌∷◌, map, max, set, length-set, is_some, not, refl, sym, ap, ◌∙◌}
+use Rattle.std.proofs.Common.{◌≡◌, ℕ, Bool, true, false, Option, None, Some, List, [], ◌∷◌, map, max, set, length-set, is_some, not, refl, sym, ap, ◌∙◌, subst, if◌then◌else◌, Result, Ok, Err}
 use Rattle.std.proofs.lemmas.Bool.{false≢true}
-use Rattle.std.specs.Prelude.{is_none}
+use Rattle.std.specs.Prelude.{is_none, IfOk, OnErr}
 use Rattle.gmp_base.specs.declared.ask.Fault.TheVariants as fault
 use Rattle.gmp_base.specs.declared.ask.Woke.{Woke}
 use Rattle.gmp_base.specs.declared.cases.Case.{Case}
@@ -11,6 +11,8 @@ use Rattle.gmp_base.specs.declared.number.GNo.{GNo}
 use Rattle.gmp_base.specs.declared.number.MNo.{MNo}
 use Rattle.gmp_base.specs.declared.number.PNo.{PNo}
 use Rattle.gmp_base.specs.declared.pass.Pass.{Pass}
+use Rattle.gmp_base.specs.declared.refusal.Refusal.{Refusal}
+use Rattle.gmp_base.specs.declared.value.Held.{Held}
 use Rattle.gmp_seq.specs.declared.call.Call.{Call}
 use Rattle.gmp_seq.specs.declared.call.Call.TheVariants as call
 use Rattle.gmp_seq.specs.declared.call.Limits.{Limits}
@@ -20,6 +22,7 @@ use Rattle.gmp_seq.specs.declared.call.Taken.{Taken}
 use Rattle.gmp_seq.specs.declared.status.Direction.TheVariants.{Sending, Receiving}
 use Rattle.gmp_seq.specs.declared.status.Goroutine.{Goroutine}
 use Rattle.gmp_seq.specs.declared.status.Kind.{Kind}
+use Rattle.gmp_seq.specs.declared.status.Kind.TheVariants as kind
 use Rattle.gmp_seq.specs.declared.status.Offer.{Offer}
 use Rattle.gmp_seq.specs.declared.status.Place.{Place}
 use Rattle.gmp_seq.specs.declared.status.Place.TheVariants.{Out}
@@ -36,6 +39,7 @@ use Rattle.gmp_seq.proofs.Waiting.{first_waits}
 use Rattle.gmp_slots.specs.Slots.{is_vacant}
 use Rattle.gmp_book.specs.Book.{is_held}
 use Rattle.gmp_book.specs.Log.{Log, Records}
+use Rattle.gmp_book.specs.Went.{bodies_by, is_wait}
 use Rattle.gmp_book.proofs.Bodies.{is_in, set_same, vacant_at, both_set}
 use Rattle.gmp_book.proofs.Placed.{Placed, placed, same_placed, slot_placed}
 
@@ -153,6 +157,15 @@ waits_machines limits m call.Declare old new (free, (h, is, rest)) = absurd h
 waits_machines limits m call.Bare old new (h, is, rest) = absurd h
 waits_machines limits m call.Park old new (bare, h) = absurd h
 
+-- Whether it waits
+
+pub wait_is : (answer : Reply) → is_wait answer ≡ true → answer ≡ reply.Waits
+wait_is reply.Waits h = refl
+wait_is _ h = absurd (false≢true h)
+
+pub no_wait : (answer : Reply) → is_wait answer ≡ false → answer ≡ reply.Waits → ⊥
+no_wait answer h e = false≢true (sym h ∙ ap is_wait e)
+
 module _ {T Q : Type 0} (old now : Log) (bodies : List (Option T)) (owners : List (Option Q)) (kept : Placed old bodies owners) where
   unmoved_placed : now ≡ record old { history = now.history; state = now.state } → old.state.outcome ≡ None → Unmoved old.state now.state → Placed now bodies owners
   unmoved_placed opened lasts same =
@@ -222,3 +235,37 @@ module _ {T Q : Type 0} (old now : Log) (bodies : List (Option T)) (owners : Lis
       let holders : now.state.machines.holders ≡ set old.state.machines.holders p.0 None = ap (λ (w : Machines). w.holders) on_machines.0.2 in
       placed old now bodies owners kept bodies (set owners p.0 (Some owner)) records.opened refl (length-set owners p.0 (Some owner)) (rw on_machines.1 (kept.bodies records.step.0))
       (rw holders (both_set is_none owners old.state.machines.holders p.0 (Some owner) None (kept.owners records.step.0) refl))
+
+  -- Calls that may be refused
+
+  pub closing_placed : (result : Result Reply Refusal) (c : Option CNo) (before after : Pass) → OnErr result ((now ≡ old) × (after ≡ before))
+      → IfOk result (λ answer. Records old before (call.Close c) answer now after) → Placed now bodies owners
+  closing_placed (Err why) c before after same records = rw same.0 kept
+  closing_placed (Ok answer) c before after same records = closes_placed c answer before after records
+
+  pub ticking_placed : (result : Result ℕ Refusal) (moment : ℕ) (before after : Pass) → OnErr result ((now ≡ old) × (after ≡ before))
+      → IfOk result (λ n. Records old before (call.Tick moment) (reply.Woke n) now after) → Placed now bodies owners
+  ticking_placed (Err why) moment before after same records = rw same.0 kept
+  ticking_placed (Ok n) moment before after same records = ticks_placed moment n before after records
+
+  -- Calls by which the goroutine that asks may wait
+
+  pub send_placed : (c : Option CNo) (v : ℕ) (answer : Reply) (held : Held T) (offers : List Offer) (before after : Pass) → Records old before (call.Send c v) answer now after
+      → (answer ≡ reply.Waits → now.state.table ≡ made_wait old.state.table held.g kind.Plain offers None) → Placed now (bodies_by answer held bodies) owners
+  send_placed c v answer held offers before after records waits = by_wait (is_wait answer) refl
+    where
+      by_wait : (b : Bool) → is_wait answer ≡ b → Placed now (if b then set bodies held.g.0 (Some held.body) else bodies) owners
+      by_wait true is =
+          let e = wait_is answer is in
+          waits_placed (call.Send c v) held.g held.body kind.Plain offers None before after (subst (λ (r : Reply). Records old before (call.Send c v) r now after) e records) (waits e)
+      by_wait false is = sends_placed c v answer before after (no_wait answer is) records
+
+  pub receive_placed : (c : Option CNo) (answer : Reply) (held : Held T) (offers : List Offer) (before after : Pass) → Records old before (call.Recv c) answer now after
+      → (answer ≡ reply.Waits → now.state.table ≡ made_wait old.state.table held.g kind.Plain offers None) → Placed now (bodies_by answer held bodies) owners
+  receive_placed c answer held offers before after records waits = by_wait (is_wait answer) refl
+    where
+      by_wait : (b : Bool) → is_wait answer ≡ b → Placed now (if b then set bodies held.g.0 (Some held.body) else bodies) owners
+      by_wait true is =
+          let e = wait_is answer is in
+          waits_placed (call.Recv c) held.g held.body kind.Plain offers None before after (subst (λ (r : Reply). Records old before (call.Recv c) r now after) e records) (waits e)
+      by_wait false is = receives_placed c answer before after (no_wait answer is) records

@@ -74,6 +74,11 @@ pub record HandsOutOwner {T Q : Type 0} (old now : Contents T Q) (proc : Proc Q)
   pub owners : now.owners ≡ slice_set old.owners proc.p.0 None
   pub bodies : now.bodies ≡ old.bodies
 
+-- the owner of proc is back in its place
+pub record TakesBackOwner {T Q : Type 0} (old now : Contents T Q) (proc : Proc Q) : Type 0 where
+  pub owners : now.owners ≡ slice_set old.owners proc.p.0 (Some proc.owner)
+  pub bodies : now.bodies ≡ old.bodies
+
 -- The opening
 
 -- the limits are in range, and there is an owner for each processor

@@ -1,13 +1,14 @@
 -- When a call is refused, and why.
-use Rattle.std.specs.Prelude.{◌≡◌, ℕ, ◌==◌, ◌<◌, ◌≤◌, Bool, true, false, not, ◌||◌, if◌then◌else◌, nat_lt, nat_le, is_some, List, [], ◌∷◌, ◌++◌, length, slice_get, Option, Some, None, Result, Ok, Err}
+use Rattle.std.specs.Prelude.{◌≡◌, ◌⊎◌, ℕ, ◌==◌, ◌<◌, ◌≤◌, Bool, true, false, not, ◌||◌, if◌then◌else◌, nat_lt, nat_le, is_some, List, [], ◌∷◌, ◌++◌, length, slice_get, Option, Some, None, Result, Ok, Err}
 use Rattle.std.specs.List.{list_any}
 use Rattle.std.specs.Option.{option_map_or}
 use Rattle.gmp_base.specs.declared.number.MNo.{MNo}
 use Rattle.gmp_base.specs.declared.pass.Pass.{Pass}
 use Rattle.gmp_base.specs.declared.refusal.Refusal.{Refusal}
-use Rattle.gmp_base.specs.declared.refusal.Refusal.TheVariants.{Over, WrongRun, OutOfTurn, Behind, NotOutstanding, NoProcessor, Busy, NotHeld}
+use Rattle.gmp_base.specs.declared.refusal.Refusal.TheVariants.{Over, WrongRun, OutOfTurn, Behind, NotOutstanding, NoProcessor, Busy, NotHeld, OutOfMemory}
 use Rattle.gmp_base.specs.declared.refusal.Refused.{Refused}
 use Rattle.gmp_base.specs.declared.value.Held.{Held}
+use Rattle.gmp_base.specs.declared.value.Proc.{Proc}
 use Rattle.gmp_base.specs.declared.value.Ticket.{Ticket}
 use Rattle.gmp_base.specs.Values.{readiness_of}
 use Rattle.gmp_seq.specs.declared.call.Call.{Call}
@@ -30,6 +31,9 @@ by_ticket t = handed.Ticket t.run (readiness_of t) ∷ []
 
 abbrev pub by_held : {T : Type 0} → Held T → List Handed
 by_held h = handed.Held h.run h.g ∷ []
+
+abbrev pub by_proc : {Q : Type 0} → Proc Q → List Handed
+by_proc p = handed.Proc p.run p.p ∷ []
 
 -- the run that a value names
 abbrev pub run_of : Handed → ℕ
@@ -168,3 +172,8 @@ why_refused (Err r) = Some r.why
 abbrev pub refusal_in : {A : Type 0} → Result A Refusal → Option Refusal
 refusal_in (Ok a) = None
 refusal_in (Err why) = Some why
+
+-- a call is refused so, and where no line refuses it, it may still want memory
+abbrev pub MayWant : Option Refusal → Option Refusal → Type 0
+MayWant (Some why) answer = answer ≡ Some why
+MayWant None answer = (answer ≡ None) ⊎ (answer ≡ Some OutOfMemory)

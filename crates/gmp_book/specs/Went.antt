@@ -1,12 +1,28 @@
--- The reply that a goroutine's going on stands for.
-use Rattle.std.specs.Prelude.{Option, Some, None}
+-- What becomes of a goroutine by the reply to what it asked.
+use Rattle.std.specs.Prelude.{◌≡◌, ℕ, Bool, true, false, Option, Some, None, List, slice_set, if◌then◌else◌}
+use Rattle.std.specs.Option.{option_map}
 use Rattle.gmp_base.specs.declared.ask.Woke.{Woke}
 use Rattle.gmp_base.specs.declared.ask.Woke.TheVariants as woke
+use Rattle.gmp_base.specs.declared.number.Readiness.{Readiness}
+use Rattle.gmp_base.specs.declared.pass.Pass.{Pass}
+use Rattle.gmp_base.specs.declared.refusal.Refusal.{Refusal}
+use Rattle.gmp_base.specs.declared.refusal.Refusal.TheVariants.{OutOfMemory}
+use Rattle.gmp_base.specs.declared.value.Held.{Held}
 use Rattle.gmp_base.specs.declared.value.Ticket.{Ticket}
 use Rattle.gmp_base.specs.Values.{readiness_of}
+use Rattle.gmp_seq.specs.declared.call.Call.{Call}
+use Rattle.gmp_seq.specs.declared.call.Relay.{Relay}
 use Rattle.gmp_seq.specs.declared.call.Reply.{Reply}
 use Rattle.gmp_seq.specs.declared.call.Reply.TheVariants as reply
+use Rattle.gmp_seq.specs.declared.call.Taken.TheVariants as taken
+use Rattle.gmp_seq.specs.Step.{woke_after}
+use Rattle.gmp_book.specs.declared.went.Moved.{Moved}
+use Rattle.gmp_book.specs.declared.went.Moved.TheVariants.{On, Waits}
 use Rattle.gmp_book.specs.declared.went.Went.{Went}
+use Rattle.gmp_book.specs.Book.{Contents, SameValues, TakesBack}
+use Rattle.gmp_book.specs.Log.{Log, Records}
+
+-- The reply that a go stands for
 
 -- with a ticket, that ticket, and else the fault that is told
 abbrev pub started_with : Option Ticket → Woke → Reply
@@ -17,3 +33,71 @@ started_with None told = reply.Nothing
 -- what a go that went on so was answered
 abbrev pub went : {T : Type 0} → Went T → Reply
 went w = started_with w.push w.held.woke
+
+-- What a reply says to the goroutine that asked
+
+-- the sender that a receive served
+abbrev pub sender_in : Option Relay → Option Readiness
+sender_in from = option_map (λ (x : Relay). x.sender) from
+
+-- the ticket that a reply gives out: of the goroutine that is ready by the call
+abbrev pub ticket_in : Reply → Option Readiness
+ticket_in (reply.Ticket r) = Some r
+ticket_in (reply.Sent to) = to
+ticket_in (reply.Got v sent from) = sender_in from
+ticket_in (reply.Chose i (taken.Sent to)) = to
+ticket_in (reply.Chose i (taken.Got v sent from)) = sender_in from
+ticket_in _ = None
+
+-- how many a close woke
+abbrev pub closed_in : Reply → ℕ
+closed_in (reply.Closed n) = n
+closed_in _ = 0
+
+-- does it wait
+abbrev pub is_wait : Reply → Bool
+is_wait reply.Waits = true
+is_wait _ = false
+
+-- it goes on: it is told what the reply says, and the ticket that the reply gives out is to be pushed
+pub record GoesOn {T : Type 0} (answer : Reply) (held : Held T) (w : Went T) : Type 0 where
+  pub told : w.held ≡ record held { woke = woke_after answer }
+  pub push : w.push ≡ option_map (λ (r : Readiness). let t : Ticket = record { run = held.run; g = r.g; epoch = r.epoch } in t) (ticket_in answer)
+
+-- it goes on, or waits exactly where the reply says so
+abbrev pub Moves : {T : Type 0} → Reply → Held T → Moved T → Type 0
+Moves answer held (On w) = (is_wait answer ≡ false) × GoesOn answer held w
+Moves answer held Waits = answer ≡ reply.Waits
+
+-- The call was accepted with some reply, by which the goroutine that asked goes on.
+pub record Proceeds {T : Type 0} (old : Log) (before : Pass) (call : Call) (held : Held T) (now : Log) (after : Pass) (w : Went T) : Type 0 where
+  pub answer : Reply
+  pub records : Records old before call answer now after
+  pub goes : GoesOn answer held w
+
+-- The same, where it may wait.
+pub record ProceedsOrWaits {T : Type 0} (old : Log) (before : Pass) (call : Call) (held : Held T) (now : Log) (after : Pass) (moved : Moved T) : Type 0 where
+  pub answer : Reply
+  pub records : Records old before call answer now after
+  pub moves : Moves answer held moved
+
+-- The same of a close, which counts those whom it woke.
+pub record ProceedsBy {T : Type 0} (old : Log) (before : Pass) (call : Call) (held : Held T) (now : Log) (after : Pass) (w : Went T) (count : ℕ) : Type 0 where
+  pub answer : Reply
+  pub records : Records old before call answer now after
+  pub goes : GoesOn answer held w
+  pub counted : count ≡ closed_in answer
+
+-- the bodies stay where it goes on; where it waits, its body is back in its place
+abbrev pub MovesBody : {T Q : Type 0} → Contents T Q → Contents T Q → Held T → Moved T → Type 0
+MovesBody old now held (On w) = SameValues old now
+MovesBody old now held Waits = TakesBack old now held
+
+-- the bodies once the goroutine of held was answered so
+abbrev pub bodies_by : {T : Type 0} → Reply → Held T → List (Option T) → List (Option T)
+bodies_by answer held bodies = if is_wait answer then slice_set bodies held.g.0 (Some held.body) else bodies
+
+-- what comes back of a make that was refused: where it wanted memory, its goroutine is told so
+abbrev pub handed_back : {T : Type 0} → Refusal → Held T → Held T
+handed_back OutOfMemory held = record held { woke = woke.NoMemory }
+handed_back _ held = held

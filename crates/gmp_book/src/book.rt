@@ -1,19 +1,23 @@
 //! The book.
-ghost use Rattle.std.specs.Prelude.{◌≡◌, ◌↔◌, ◌<◌, [], ◌∷◌, None, Some, not, length, map, slice_set, is_none, position, option_map, OnOk, OnErr, IfOk, IfErr, IfSome, IfNone, MatchOption};
+ghost use Rattle.std.specs.Prelude.{◌≡◌, ◌↔◌, ◌<◌, ◌++◌, [], None, Some, length, is_none, position, option_map, OnOk, OnErr, IfOk, IfErr, IfSome, IfNone, MatchOption};
 ghost use Rattle.gmp_seq.specs.declared.status.Place.TheVariants.{Shelf, Out};
 ghost use Rattle.gmp_seq.specs.Fits.{AreLimits};
 ghost use Rattle.gmp_seq.specs.Machines.{is_parked};
-ghost use Rattle.gmp_seq.specs.Run.{IsLegal};
-ghost use Rattle.gmp_seq.specs.Table.{IsReady, is_outstanding, made_ready, next_of, set_status};
+ghost use Rattle.gmp_base.specs.declared.number.CNo.{CNo};
+ghost use Rattle.gmp_seq.specs.Channels.{items_at};
+ghost use Rattle.gmp_seq.specs.Laws.{NobodyCouldProceed};
+ghost use Rattle.gmp_seq.specs.Run.{IsLegal, sent, received};
+ghost use Rattle.gmp_seq.specs.Table.{IsAsleep, IsReady, made_ready, next_of, set_status};
 ghost use Rattle.gmp_base.specs.Values.{readiness_of};
-ghost use Rattle.gmp_slots.specs.Slots.{is_vacant};
 ghost use Rattle.gmp_book.specs.Log.{Records};
-ghost use Rattle.gmp_book.specs.Refusals.{refusal_of, first_refusal, why_refused, refusal_in, by_ticket, by_held};
-ghost use Rattle.gmp_book.specs.Replies.{acquired, taken, left, poked};
+ghost use Rattle.gmp_book.specs.Refusals.{refusal_of, why_refused, refusal_in, by_ticket, by_held, by_proc};
+ghost use Rattle.gmp_book.specs.Replies.{acquired, taken, left, parking, poked};
 
-use crate::ledger::{Exited, Ledger};
+mod communicating;
+mod ending;
+
+use crate::ledger::{Exited, Ledger, Parking};
 use crate::opening::{Unopened, first_passes, may_open};
-use crate::report::Report;
 use crate::went::Went;
 use gmp_base::{GNo, Held, MNo, Pass, Proc, Refusal, Refused, Ticket, Woke};
 use gmp_seq::{Call, Entry, Limits, Outcome, Reply, Status};
@@ -47,7 +51,7 @@ impl<T, Q> Model for Book<T, Q> {
 }
 
 impl<T, Q> Book<T, Q> {
-    ghost use Rattle.gmp_book.specs.Book.{IsBook, SameValues, HandsOut, TakesBack, HandsOutOwner, MayOpen, WhyUnopened, IsReport, surrender_lines, report_lines, opening_book, opening_passes};
+    ghost use Rattle.gmp_book.specs.Book.{IsBook, SameValues, HandsOut, TakesBack, HandsOutOwner, TakesBackOwner, MayOpen, WhyUnopened, opening_book, opening_passes};
     ghost use Rattle.gmp_book.specs.Went.{went};
 
     /// A book of a run that has made no call, and one pass for each machine, in order.
@@ -112,6 +116,9 @@ impl<T, Q> Book<T, Q> {
         ensures legal { IsLegal self.now.log.limits self.now.log.bodies self.now.log.capacities self.now.log.history self.now.log.state }
         ensures within { AreLimits self.now.log.limits self.now.log.bodies self.now.log.capacities }
         ensures values { IsBook self.now }
+        // What was sent on a channel is what was received from it, and then what is on its list.
+        ensures fifo { (c : CNo) → sent c self.now.log.history ≡ received c self.now.log.history ++ items_at self.now.log.state.channels c }
+        ensures waiting { NobodyCouldProceed self.now.log.state }
     {
         self.ledger.history()
     }
@@ -277,6 +284,36 @@ impl<T, Q> Book<T, Q> {
         self.ledger.try_poke(pass)
     }
 
+    /// Gives up the processor that the machine holds.
+    pub fn declare(&mut self, pass: &mut Pass, proc: Proc<Q>) -> Result<(), Refused<Proc<Q>>>
+        ensures refused { why_refused result ≡ refusal_of self.old.log pass.old Call.Declare (by_proc proc) }
+        ensures back { IfErr result (λ r. r.back ≡ proc) }
+        ensures err { OnErr result ((self.new ≡ self.old) × (pass.new ≡ pass.old)) }
+        ensures entry { OnOk result (Records self.old.log pass.old Call.Declare (Reply.Idle proc.p) self.new.log pass.new) }
+        ensures owner { OnOk result (TakesBackOwner self.old self.new proc) }
+    {
+        match self.ledger.try_declare(pass, proc.run, proc.p) {
+            Err(why) => Err(Refused { why, back: proc }),
+            Ok(()) => {
+                let (_, p, owner) = proc.open();
+                self.owners.put(p.0 as usize, owner);
+                Ok(())
+            }
+        }
+    }
+
+    /// Parks the machine, which holds no processor and has nothing to do, unless there is work or a deadline to mind. Where nobody
+    /// can ever go on, all are asleep and the run is over.
+    pub fn park(&mut self, pass: &mut Pass) -> Result<Parking, Refusal>
+        ensures refused { refusal_in result ≡ refusal_of self.old.log pass.old Call.Park [] }
+        ensures err { OnErr result ((self.new ≡ self.old) × (pass.new ≡ pass.old)) }
+        ensures entry { IfOk result (λ answer. Records self.old.log pass.old Call.Park (parking answer) self.new.log pass.new) }
+        ensures asleep { IfOk result (λ answer. answer ≡ Parking.AllAsleep ↔ IsAsleep self.old.log.state.table) }
+        ensures values { OnOk result (SameValues self.old self.new) }
+    {
+        self.ledger.try_park(pass)
+    }
+
     /// Lets the clock show this moment, in nanoseconds, unless it showed a later one. All whose deadline is due go onto the shelf, by
     /// their deadlines, and then by the beginnings of their waits. The answer counts them.
     pub fn tick(&mut self, pass: &mut Pass, now: u64) -> Result<u64, Refusal>
@@ -286,100 +323,5 @@ impl<T, Q> Book<T, Q> {
         ensures values { OnOk result (SameValues self.old self.new) }
     {
         self.ledger.try_tick(pass, now)
-    }
-
-    /// Gives a body back once the run is over.
-    pub fn surrender_held(&mut self, held: Held<T>) -> Result<(), Refused<Held<T>>>
-        ensures refused { why_refused result ≡ first_refusal (surrender_lines self.old.log held.run (not (is_vacant self.old.bodies held.g.0)) Refusal.NotHeld) }
-        ensures err { IfErr result (λ r. (r.back ≡ held) × (self.new ≡ self.old)) }
-        ensures ok { OnOk result (self.new ≡ record self.old { bodies = slice_set self.old.bodies held.g.0 (Some held.body) }) }
-    {
-        let astray = !self.bodies.is_vacant(held.g.0 as usize);
-        if let Some(why) = self.surrender_refusal(held.run, astray, Refusal::NotHeld) {
-            return Err(Refused { why, back: held });
-        }
-        let (_, g, _, own) = held.open();
-        self.bodies.put(g.0 as usize, own);
-        Ok(())
-    }
-
-    /// Gives a ticket back once the run is over. It stays as it is in the book, which knows that it is out.
-    pub fn surrender_ticket(&mut self, ticket: Ticket) -> Result<(), Refused<Ticket>>
-        ensures refused { why_refused result ≡ first_refusal (surrender_lines self.old.log ticket.run (not (is_outstanding self.old.log.state.table (readiness_of ticket))) Refusal.NotOutstanding) }
-        ensures err { IfErr result (λ r. r.back ≡ ticket) }
-        ensures same { self.new ≡ self.old }
-    {
-        let astray = !self.ledger.is_outstanding(ticket.readiness());
-        if let Some(why) = self.surrender_refusal(ticket.run, astray, Refusal::NotOutstanding) {
-            return Err(Refused { why, back: ticket });
-        }
-        ticket.open();
-        Ok(())
-    }
-
-    /// Gives a processor's owner back once the run is over.
-    pub fn surrender_proc(&mut self, proc: Proc<Q>) -> Result<(), Refused<Proc<Q>>>
-        ensures refused { why_refused result ≡ first_refusal (surrender_lines self.old.log proc.run (not (is_vacant self.old.owners proc.p.0)) Refusal.NotHeld) }
-        ensures err { IfErr result (λ r. (r.back ≡ proc) × (self.new ≡ self.old)) }
-        ensures ok { OnOk result (self.new ≡ record self.old { owners = slice_set self.old.owners proc.p.0 (Some proc.owner) }) }
-    {
-        let astray = !self.owners.is_vacant(proc.p.0 as usize);
-        if let Some(why) = self.surrender_refusal(proc.run, astray, Refusal::NotHeld) {
-            return Err(Refused { why, back: proc });
-        }
-        let (_, p, owner) = proc.open();
-        self.owners.put(p.0 as usize, owner);
-        Ok(())
-    }
-
-    /// Why the surrender of a value of this run is refused, if it is.
-    fn surrender_refusal(&self, run: u64, astray: bool, why: Refusal) -> Option<Refusal>
-        ensures { result ≡ first_refusal (surrender_lines self.now.log run astray why) }
-    {
-        if run != self.ledger.run() {
-            return Some(Refusal::WrongRun);
-        }
-        if self.ledger.outcome().is_none() {
-            return Some(Refusal::NotOver);
-        }
-        if astray {
-            return Some(why);
-        }
-        None
-    }
-
-    /// The run, with all bodies and owners, once it is over and they are in. It takes no memory: they come out in the vectors that
-    /// were handed in.
-    pub fn into_report(self) -> Result<Report<T, Q>, Refused<Book<T, Q>>>
-        ensures refused { why_refused result ≡ first_refusal (report_lines self) }
-        ensures back { IfErr result (λ r. r.back ≡ self) }
-        ensures report { IfOk result (IsReport self) }
-    {
-        let Some(outcome) = self.ledger.outcome() else {
-            return Err(Refused {
-                why: Refusal::NotOver,
-                back: self,
-            });
-        };
-        if !(self.bodies.all_filled() && self.owners.all_filled()) {
-            return Err(Refused {
-                why: Refusal::Busy,
-                back: self,
-            });
-        }
-        let Book {
-            ledger,
-            bodies,
-            owners,
-        } = self;
-        let (limits, capacities, history) = ledger.into_parts();
-        Ok(Report {
-            limits,
-            capacities,
-            history,
-            outcome,
-            bodies: bodies.into_items(),
-            owners: owners.into_items(),
-        })
     }
 }

@@ -1,22 +1,22 @@
 //! The run so far, and the calls that go on with it.
-ghost use Rattle.std.specs.Prelude.{◌≡◌, ◌↔◌, ◌+◌, ◌<◌, ◌^◌, ◌≢◌, false, None, Some, [], ◌∷◌, ◌++◌, length, slice_index, slice_set, IfOk, IfNone, IfSome, is_none, position};
+ghost use Rattle.std.specs.Prelude.{◌≡◌, ◌↔◌, ◌+◌, ◌<◌, ◌^◌, ◌≢◌, None, Some, [], ◌∷◌, ◌++◌, length, slice_index, slice_set, IfOk, IfNone, IfSome, is_none, position};
 ghost use Rattle.gmp_base.specs.declared.number.GNo.{GNo};
 ghost use Rattle.gmp_seq.specs.Fits.{AreLimits};
-ghost use Rattle.gmp_seq.specs.Machines.{Holds, is_parked, spins};
+ghost use Rattle.gmp_seq.specs.Machines.{is_parked};
 ghost use Rattle.gmp_seq.specs.Needs.{Needs};
 ghost use Rattle.gmp_seq.specs.Run.{IsLegal};
 ghost use Rattle.gmp_seq.specs.declared.status.Place.TheVariants.{Shelf, Out};
 ghost use Rattle.gmp_seq.specs.declared.status.Status.{Status};
 ghost use Rattle.gmp_seq.specs.Step.{outcome_after};
-ghost use Rattle.gmp_seq.specs.Table.{IsReady, IsRunning, RunsNothing, is_outstanding, next_of, set_status, made_ready};
+ghost use Rattle.gmp_seq.specs.Table.{IsReady, IsRunning, is_outstanding, next_of, set_status, made_ready};
 ghost use Rattle.gmp_book.specs.Written.{HasRoomFor};
 ghost use Rattle.gmp_book.specs.Log.{Enters, opening_log};
-ghost use Rattle.gmp_book.specs.Replies.{Foresees};
-ghost use Rattle.gmp_book.specs.Replies.{acquired, taken, started, left, poked, parking};
+ghost use Rattle.gmp_book.specs.Replies.{acquired, taken, started, left, poked};
 
 mod communicating;
 mod passing;
 mod refusing;
+mod resting;
 
 use crate::goroutines::Goroutines;
 use crate::journal::Journal;
@@ -127,8 +127,13 @@ impl Ledger {
         requires { AreLimits limits bodies capacities.items }
         ensures { IfOk result (λ l. l ≡ opening_log run limits bodies capacities.items) }
     {
-        let goroutines =
-            Goroutines::open(alloc, limits.machines, limits.channels, bodies, &capacities)?;
+        let goroutines = Goroutines::open(
+            alloc,
+            limits.machines,
+            limits.channels,
+            bodies,
+            &capacities,
+        )?;
         let machines = Machines::awake(alloc, limits.procs, limits.machines)?;
         let journal = Journal::with_room(alloc, limits.machines, limits.entries)?;
         Ok(Ledger {
@@ -325,60 +330,6 @@ impl Ledger {
             replies::poked(woken),
         );
         woken
-    }
-
-    /// m, which runs nothing, gives up p, which it holds.
-    pub(crate) fn declare(&mut self, m: MNo, p: PNo)
-        requires ongoing { self.old.state.outcome ≡ None }
-        requires free { RunsNothing self.old.state.table m }
-        requires calm { spins self.old.state.machines m ≡ false }
-        requires holds { Holds self.old.state.machines m p }
-        ensures { Enters self.old m Call.Declare (Reply.Idle p) self.new }
-    {
-        self.machines.release(m, p);
-        enter(
-            &mut self.journal,
-            &mut self.outcome,
-            self.limits,
-            m,
-            Call::Declare,
-            Reply::Idle(p),
-        );
-    }
-
-    /// What m, which has nothing to do, is answered now.
-    fn prospect(&self) -> Parking
-        ensures { Foresees self.now.state result }
-    {
-        if self.goroutines.has_shelved() && self.machines.has_idle() {
-            return Parking::Work;
-        }
-        if !self.goroutines.has_astir() {
-            return Parking::AllAsleep;
-        }
-        match self.goroutines.minded() {
-            Some(until) => Parking::Mind(until),
-            None => Parking::Parked,
-        }
-    }
-
-    /// m has nothing to do: it parks, unless there is work, or a deadline to mind, or all are asleep.
-    pub(crate) fn park(&mut self, m: MNo) -> Parking
-        requires ongoing { self.old.state.outcome ≡ None }
-        requires needs { Needs m Call.Park self.old.state }
-        ensures { Enters self.old m Call.Park (parking result) self.new }
-    {
-        let answer = self.prospect();
-        self.machines.rest(m, answer);
-        enter(
-            &mut self.journal,
-            &mut self.outcome,
-            self.limits,
-            m,
-            Call::Park,
-            replies::parking(answer),
-        );
-        answer
     }
 
     /// Lets the clock show this moment, in nanoseconds, unless it showed a later one, and wakes all whose deadline is due.

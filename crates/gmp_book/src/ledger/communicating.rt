@@ -1,10 +1,16 @@
-//! What a running goroutine does with channels.
-ghost use Rattle.std.specs.Prelude.{◌≡◌, ◌<◌, ◌≤◌, None, length, IfOk, OnErr};
-ghost use Rattle.gmp_seq.specs.Table.{IsRunning};
-ghost use Rattle.gmp_book.specs.Log.{Enters};
+//! What a running goroutine does with channels: each call, and the same by a pass, refused or made and told to the pass.
+ghost use Rattle.std.specs.Prelude.{◌≡◌, ◌<◌, ◌≤◌, ◌∷◌, [], None, length, IfErr, IfOk, OnErr, OnOk};
+ghost use Rattle.gmp_base.specs.declared.cases.Case.{Case};
+ghost use Rattle.gmp_base.specs.declared.refusal.Refusal.{Refusal};
+ghost use Rattle.gmp_seq.specs.Table.{IsRunning, made_wait};
+ghost use Rattle.gmp_seq.specs.declared.status.Kind.{Kind};
+ghost use Rattle.gmp_seq.specs.Waits.{offers_of};
+ghost use Rattle.gmp_book.specs.Log.{Enters, Records};
+ghost use Rattle.gmp_book.specs.Refusals.{MayWant, refusal_of, refusal_in};
 
+use crate::handed::Handed;
 use crate::ledger::{Ledger, enter};
-use gmp_base::{CNo, GNo, MNo};
+use gmp_base::{CNo, GNo, MNo, Pass, Refusal};
 use gmp_seq::{Call, Reply};
 use std::alloc::{AllocError, Global};
 
@@ -39,7 +45,8 @@ impl Ledger {
     pub(crate) fn send(&mut self, m: MNo, g: GNo, c: Option<CNo>, v: u64) -> Reply
         requires ongoing { self.old.state.outcome ≡ None }
         requires runs { IsRunning self.old.state.table g m }
-        ensures { Enters self.old m (Call.Send c v) result self.new }
+        ensures records { Enters self.old m (Call.Send c v) result self.new }
+        ensures waits { result ≡ Reply.Waits → self.new.state.table ≡ made_wait self.old.state.table g Kind.Plain (offers_of (Case.Send c v ∷ [])) None }
     {
         let reply = self.goroutines.send(m, g, c, v);
         enter(
@@ -57,7 +64,8 @@ impl Ledger {
     pub(crate) fn recv(&mut self, m: MNo, g: GNo, c: Option<CNo>) -> Reply
         requires ongoing { self.old.state.outcome ≡ None }
         requires runs { IsRunning self.old.state.table g m }
-        ensures { Enters self.old m (Call.Recv c) result self.new }
+        ensures records { Enters self.old m (Call.Recv c) result self.new }
+        ensures waits { result ≡ Reply.Waits → self.new.state.table ≡ made_wait self.old.state.table g Kind.Plain (offers_of (Case.Recv c ∷ [])) None }
     {
         let reply = self.goroutines.recv(m, g, c);
         enter(
@@ -123,5 +131,128 @@ impl Ledger {
             reply,
         );
         reply
+    }
+
+    pub(crate) fn try_make(
+        &mut self,
+        alloc: Global,
+        pass: &mut Pass,
+        run: u64,
+        g: GNo,
+        capacity: u32,
+    ) -> Result<Reply, Refusal>
+        ensures refused { MayWant (refusal_of self.old pass.old (Call.Make capacity) (Handed.Held run g ∷ [])) (refusal_in result) }
+        ensures err { OnErr result ((self.new ≡ self.old) × (pass.new ≡ pass.old)) }
+        ensures needed { IfErr result (λ why. why ≡ Refusal.OutOfMemory → (capacity ≤ 4096) × (length self.old.state.channels < self.old.limits.channels)) }
+        ensures records { IfOk result (λ reply. Records self.old pass.old (Call.Make capacity) reply self.new pass.new) }
+    {
+        if let Some(why) = self.refusal(pass, &Call::Make(capacity), &[Handed::Held(run, g)]) {
+            return Err(why);
+        }
+        let Ok(reply) = self.make(alloc, pass.m, g, capacity) else {
+            return Err(Refusal::OutOfMemory);
+        };
+        self.advance(pass);
+        Ok(reply)
+    }
+
+    pub(crate) fn try_send(
+        &mut self,
+        pass: &mut Pass,
+        run: u64,
+        g: GNo,
+        c: Option<CNo>,
+        v: u64,
+    ) -> Result<Reply, Refusal>
+        ensures refused { refusal_in result ≡ refusal_of self.old pass.old (Call.Send c v) (Handed.Held run g ∷ []) }
+        ensures err { OnErr result ((self.new ≡ self.old) × (pass.new ≡ pass.old)) }
+        ensures records { IfOk result (λ reply. Records self.old pass.old (Call.Send c v) reply self.new pass.new) }
+        ensures runs { OnOk result (IsRunning self.old.state.table g pass.old.m) }
+        ensures waits { IfOk result (λ reply. reply ≡ Reply.Waits → self.new.state.table ≡ made_wait self.old.state.table g Kind.Plain (offers_of (Case.Send c v ∷ [])) None) }
+    {
+        if let Some(why) = self.refusal(pass, &Call::Send(c, v), &[Handed::Held(run, g)]) {
+            return Err(why);
+        }
+        let reply = self.send(pass.m, g, c, v);
+        self.advance(pass);
+        Ok(reply)
+    }
+
+    pub(crate) fn try_recv(
+        &mut self,
+        pass: &mut Pass,
+        run: u64,
+        g: GNo,
+        c: Option<CNo>,
+    ) -> Result<Reply, Refusal>
+        ensures refused { refusal_in result ≡ refusal_of self.old pass.old (Call.Recv c) (Handed.Held run g ∷ []) }
+        ensures err { OnErr result ((self.new ≡ self.old) × (pass.new ≡ pass.old)) }
+        ensures records { IfOk result (λ reply. Records self.old pass.old (Call.Recv c) reply self.new pass.new) }
+        ensures runs { OnOk result (IsRunning self.old.state.table g pass.old.m) }
+        ensures waits { IfOk result (λ reply. reply ≡ Reply.Waits → self.new.state.table ≡ made_wait self.old.state.table g Kind.Plain (offers_of (Case.Recv c ∷ [])) None) }
+    {
+        if let Some(why) = self.refusal(pass, &Call::Recv(c), &[Handed::Held(run, g)]) {
+            return Err(why);
+        }
+        let reply = self.recv(pass.m, g, c);
+        self.advance(pass);
+        Ok(reply)
+    }
+
+    pub(crate) fn try_close(
+        &mut self,
+        pass: &mut Pass,
+        run: u64,
+        g: GNo,
+        c: Option<CNo>,
+    ) -> Result<Reply, Refusal>
+        ensures refused { refusal_in result ≡ refusal_of self.old pass.old (Call.Close c) (Handed.Held run g ∷ []) }
+        ensures err { OnErr result ((self.new ≡ self.old) × (pass.new ≡ pass.old)) }
+        ensures records { IfOk result (λ reply. Records self.old pass.old (Call.Close c) reply self.new pass.new) }
+    {
+        if let Some(why) = self.refusal(pass, &Call::Close(c), &[Handed::Held(run, g)]) {
+            return Err(why);
+        }
+        let reply = self.close(pass.m, g, c);
+        self.advance(pass);
+        Ok(reply)
+    }
+
+    pub(crate) fn try_len(
+        &mut self,
+        pass: &mut Pass,
+        run: u64,
+        g: GNo,
+        c: Option<CNo>,
+    ) -> Result<Reply, Refusal>
+        ensures refused { refusal_in result ≡ refusal_of self.old pass.old (Call.Len c) (Handed.Held run g ∷ []) }
+        ensures err { OnErr result ((self.new ≡ self.old) × (pass.new ≡ pass.old)) }
+        ensures records { IfOk result (λ reply. Records self.old pass.old (Call.Len c) reply self.new pass.new) }
+    {
+        if let Some(why) = self.refusal(pass, &Call::Len(c), &[Handed::Held(run, g)]) {
+            return Err(why);
+        }
+        let reply = self.len(pass.m, g, c);
+        self.advance(pass);
+        Ok(reply)
+    }
+
+    pub(crate) fn try_cap(
+        &mut self,
+        pass: &mut Pass,
+        run: u64,
+        g: GNo,
+        c: Option<CNo>,
+    ) -> Result<Reply, Refusal>
+        ensures refused { refusal_in result ≡ refusal_of self.old pass.old (Call.Cap c) (Handed.Held run g ∷ []) }
+        ensures err { OnErr result ((self.new ≡ self.old) × (pass.new ≡ pass.old)) }
+        ensures records { IfOk result (λ reply. Records self.old pass.old (Call.Cap c) reply self.new pass.new) }
+    {
+        if let Some(why) = self.refusal(pass, &Call::Cap(c), &[Handed::Held(run, g)]) {
+            return Err(why);
+        }
+        let reply = self.cap(pass.m, g, c);
+        self.advance(pass);
+        Ok(reply)
     }
 }

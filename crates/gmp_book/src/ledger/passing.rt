@@ -5,16 +5,16 @@ ghost use Rattle.gmp_seq.specs.Machines.{is_parked};
 ghost use Rattle.gmp_seq.specs.Table.{IsReady, IsRunning, made_ready, next_of, set_status};
 ghost use Rattle.gmp_book.specs.Log.{Records};
 ghost use Rattle.gmp_book.specs.Refusals.{refusal_of, refusal_in};
-ghost use Rattle.gmp_book.specs.Replies.{acquired, taken, started, left, poked};
+ghost use Rattle.gmp_book.specs.Replies.{acquired, taken, started, left, parking, poked};
 
 use crate::handed::Handed;
-use crate::ledger::{Exited, Ledger};
+use crate::ledger::{Exited, Ledger, Parking};
 use gmp_base::{Fault, GNo, MNo, PNo, Pass, Readiness, Refusal, Woke};
 use gmp_seq::{Call, Reply, Status};
 
 impl Ledger {
     /// Tells the pass of a call that was accepted last.
-    fn advance(&self, pass: &mut Pass)
+    pub(super) fn advance(&self, pass: &mut Pass)
         requires { pass.old.calls < length self.now.history }
         ensures { pass.new ≡ record pass.old { calls = pass.old.calls + 1; seen = length self.now.history } }
     {
@@ -150,6 +150,32 @@ impl Ledger {
         let m = self.poke(pass.m);
         self.advance(pass);
         Ok(m)
+    }
+
+    pub(crate) fn try_declare(&mut self, pass: &mut Pass, run: u64, p: PNo) -> Result<(), Refusal>
+        ensures refused { refusal_in result ≡ refusal_of self.old pass.old Call.Declare (Handed.Proc run p ∷ []) }
+        ensures err { OnErr result ((self.new ≡ self.old) × (pass.new ≡ pass.old)) }
+        ensures records { OnOk result (Records self.old pass.old Call.Declare (Reply.Idle p) self.new pass.new) }
+    {
+        if let Some(why) = self.refusal(pass, &Call::Declare, &[Handed::Proc(run, p)]) {
+            return Err(why);
+        }
+        self.declare(pass.m, p);
+        self.advance(pass);
+        Ok(())
+    }
+
+    pub(crate) fn try_park(&mut self, pass: &mut Pass) -> Result<Parking, Refusal>
+        ensures refused { refusal_in result ≡ refusal_of self.old pass.old Call.Park [] }
+        ensures err { OnErr result ((self.new ≡ self.old) × (pass.new ≡ pass.old)) }
+        ensures records { IfOk result (λ answer. Records self.old pass.old Call.Park (parking answer) self.new pass.new) }
+    {
+        if let Some(why) = self.refusal(pass, &Call::Park, &[]) {
+            return Err(why);
+        }
+        let answer = self.park(pass.m);
+        self.advance(pass);
+        Ok(answer)
     }
 
     pub(crate) fn try_tick(&mut self, pass: &mut Pass, moment: u64) -> Result<u64, Refusal>

@@ -1,6 +1,5 @@
-use Rattle.std.proofs.Common.{◌≡◌, [], None, replicate, length, rules, ap, refl}
+use Rattle.std.proofs.Common.{◌≡◌, [], None, replicate, rules, ap}
 use Rattle.std.proofs.lemmas.List.{length-replicate}
-use Rattle.gmp_seq.specs.declared.status.Waiter.{Waiter}
 use Rattle.gmp_table.specs.Contents.{opening_contents}
 use Rattle.gmp_book.proofs.Running.{opening_runners}
 use Rattle.gmp_book.proofs.Ties.{opening_tied}

@@ -9,7 +9,7 @@ use Rattle.gmp_seq.specs.declared.status.Status.TheVariants.{Running}
 use Rattle.gmp_seq.specs.Table.{all_woken, how_many_woken}
 use Rattle.gmp_table.specs.declared.wake.Wake.{Wake}
 use Rattle.gmp_table.specs.declared.wake.Wake.TheVariants.{Closed, Due}
-use Rattle.gmp_table.specs.Waking.{IsWakeOrder, answer_of}
+use Rattle.gmp_table.specs.Waking.{answer_of}
 use Rattle.gmp_table.proofs.Waking.{next_less, next_more, all_done}
 use Rattle.gmp_book.proofs.Running.{other_ready_runners}
 use Rattle.gmp_book.proofs.Ties.{tied_ready}
@@ -53,13 +53,13 @@ pub returns-clause-table : goal.returns-clause-table
 returns-clause-table c =
     let woken = c.loop-next.invariant.woken in
     (all_done c.args.wake c.self.inside.table c.loop-next.self-inside.table woken.0 c.loop-next.count woken.1 c.in_default.ensures.first).0
-        ∙ ap (λ v. all_woken (answer_of c.args.wake) v.table) c.self.view_is
+    ∙ ap (λ v. all_woken (answer_of c.args.wake) v.table) c.self.view_is
 
 pub returns-clause-count : goal.returns-clause-count
 returns-clause-count c =
     let woken = c.loop-next.invariant.woken in
     (all_done c.args.wake c.self.inside.table c.loop-next.self-inside.table woken.0 c.loop-next.count woken.1 c.in_default.ensures.first).1
-        ∙ ap (λ v. how_many_woken (answer_of c.args.wake) v.table) c.self.view_is
+    ∙ ap (λ v. how_many_woken (answer_of c.args.wake) v.table) c.self.view_is
 
 pub returns-clause-order : goal.returns-clause-order
 returns-clause-order c =

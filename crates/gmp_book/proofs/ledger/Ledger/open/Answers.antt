@@ -1,6 +1,5 @@
 use Rattle.std.proofs.Common.{◌≡◌, rules, refl}
 use Rattle.gmp_book.specs.Present.{opening_present}
-use Rattle.gmp_book.specs.Kept.{IsSized}
 use Rattle.gmp_book.proofs.ledger.Ledger.open.Goals as goal
 
 pub invariant_of-result : goal.invariant_of-result

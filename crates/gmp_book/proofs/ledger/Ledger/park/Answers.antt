@@ -3,9 +3,7 @@ use Rattle.gmp_book.specs.LedgerView.{log_of}
 use Rattle.gmp_book.specs.Log.{Log}
 use Rattle.gmp_book.specs.Replies.{Foresees}
 use Rattle.gmp_seq.specs.Needs.{Needs}
-use Rattle.gmp_seq.specs.State.{State}
 use Rattle.gmp_seq.specs.declared.call.Call.TheVariants as call
-use Rattle.std.proofs.Common.{ap}
 use Rattle.std.proofs.Common.{refl, subst, sym}
 use Rattle.gmp_book.proofs.ledger.Ledger.park.Goals as goal
 
@@ -18,8 +16,7 @@ pub invariant_of-self : goal.invariant_of-self
 invariant_of-self c =
     let i = c.self.inside in
     let needs = subst (λ (l : Log). Needs c.args.m (call.Park) l.state) (sym c.self.view_is) c.requires.needs in
-    let foresees = subst (λ (l : Log). Foresees l.state c.prospect-answer.result) (sym c.self.view_is) c.prospect-answer.ensures in
-    (
+    let foresees = subst (λ (l : Log). Foresees l.state c.prospect-answer.result) (sym c.self.view_is) c.prospect-answer.ensures in (
       kept_on (log_of i) c.args.self.now i.journal.room c.enter.new.journal.room c.args.m (call.Park) (c.parking.result) c.enter.new.journal.entries
           (record (log_of i).state { machines = c.rest.new.self; counts = c.enter.new.journal.counts; outcome = c.enter.new.outcome }) c.self.view_is c.self.invariant.0 c.requires.ongoing c.requires.needs.0
           (needs, rw c.parking.ensures (parks_by c.args.m (log_of i).state _ c.prospect-answer.result foresees refl refl c.rest.ensures)) c.enter.ensures.entries c.enter.ensures.counts c.enter.ensures.outcome c.enter.ensures.room,

@@ -2,9 +2,11 @@ use Rattle.gmp_base.specs.declared.cases.Case.TheVariants as case
 use Rattle.gmp_book.proofs.Entered.{awake_there, deals_in, few_waits, has_room, kept_on, runner_wakes, sized_on, young}
 use Rattle.gmp_book.specs.LedgerView.{log_of}
 use Rattle.gmp_book.specs.Log.{Log}
-use Rattle.gmp_seq.specs.Table.{IsRunning}
+use Rattle.gmp_seq.specs.Table.{IsRunning, made_wait}
 use Rattle.gmp_seq.specs.declared.call.Call.TheVariants as call
-use Rattle.std.proofs.Common.{refl, subst, sym}
+use Rattle.std.proofs.Common.{[], ◌∷◌, None, ap, refl, subst, sym, ◌∙◌}
+use Rattle.gmp_seq.specs.declared.status.Kind.TheVariants as kind
+use Rattle.gmp_seq.specs.Waits.{offers_of}
 use Rattle.gmp_book.proofs.ledger.Ledger.recv.Goals as goal
 
 pub recv-reply-requires-clause-young : goal.recv-reply-requires-clause-young
@@ -30,10 +32,14 @@ enter-requires c =
 pub invariant_of-self : goal.invariant_of-self
 invariant_of-self c =
     let i = c.self.inside in
-    let runs = subst (λ (l : Log). IsRunning l.state.table c.args.g c.args.m) (sym c.self.view_is) c.requires.runs in
-    (
+    let runs = subst (λ (l : Log). IsRunning l.state.table c.args.g c.args.m) (sym c.self.view_is) c.requires.runs in (
       kept_on (log_of i) c.args.self.now i.journal.room c.enter.new.journal.room c.args.m (call.Recv c.args.c) (c.recv-reply.result) c.enter.new.journal.entries
           (record (log_of i).state { table = c.recv-reply.new.self.table; channels = c.recv-reply.new.self.channels; counts = c.enter.new.journal.counts; outcome = c.enter.new.outcome }) c.self.view_is c.self.invariant.0 c.requires.ongoing (runner_wakes (log_of i) c.args.self.now i.journal.room c.args.m c.args.g c.self.view_is c.self.invariant.0 c.requires.runs)
           (c.args.g, runs, deals_in c.args.g (case.Recv c.args.c) c.recv-reply.result i.goroutines c.recv-reply.new.self i.machines _ _ _ _ c.recv-reply.ensures.deals) c.enter.ensures.entries c.enter.ensures.counts c.enter.ensures.outcome c.enter.ensures.room,
       sized_on i.limits i.goroutines c.recv-reply.new.self c.self.invariant.1 c.recv-reply.ensures.sizes,
     )
+
+pub returns-clause-waits : goal.returns-clause-waits
+returns-clause-waits c = λ waits.
+    let deals = rw waits at c.recv-reply.ensures.deals in
+    deals.1.1 ∙ ap (λ (l : Log). made_wait l.state.table c.args.g kind.Plain (offers_of ((case.Recv c.args.c) ∷ [])) None) c.self.view_is

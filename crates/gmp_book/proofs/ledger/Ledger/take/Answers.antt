@@ -14,8 +14,7 @@ enter-requires c =
 pub invariant_of-self : goal.invariant_of-self
 invariant_of-self c =
     let i = c.self.inside in
-    let needs = subst (λ (l : Log). Needs c.args.m (call.Take) l.state) (sym c.self.view_is) c.requires.needs in
-    (
+    let needs = subst (λ (l : Log). Needs c.args.m (call.Take) l.state) (sym c.self.view_is) c.requires.needs in (
       kept_on (log_of i) c.args.self.now i.journal.room c.enter.new.journal.room c.args.m (call.Take) (c.taken.result) c.enter.new.journal.entries
           (record (log_of i).state { table = c.take-r.new.self.table; channels = c.take-r.new.self.channels; counts = c.enter.new.journal.counts; outcome = c.enter.new.outcome }) c.self.view_is c.self.invariant.0 c.requires.ongoing c.requires.needs
           (needs, (rw c.taken.ensures c.take-r.ensures.takes, c.take-r.ensures.only.channels, refl)) c.enter.ensures.entries c.enter.ensures.counts c.enter.ensures.outcome c.enter.ensures.room,

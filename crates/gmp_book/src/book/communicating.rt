@@ -1,0 +1,151 @@
+//! What a running goroutine does with channels.
+ghost use Rattle.std.specs.Prelude.{◌≡◌, ◌<◌, ◌≤◌, ◌∷◌, [], None, length, OnOk, OnErr, IfOk, IfErr};
+ghost use Rattle.gmp_base.specs.declared.cases.Case.{Case};
+ghost use Rattle.gmp_base.specs.declared.refusal.Refusal.{Refusal};
+ghost use Rattle.gmp_seq.specs.declared.call.Call.{Call};
+ghost use Rattle.gmp_seq.specs.declared.status.Kind.{Kind};
+ghost use Rattle.gmp_seq.specs.Table.{made_wait};
+ghost use Rattle.gmp_seq.specs.Waits.{offers_of};
+ghost use Rattle.gmp_book.specs.Refusals.{MayWant, refusal_of, why_refused, by_held};
+
+use crate::book::Book;
+use crate::replies::closed_in;
+use crate::went::{Moved, Went, handed_back};
+use gmp_base::{CNo, Held, Pass, Refused};
+use std::alloc::Global;
+
+impl<T, Q> Book<T, Q> {
+    ghost use Rattle.gmp_book.specs.Book.{SameValues};
+    ghost use Rattle.gmp_book.specs.Went.{Proceeds, ProceedsBy, ProceedsOrWaits, MovesBody, handed_back};
+
+    /// Makes a channel with room for so many values, 4,096 at most. The goroutine is told its number, or the fault.
+    ///
+    /// A channel takes memory. Where that is refused, the goroutine comes back with `NoMemory` to be told, and nothing has changed.
+    pub fn make(
+        &mut self,
+        alloc: Global,
+        pass: &mut Pass,
+        held: Held<T>,
+        capacity: u32,
+    ) -> Result<Went<T>, Refused<Held<T>>>
+        ensures refused { MayWant (refusal_of self.old.log pass.old (Call.Make capacity) (by_held held)) (why_refused result) }
+        // Memory is wanted for a channel alone.
+        ensures needed { IfErr result (λ r. r.why ≡ Refusal.OutOfMemory → (capacity ≤ 4096) × (length self.old.log.state.channels < self.old.log.limits.channels)) }
+        ensures back { IfErr result (λ r. r.back ≡ handed_back r.why held) }
+        ensures err { OnErr result ((self.new ≡ self.old) × (pass.new ≡ pass.old)) }
+        ensures entry { IfOk result (λ w. Proceeds self.old.log pass.old (Call.Make capacity) held self.new.log pass.new w) }
+        ensures values { OnOk result (SameValues self.old self.new) }
+    {
+        match self
+            .ledger
+            .try_make(alloc, pass, held.run, held.g, capacity)
+        {
+            Err(why) => Err(Refused {
+                why,
+                back: handed_back(why, held),
+            }),
+            Ok(reply) => Ok(Went::by(held, reply)),
+        }
+    }
+
+    /// Sends a value, or waits until it can. On nil it waits for ever, and on a closed channel it is a fault.
+    pub fn send(
+        &mut self,
+        pass: &mut Pass,
+        held: Held<T>,
+        c: Option<CNo>,
+        v: u64,
+    ) -> Result<Moved<T>, Refused<Held<T>>>
+        ensures refused { why_refused result ≡ refusal_of self.old.log pass.old (Call.Send c v) (by_held held) }
+        ensures back { IfErr result (λ r. r.back ≡ held) }
+        ensures err { OnErr result ((self.new ≡ self.old) × (pass.new ≡ pass.old)) }
+        ensures entry { IfOk result (λ moved. ProceedsOrWaits self.old.log pass.old (Call.Send c v) held self.new.log pass.new moved) }
+        ensures waits { IfOk result (λ moved. moved ≡ Moved.Waits → self.new.log.state.table ≡ made_wait self.old.log.state.table held.g Kind.Plain (offers_of (Case.Send c v ∷ [])) None) }
+        ensures body { IfOk result (MovesBody self.old self.new held) }
+    {
+        match self.ledger.try_send(pass, held.run, held.g, c, v) {
+            Err(why) => Err(Refused { why, back: held }),
+            Ok(reply) => Ok(Moved::by(&mut self.bodies, held, reply)),
+        }
+    }
+
+    /// Receives a value, or waits until it can. On nil it waits for ever; a closed channel gives what was sent, and then zeros.
+    pub fn recv(
+        &mut self,
+        pass: &mut Pass,
+        held: Held<T>,
+        c: Option<CNo>,
+    ) -> Result<Moved<T>, Refused<Held<T>>>
+        ensures refused { why_refused result ≡ refusal_of self.old.log pass.old (Call.Recv c) (by_held held) }
+        ensures back { IfErr result (λ r. r.back ≡ held) }
+        ensures err { OnErr result ((self.new ≡ self.old) × (pass.new ≡ pass.old)) }
+        ensures entry { IfOk result (λ moved. ProceedsOrWaits self.old.log pass.old (Call.Recv c) held self.new.log pass.new moved) }
+        ensures waits { IfOk result (λ moved. moved ≡ Moved.Waits → self.new.log.state.table ≡ made_wait self.old.log.state.table held.g Kind.Plain (offers_of (Case.Recv c ∷ [])) None) }
+        ensures body { IfOk result (MovesBody self.old self.new held) }
+    {
+        match self.ledger.try_recv(pass, held.run, held.g, c) {
+            Err(why) => Err(Refused { why, back: held }),
+            Ok(reply) => Ok(Moved::by(&mut self.bodies, held, reply)),
+        }
+    }
+
+    /// Closes a channel. All that wait on it go onto the shelf, by the beginnings of their waits; the answer counts them.
+    pub fn close(
+        &mut self,
+        pass: &mut Pass,
+        held: Held<T>,
+        c: Option<CNo>,
+    ) -> Result<(Went<T>, u64), Refused<Held<T>>>
+        ensures refused { why_refused result ≡ refusal_of self.old.log pass.old (Call.Close c) (by_held held) }
+        ensures back { IfErr result (λ r. r.back ≡ held) }
+        ensures err { OnErr result ((self.new ≡ self.old) × (pass.new ≡ pass.old)) }
+        ensures entry { IfOk result (λ w. ProceedsBy self.old.log pass.old (Call.Close c) held self.new.log pass.new w.0 w.1) }
+        ensures values { OnOk result (SameValues self.old self.new) }
+    {
+        match self.ledger.try_close(pass, held.run, held.g, c) {
+            Err(why) => Err(Refused { why, back: held }),
+            Ok(reply) => {
+                let count = closed_in(reply);
+                Ok((Went::by(held, reply), count))
+            }
+        }
+    }
+
+    /// Tells how many values a channel holds, 0 for nil.
+    pub fn len(
+        &mut self,
+        pass: &mut Pass,
+        held: Held<T>,
+        c: Option<CNo>,
+    ) -> Result<Went<T>, Refused<Held<T>>>
+        ensures refused { why_refused result ≡ refusal_of self.old.log pass.old (Call.Len c) (by_held held) }
+        ensures back { IfErr result (λ r. r.back ≡ held) }
+        ensures err { OnErr result ((self.new ≡ self.old) × (pass.new ≡ pass.old)) }
+        ensures entry { IfOk result (λ w. Proceeds self.old.log pass.old (Call.Len c) held self.new.log pass.new w) }
+        ensures values { OnOk result (SameValues self.old self.new) }
+    {
+        match self.ledger.try_len(pass, held.run, held.g, c) {
+            Err(why) => Err(Refused { why, back: held }),
+            Ok(reply) => Ok(Went::by(held, reply)),
+        }
+    }
+
+    /// Tells for how many values a channel has room, 0 for nil.
+    pub fn cap(
+        &mut self,
+        pass: &mut Pass,
+        held: Held<T>,
+        c: Option<CNo>,
+    ) -> Result<Went<T>, Refused<Held<T>>>
+        ensures refused { why_refused result ≡ refusal_of self.old.log pass.old (Call.Cap c) (by_held held) }
+        ensures back { IfErr result (λ r. r.back ≡ held) }
+        ensures err { OnErr result ((self.new ≡ self.old) × (pass.new ≡ pass.old)) }
+        ensures entry { IfOk result (λ w. Proceeds self.old.log pass.old (Call.Cap c) held self.new.log pass.new w) }
+        ensures values { OnOk result (SameValues self.old self.new) }
+    {
+        match self.ledger.try_cap(pass, held.run, held.g, c) {
+            Err(why) => Err(Refused { why, back: held }),
+            Ok(reply) => Ok(Went::by(held, reply)),
+        }
+    }
+}
