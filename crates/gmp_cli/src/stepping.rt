@@ -43,7 +43,8 @@ fn run(alloc: Global, limits: Limits, script: Script) -> Result<Trace, Ended>
     if limits.procs != 1 || limits.machines != 1 {
         return Err(Ended::bad_limits());
     }
-    let machine = match Machine::open(alloc, limits, &script.capacities, script.bodies) {
+    let Script { capacities, bodies } = script;
+    let machine = match Machine::open(alloc, limits, &capacities, bodies) {
         Ok(machine) => machine,
         Err(Refusal::BadLimits) => return Err(Ended::bad_limits()),
         Err(_) => return Err(Ended::out_of_memory()),
