@@ -130,7 +130,7 @@ pub no_script_with_again : (before : List (List ℕ)) (l : List ℕ) (c : Comman
     → IsScript before cs (front ++ b ∷ []) → IsScript (before ++ l ∷ []) new bodies → ⊥
 no_script_with_again before l c cs new front b bodies e a old s =
     let h : list_any opens_with_again (parts (before ++ l ∷ [])) ≡ true = ap (list_any opens_with_again) (parts-last before l c cs front b e old)
-        ∙ one_at_last opens_with_again (announced cs ∷ map written front) (written b ++ Some (line.Command c) ∷ []) (opens-push b.commands c ∙ a) in
+    ∙ one_at_last opens_with_again (announced cs ∷ map written front) (written b ++ Some (line.Command c) ∷ []) (opens-push b.commands c ∙ a) in
     let n = s.begin in
     cc
 
@@ -148,7 +148,7 @@ pub script_with_channel : (before : List (List ℕ)) (l : List ℕ) (k : ℕ) (c
 script_with_channel before l k cs e old =
     let x : Option Line = Some (line.Channel k) in
     let is : parts (before ++ l ∷ []) ≡ announced (cs ++ k ∷ []) ∷ [] = parts-more before l x e refl refl ∙ ap (onto_last x) old.made
-        ∙ ap (λ part. part ∷ []) (sym (map-append (λ n. Some (line.Channel n)) cs (k ∷ []))) in
+    ∙ ap (λ part. part ∷ []) (sym (map-append (λ n. Some (line.Channel n)) cs (k ∷ []))) in
     record {
       made = is;
       begin = ap (list_any opens_with_again) is ∙ rw (opens_announced (cs ++ k ∷ [])) refl;
