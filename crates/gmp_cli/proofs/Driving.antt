@@ -205,8 +205,8 @@ none_spins : (k : ℕ) → unwrap_or (slice_get (replicate k false) 0) false ≡
 none_spins zero = refl
 none_spins (suc k) = refl
 
-pub opening_driven : (run : ℕ) (limits : Limits) (n : ℕ) → AreLimits limits n [] → IsDriven (opening_log run limits n []) [] n starting n
-opening_driven run limits n within =
+pub opening_driven : (run : ℕ) (limits : Limits) (n : ℕ) (capacities : List ℕ) → AreLimits limits n capacities → IsDriven (opening_log run limits n capacities) [] n starting n
+opening_driven run limits n capacities within =
     let rest : ℕ = n - 1 in
     let size : length (replicate rest dormant) ≡ rest = length-replicate rest dormant in
     record {

@@ -320,15 +320,15 @@ counted_none : (k : ℕ) → 1 ≤ k → 0 ≡ slice_index (replicate k 0) 0
 counted_none zero some = absurd (omega (arith, some))
 counted_none (suc k) some = refl
 
-pub opening_drives : (run : ℕ) (limits : Limits) (bodies : List Commands) (owners : List Unit) → MayOpen limits (length bodies) [] (length owners)
-    → Drives (opening_book run limits [] bodies owners) (record { run = run; m = machine; calls = 0; seen = 0 }) [] (length bodies) Start
-opening_drives run limits bodies owners may =
+pub opening_drives : (run : ℕ) (limits : Limits) (capacities : List ℕ) (bodies : List Commands) (owners : List Unit) → MayOpen limits (length bodies) capacities (length owners)
+    → Drives (opening_book run limits capacities bodies owners) (record { run = run; m = machine; calls = 0; seen = 0 }) [] (length bodies) Start
+opening_drives run limits capacities bodies owners may =
     let stock : length (map {B = Option Commands} Some bodies) ≡ length bodies = length-map bodies Some in
     let counts : List ℕ = replicate limits.machines 0 in
     let count : length counts ≡ limits.machines = length-replicate limits.machines 0 in
     let some : 1 ≤ limits.machines = (let procs = may.0.procs.0 in let more = may.0.machines.0 in omega (arith, procs, more)) in
     record {
-      driven = rw stock (opening_driven run limits (length bodies) may.0);
+      driven = rw stock (opening_driven run limits (length bodies) capacities may.0);
       latest = record {
         run = refl;
         m = refl;

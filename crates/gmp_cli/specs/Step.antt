@@ -1,5 +1,5 @@
 -- What `step` writes.
-use Rattle.std.specs.Prelude.{◌≡◌, ℕ, List, [], Option, IsSome, IfSome, length}
+use Rattle.std.specs.Prelude.{◌≡◌, ℕ, List, Option, IsSome, IfSome, length}
 use Rattle.std.specs.Io.KnownBytes.{Appends}
 use Rattle.gmp_cli.specs.declared.options.Settings.{Settings}
 use Rattle.gmp_seq.specs.declared.call.Limits.{Limits}
@@ -34,22 +34,22 @@ pub record IsTraceOf (limits : Limits) (x : Content) : Type 0 where
   pub over : IsSome last.outcome
   pub ended : x.end ≡ end_of last.outcome
 
--- one machine with one processor may run so many bodies
-abbrev pub RunsOnOne : Limits → ℕ → Type 0
-RunsOnOne limits bodies = (limits.procs ≡ 1) × (limits.machines ≡ 1) × AreLimits limits bodies []
+-- one machine with one processor may run so many bodies, with opening channels of these capacities
+abbrev pub RunsOnOne : Limits → ℕ → List ℕ → Type 0
+RunsOnOne limits bodies capacities = (limits.procs ≡ 1) × (limits.machines ≡ 1) × AreLimits limits bodies capacities
 
 -- one machine with one processor may not run the script that was read
 pub record IsOutOfLimits (limits : Limits) (all : List ℕ) : Type 0 where
+  pub capacities : List ℕ
   pub bodies : List Commands
-  pub script : IsScript (lines all) bodies
-  pub out : ¬ (RunsOnOne limits (length bodies))
+  pub script : IsScript (lines all) capacities bodies
+  pub out : ¬ (RunsOnOne limits (length bodies) capacities)
 
--- the trace has as many goroutines as the script that was read has bodies, and no channel at its opening
+-- the trace has as many goroutines as the script that was read has bodies, and at its opening the script's channels
 pub record IsStockOf (all : List ℕ) (x : Content) : Type 0 where
   pub bodies : List Commands
-  pub script : IsScript (lines all) bodies
+  pub script : IsScript (lines all) x.capacities bodies
   pub stock : x.bodies ≡ length bodies
-  pub channels : x.capacities ≡ []
 
 -- what was written is the text of such a trace, of one machine with one processor, and the status tells its end
 pub record WritesTrace (limits : Limits) (input : Option (List ℕ)) (status : ℕ) (old new : Option (List ℕ)) : Type 0 where

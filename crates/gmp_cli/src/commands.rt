@@ -1,14 +1,20 @@
 //! What a script says.
 
-use gmp_base::{Ask, Body, GNo, Woke};
+use gmp_base::{Ask, Body, CNo, GNo, Woke};
 use std::alloc::{AllocError, Global};
 use std::marker::Model;
 
-/// A command of a script's body: what it asks next.
+/// A command of a script's body: what it asks next. `None` for a channel is nil.
 #[derive(Clone, Copy, Debug, PartialEq, Eq)]
 pub enum Command {
     Yield,
     Go(GNo),
+    Make(u32),
+    Send(Option<CNo>, u64),
+    Recv(Option<CNo>),
+    Close(Option<CNo>),
+    Len(Option<CNo>),
+    Cap(Option<CNo>),
     Exit,
     /// No ask: goes on with the body's first command.
     Again,
@@ -34,6 +40,12 @@ impl Command {
         match self {
             Command::Yield => Ask::Yield,
             Command::Go(g) => Ask::Go(g),
+            Command::Make(capacity) => Ask::Make(capacity),
+            Command::Send(c, value) => Ask::Send(c, value),
+            Command::Recv(c) => Ask::Recv(c),
+            Command::Close(c) => Ask::Close(c),
+            Command::Len(c) => Ask::Len(c),
+            Command::Cap(c) => Ask::Cap(c),
             Command::Exit | Command::Again => Ask::Exit,
         }
     }
@@ -125,8 +137,9 @@ impl Body for ScriptBody {
     }
 }
 
-/// A script: its bodies, from that of goroutine 0.
+/// A script: the capacities of its opening channels, from channel 0, and its bodies, from that of goroutine 0.
 #[derive(Debug, Drop)]
 pub struct Script {
+    pub capacities: Vec<u32>,
     pub bodies: Vec<ScriptBody>,
 }

@@ -1,11 +1,11 @@
 //! Reads a line of a script.
 
-ghost use Rattle.std.specs.Prelude.{◌≡◌, IfOk, map, option_map};
-ghost use Rattle.gmp_cli.specs.Lines.{words, number_below, said_alone, said_with, said_by};
+ghost use Rattle.std.specs.Prelude.{◌≡◌, IfOk, map};
+ghost use Rattle.gmp_cli.specs.Lines.{words, value, below, goroutine, capacity, channel, said_alone, said_with, said_with_two, said_by_words, said_by};
 
 use crate::commands::Command;
 use crate::digits::number;
-use gmp_base::GNo;
+use gmp_base::{CNo, GNo};
 use std::alloc::{AllocError, Global};
 
 /// What a line says.
@@ -15,6 +15,8 @@ pub enum Line {
     Nothing,
     /// The next body begins.
     Body,
+    /// One more channel of this capacity is there at the opening.
+    Channel(u32),
     Command(Command),
 }
 
@@ -27,14 +29,43 @@ fn words<'a>(alloc: Global, line: &'a [u8]) -> Result<Vec<&'a [u8]>, AllocError>
         .collect(alloc)
 }
 
-/// The number of a goroutine that a word is: 1 to 20 digits.
-fn goroutine(word: &[u8]) -> Option<GNo>
-    ensures { option_map (λ g. g.0) result ≡ number_below 65536 word.now }
+/// The number that a word writes in 1 to 20 digits.
+fn value(word: &[u8]) -> Option<u64>
+    ensures { result ≡ value word.now }
 {
     if word.len() > 20 {
         return None;
     }
-    Some(GNo(u16::try_from(number(word)?).ok()?))
+    number(word)
+}
+
+/// The number of a goroutine or a channel.
+fn narrow(word: &[u8]) -> Option<u16>
+    ensures { result ≡ below 65536 (value word.now) }
+{
+    u16::try_from(value(word)?).ok()
+}
+
+fn goroutine(word: &[u8]) -> Option<GNo>
+    ensures { result ≡ goroutine word.now }
+{
+    Some(GNo(narrow(word)?))
+}
+
+fn capacity(word: &[u8]) -> Option<u32>
+    ensures { result ≡ capacity word.now }
+{
+    u32::try_from(value(word)?).ok()
+}
+
+/// The channel that a word names, nil too.
+fn channel(word: &[u8]) -> Option<Option<CNo>>
+    ensures { result ≡ channel word.now }
+{
+    if word == b"nil".as_slice() {
+        return Some(None);
+    }
+    Some(Some(CNo(narrow(word)?)))
 }
 
 /// What a line of one word says.
@@ -55,14 +86,49 @@ fn alone(word: &[u8]) -> Option<Line>
 }
 
 /// What a line of two words says.
-fn with_number(word: &[u8], k: &[u8]) -> Option<Line>
-    ensures { result ≡ said_with word.now (number_below 65536 k.now) }
+fn with(word: &[u8], k: &[u8]) -> Option<Line>
+    ensures { result ≡ said_with word.now k.now }
 {
-    let g = goroutine(k)?;
-    if word == b"go".as_slice() {
-        Some(Line::Command(Command::Go(g)))
+    if word == b"chan".as_slice() {
+        Some(Line::Channel(capacity(k)?))
+    } else if word == b"go".as_slice() {
+        Some(Line::Command(Command::Go(goroutine(k)?)))
+    } else if word == b"make".as_slice() {
+        Some(Line::Command(Command::Make(capacity(k)?)))
+    } else if word == b"recv".as_slice() {
+        Some(Line::Command(Command::Recv(channel(k)?)))
+    } else if word == b"close".as_slice() {
+        Some(Line::Command(Command::Close(channel(k)?)))
+    } else if word == b"len".as_slice() {
+        Some(Line::Command(Command::Len(channel(k)?)))
+    } else if word == b"cap".as_slice() {
+        Some(Line::Command(Command::Cap(channel(k)?)))
     } else {
         None
+    }
+}
+
+/// What a line of three words says.
+fn with_two(word: &[u8], c: &[u8], v: &[u8]) -> Option<Line>
+    ensures { result ≡ said_with_two word.now c.now v.now }
+{
+    if word == b"send".as_slice() {
+        Some(Line::Command(Command::Send(channel(c)?, value(v)?)))
+    } else {
+        None
+    }
+}
+
+/// What a line of these words says, if it is no comment.
+fn by_words(words: &[&[u8]]) -> Option<Line>
+    ensures { result ≡ said_by_words (map (λ word. word.now) words.now) }
+{
+    match words {
+        [] => Some(Line::Nothing),
+        [word] => alone(word),
+        [word, k] => with(word, k),
+        [word, c, v] => with_two(word, c, v),
+        _ => None,
     }
 }
 
@@ -72,11 +138,8 @@ pub fn line_of(alloc: Global, line: &[u8]) -> Result<Option<Line>, AllocError>
 {
     let words = words(alloc, line)?;
     let said = match words.as_slice() {
-        [] => Some(Line::Nothing),
         [first, ..] if first.starts_with(b"#") => Some(Line::Nothing),
-        [word] => alone(word),
-        [word, k] => with_number(word, k),
-        _ => None,
+        words => by_words(words),
     };
     Ok(said)
 }

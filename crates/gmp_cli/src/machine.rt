@@ -98,14 +98,15 @@ impl Machine {
     pub(crate) fn open(
         alloc: Global,
         limits: Limits,
+        capacities: &[u32],
         bodies: Vec<ScriptBody>,
     ) -> Result<Self, Refusal>
         requires { limits.machines ≡ 1 }
-        ensures within { IfOk result (λ _. AreLimits limits (length bodies.items) []) }
-        ensures log { IfOk result (λ m. m.book.log ≡ opening_log RUN limits (length bodies.items) []) }
+        ensures within { IfOk result (λ _. AreLimits limits (length bodies.items) capacities.now) }
+        ensures log { IfOk result (λ m. m.book.log ≡ opening_log RUN limits (length bodies.items) capacities.now) }
         ensures drives { IfOk result (λ m. Driving m Hand.Start) }
         ensures why { IfErr result (λ why. (why ≡ BadLimits) ⊎ (why ≡ OutOfMemory)) }
-        ensures limits { IfErr result (λ why. why ≡ BadLimits → ¬ (AreLimits limits (length bodies.items) [])) }
+        ensures limits { IfErr result (λ why. why ≡ BadLimits → ¬ (AreLimits limits (length bodies.items) capacities.now)) }
     {
         let Ok(queue) = HeapCircularBuffer::with_capacity(alloc, bodies.len()) else {
             return Err(Refusal::OutOfMemory);
@@ -113,7 +114,7 @@ impl Machine {
         let Ok(owners) = vec![in alloc; (); limits.procs as usize] else {
             return Err(Refusal::OutOfMemory);
         };
-        match Book::open(alloc, RUN, limits, &[], bodies, owners) {
+        match Book::open(alloc, RUN, limits, capacities, bodies, owners) {
             Err(
                 Unopened {
                     why,

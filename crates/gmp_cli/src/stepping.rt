@@ -1,12 +1,12 @@
 //! One run of a script.
 
-ghost use Rattle.std.specs.Prelude.{◌≡◌, ◌≢◌, ◌<◌, ◌⊎◌, ℕ, [], length, IfOk, IfErr, IfSome};
+ghost use Rattle.std.specs.Prelude.{◌≡◌, ◌≢◌, ◌<◌, ◌⊎◌, ℕ, length, IfOk, IfErr, IfSome};
 ghost use Rattle.gmp_cli.specs.declared.said.Said.TheVariants.{BadLine, InputTooLong, BadLimits};
 ghost use Rattle.gmp_cli.specs.Lines.{lines, IsFirstBad};
 ghost use Rattle.gmp_cli.specs.Step.{limits_of, RunsOnOne, IsOutOfLimits, IsTraceOf, IsStockOf, WritesTrace};
 ghost use Rattle.gmp_trace.specs.Text.{content};
 
-use crate::commands::ScriptBody;
+use crate::commands::Script;
 use crate::ended::Ended;
 use crate::machine::Machine;
 use crate::options::Settings;
@@ -30,20 +30,21 @@ fn limits_of(settings: &Settings) -> Limits
     }
 }
 
-/// Runs the bodies on one machine with one processor.
-fn run(alloc: Global, limits: Limits, bodies: Vec<ScriptBody>) -> Result<Trace, Ended>
+/// Runs the script on one machine with one processor.
+fn run(alloc: Global, limits: Limits, script: Script) -> Result<Trace, Ended>
     ensures ok { IfOk result (λ x. IsTraceOf limits (content x)) }
-    ensures stock { IfOk result (λ x. x.bodies ≡ length bodies.items) }
-    ensures channels { IfOk result (λ x. x.capacities.items ≡ []) }
+    ensures stock { IfOk result (λ x. x.bodies ≡ length script.bodies.items) }
+    ensures channels { IfOk result (λ x. x.capacities.items ≡ script.capacities.items) }
     ensures over { IfOk result (λ x. x.end ≢ End.Running) }
     ensures one { IfOk result (λ _. (limits.procs ≡ 1) × (limits.machines ≡ 1)) }
     ensures err { IfErr result (λ e. (e.said ≡ BadLimits) ⊎ (e.said ≡ Said.OutOfMemory)) }
-    ensures limits { IfErr result (λ e. e.said ≡ BadLimits → ¬ (RunsOnOne limits (length bodies.items))) }
+    ensures limits { IfErr result (λ e. e.said ≡ BadLimits → ¬ (RunsOnOne limits (length script.bodies.items) script.capacities.items)) }
 {
     if limits.procs != 1 || limits.machines != 1 {
         return Err(Ended::bad_limits());
     }
-    let machine = match Machine::open(alloc, limits, bodies) {
+    let Script { capacities, bodies } = script;
+    let machine = match Machine::open(alloc, limits, &capacities, bodies) {
         Ok(machine) => machine,
         Err(Refusal::BadLimits) => return Err(Ended::bad_limits()),
         Err(_) => return Err(Ended::out_of_memory()),
@@ -74,7 +75,7 @@ fn traced<R: Read>(alloc: Global, settings: &Settings, reader: &mut R) -> Result
         → IfSome (R.remaining reader.old) (λ all. IsOutOfLimits (limits_of settings.now) all)) }
 {
     match script(alloc, reader) {
-        Ok(script) => run(alloc, limits_of(settings), script.bodies),
+        Ok(script) => run(alloc, limits_of(settings), script),
         Err(ended) => Err(ended),
     }
 }

@@ -158,52 +158,181 @@ fn input_has_a_limit(rt: HostRuntime) -> Result<(), Fail> {
     Ok(())
 }
 
+/// The capacities and the bodies of the script that a text is, or its first bad line.
+fn scripted(rt: &impl Abort, alloc: Global, text: &str) -> Result<String, Fail> {
+    match script(alloc, &mut text.as_bytes()) {
+        Ok(Script { capacities, bodies }) => {
+            let mut commands = Vec::new(alloc);
+            for body in &bodies {
+                commands.push(body.commands())?;
+            }
+            Ok(format!(in alloc; "{capacities:?} {commands:?}")?)
+        }
+        Err(e) => match e.said {
+            Said::BadLine(line) => Ok(format!(in alloc; "line {line}")?),
+            said => panic!(rt; "{text}: {said}"),
+        },
+    }
+}
+
 #[test]
-fn good_scripts_are_read(rt: HostRuntime) -> Result<(), Fail> {
+fn scripts_are_read(rt: HostRuntime) -> Result<(), Fail> {
     for (text, want) in [
-        ("", "[]"),
-        ("body", "[[]]"),
-        ("body\nyield\nexit\n", "[[Yield, Exit]]"),
+        ("", "[] []"),
+        ("body", "[] [[]]"),
+        ("body\nyield\nexit\n", "[] [[Yield, Exit]]"),
         ("# a\ttab\r\n\n   \nbody # no\n", "line 4"),
         (
             "#c\r\n  body  \n\n  go   007 \n # x\nbody\n",
-            "[[Go(GNo(7))], []]",
+            "[] [[Go(GNo(7))], []]",
         ),
         (
             "body\ngo 65535\nagain\nyield",
-            "[[Go(GNo(65535)), Again, Yield]]",
+            "[] [[Go(GNo(65535)), Again, Yield]]",
         ),
-        ("body\ngo 00000000000000000001", "[[Go(GNo(1))]]"),
+        ("body\ngo 00000000000000000001", "[] [[Go(GNo(1))]]"),
         ("body\ngo 000000000000000000001", "line 2"),
         ("body\ngo 65536", "line 2"),
         ("body\ngo +1", "line 2"),
+        ("body\ngo nil", "line 2"),
         ("body\ngo", "line 2"),
         ("body\ngo 1 2", "line 2"),
         ("body\nyield 1", "line 2"),
         ("\nyield\nbody", "line 2"),
         ("body\nagain", "line 2"),
         ("body\nexit\nbody\n\nagain", "line 5"),
+        ("body\nlen nil\nagain", "[] [[Len(None), Again]]"),
         ("body\n\tyield", "line 2"),
         ("body\r\nyield", "line 1"),
-        ("body\nsend 0", "line 2"),
-        ("chan 1\nbody", "line 1"),
+        ("clock 1\nbody", "line 1"),
         ("body\npark\nsleep 1", "line 2"),
+        ("body\nready 1", "line 2"),
+        ("body\nselect recv:0", "line 2"),
+        ("body\nblock 1", "line 2"),
         ("Body", "line 1"),
     ] {
-        let got = match script(rt.alloc(), &mut text.as_bytes()) {
-            Ok(script) => {
-                let mut bodies = Vec::new(rt.alloc());
-                for body in &script.bodies {
-                    bodies.push(body.commands())?;
-                }
-                format!(in rt.alloc(); "{bodies:?}")?
-            }
-            Err(e) => match e.said {
-                Said::BadLine(line) => format!(in rt.alloc(); "line {line}")?,
-                said => panic!(rt; "{text}: {said}"),
-            },
-        };
+        let got = scripted(&rt, rt.alloc(), text)?;
         assert_eq!(rt; got.as_str(), want, "{text}");
+    }
+    Ok(())
+}
+
+#[test]
+fn opening_channels_are_read(rt: HostRuntime) -> Result<(), Fail> {
+    for (text, want) in [
+        ("chan 1", "[1] []"),
+        (
+            "chan 3\n\n# c\n  chan   001 \nchan 2\nbody\nyield\nbody",
+            "[3, 1, 2] [[Yield], []]",
+        ),
+        // These are bad limits, and no bad lines.
+        (
+            "chan 4097\nchan 4294967295\nbody",
+            "[4097, 4294967295] [[]]",
+        ),
+        ("chan 00000000004294967295\nbody", "[4294967295] [[]]"),
+        ("chan 000000000000000000001\nbody", "line 1"),
+        ("chan 4294967296\nbody", "line 1"),
+        ("chan 18446744073709551616\nbody", "line 1"),
+        ("chan\nbody", "line 1"),
+        ("chan 1 2\nbody", "line 1"),
+        ("chan 1 # no\nbody", "line 1"),
+        ("chan nil\nbody", "line 1"),
+        ("chan -1\nbody", "line 1"),
+        ("chan 1\nCHAN 1\nbody", "line 2"),
+        ("chan 1\nchan\t1\nbody", "line 2"),
+        ("body\nchan 1", "line 2"),
+        ("chan 1\nbody\nyield\nbody\n\nchan 1", "line 6"),
+        ("chan 1\nrecv 0\nbody", "line 2"),
+        ("make 1\nbody", "line 1"),
+        ("send 0 1\nbody", "line 1"),
+    ] {
+        let got = scripted(&rt, rt.alloc(), text)?;
+        assert_eq!(rt; got.as_str(), want, "{text}");
+    }
+    Ok(())
+}
+
+#[test]
+fn commands_on_channels_are_read(rt: HostRuntime) -> Result<(), Fail> {
+    for (command, want) in [
+        ("make 0", "Make(0)"),
+        ("make 004096", "Make(4096)"),
+        ("make 4294967295", "Make(4294967295)"),
+        ("send 0 1", "Send(Some(CNo(0)), 1)"),
+        (
+            "send nil 18446744073709551615",
+            "Send(None, 18446744073709551615)",
+        ),
+        (
+            " send  00065535  00000000000000000007 ",
+            "Send(Some(CNo(65535)), 7)",
+        ),
+        ("recv 0", "Recv(Some(CNo(0)))"),
+        ("recv 00000000000000065535", "Recv(Some(CNo(65535)))"),
+        ("recv nil", "Recv(None)"),
+        ("close 1", "Close(Some(CNo(1)))"),
+        ("close nil", "Close(None)"),
+        ("len 02", "Len(Some(CNo(2)))"),
+        ("len nil", "Len(None)"),
+        ("cap 3", "Cap(Some(CNo(3)))"),
+        ("cap nil", "Cap(None)"),
+    ] {
+        let text = format!(in rt.alloc(); "chan 1\nbody\n{command}\nyield")?;
+        let want = format!(in rt.alloc(); "[1] [[{want}, Yield]]")?;
+        let got = scripted(&rt, rt.alloc(), text.as_str())?;
+        assert_eq!(rt; got.as_str(), want.as_str(), "{command}");
+    }
+    Ok(())
+}
+
+#[test]
+fn bad_commands_on_channels_are_refused(rt: HostRuntime) -> Result<(), Fail> {
+    for command in [
+        "make",
+        "make nil",
+        "make 4294967296",
+        "make 000000000000000000001",
+        "make 1 2",
+        "Make 1",
+        "send",
+        "send 0",
+        "send nil",
+        "send 0 1 2",
+        "send 65536 1",
+        "send 000000000000000000001 1",
+        "send 0 18446744073709551616",
+        "send 0 000000000000000000001",
+        "send 0 nil",
+        "send 0 +1",
+        "send NIL 1",
+        "SEND 0 1",
+        "recv",
+        "recv 65536",
+        "recv 0 1",
+        "recv nil 1",
+        "recv Nil",
+        "recv nill",
+        "recv -1",
+        "RECV 0",
+        "close",
+        "close 65536",
+        "close 0 0",
+        "Close 0",
+        "len",
+        "len 65536",
+        "len nil nil",
+        "LEN 0",
+        "cap",
+        "cap 65536",
+        "cap 0 0",
+        "Cap 0",
+        "nil",
+        "nil 0",
+    ] {
+        let text = format!(in rt.alloc(); "chan 1\nbody\nyield\n{command}\nyield")?;
+        let got = scripted(&rt, rt.alloc(), text.as_str())?;
+        assert_eq!(rt; got.as_str(), "line 4", "{command}");
     }
     Ok(())
 }
@@ -225,10 +354,18 @@ fn comments_may_have_any_bytes(rt: HostRuntime) {
 #[test]
 fn bodies_ask_in_order(rt: HostRuntime) -> Result<(), Fail> {
     for (text, asks) in [
-        ("body", "Exit Exit"),
-        ("body\nyield\ngo 3", "Yield Go(GNo(3)) Exit Exit"),
-        ("body\nyield\nexit\nagain", "Yield Exit Yield Exit Yield"),
-        ("body\nyield\nagain\nexit", "Yield Yield Yield"),
+        ("body", "Exit/Exit"),
+        ("body\nyield\ngo 3", "Yield/Go(GNo(3))/Exit/Exit"),
+        ("body\nyield\nexit\nagain", "Yield/Exit/Yield/Exit/Yield"),
+        ("body\nyield\nagain\nexit", "Yield/Yield/Yield"),
+        (
+            "chan 1\nbody\nmake 2\nsend 0 5\nrecv 0\nclose 1\nlen 2\ncap 3",
+            "Make(2)/Send(Some(CNo(0)), 5)/Recv(Some(CNo(0)))/Close(Some(CNo(1)))/Len(Some(CNo(2)))/Cap(Some(CNo(3)))/Exit",
+        ),
+        (
+            "body\nsend nil 7\nrecv nil\nclose nil\nlen nil\ncap nil\nagain",
+            "Send(None, 7)/Recv(None)/Close(None)/Len(None)/Cap(None)/Send(None, 7)/Recv(None)",
+        ),
     ] {
         let mut bodies = match script(rt.alloc(), &mut text.as_bytes()) {
             Ok(script) => script.bodies,
@@ -237,7 +374,7 @@ fn bodies_ask_in_order(rt: HostRuntime) -> Result<(), Fail> {
         let Some(body) = bodies.first_mut() else {
             panic!(rt; "{text}: no body");
         };
-        for want in asks.split(' ') {
+        for want in asks.split('/') {
             let ask = body.resume(Woke::Done);
             assert_eq!(rt; format!(in rt.alloc(); "{ask:?}")?.as_str(), want, "{text}");
         }

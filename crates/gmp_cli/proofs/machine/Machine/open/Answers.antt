@@ -11,6 +11,6 @@ returns-in-Some-clause-drives c =
     let first : Pass = record { run = 0; m = machine; calls = 0; seen = 0 } in
     let passes : c.in-Ok-open.passes.items ≡ first ∷ [] = c.in-Ok-open.ensures.passes ∙ ap (opening_passes 0) c.requires in
     let pass : c.in-Some.pass ≡ first = search (rules, passes) in
-    let book : c.in-Ok-open.book ≡ opening_book 0 c.args.limits [] c.args.bodies.items c.in-Ok-vec.owners.items = search rules in
+    let book : c.in-Ok-open.book ≡ opening_book 0 c.args.limits c.args.capacities.now c.args.bodies.items c.in-Ok-vec.owners.items = search rules in
     let queue : c.in-Ok.queue ≡ buffer [] (length c.args.bodies.items) = search rules in
-    rw (book, pass, queue) (opening_drives 0 c.args.limits c.args.bodies.items c.in-Ok-vec.owners.items c.in-Ok-open.ensures.within)
+    rw (book, pass, queue) (opening_drives 0 c.args.limits c.args.capacities.now c.args.bodies.items c.in-Ok-vec.owners.items c.in-Ok-open.ensures.within)
