@@ -1,7 +1,6 @@
 -- What becomes of a goroutine by the reply to what it asked.
 use Rattle.std.specs.Prelude.{◌≡◌, ℕ, Bool, true, false, Option, Some, None, List, slice_set, if◌then◌else◌}
 use Rattle.std.specs.Option.{option_map}
-use Rattle.gmp_base.specs.declared.ask.Woke.{Woke}
 use Rattle.gmp_base.specs.declared.ask.Woke.TheVariants as woke
 use Rattle.gmp_base.specs.declared.number.Readiness.{Readiness}
 use Rattle.gmp_base.specs.declared.pass.Pass.{Pass}
@@ -9,7 +8,6 @@ use Rattle.gmp_base.specs.declared.refusal.Refusal.{Refusal}
 use Rattle.gmp_base.specs.declared.refusal.Refusal.TheVariants.{OutOfMemory}
 use Rattle.gmp_base.specs.declared.value.Held.{Held}
 use Rattle.gmp_base.specs.declared.value.Ticket.{Ticket}
-use Rattle.gmp_base.specs.Values.{readiness_of}
 use Rattle.gmp_seq.specs.declared.call.Call.{Call}
 use Rattle.gmp_seq.specs.declared.call.Relay.{Relay}
 use Rattle.gmp_seq.specs.declared.call.Reply.{Reply}
@@ -21,18 +19,6 @@ use Rattle.gmp_book.specs.declared.went.Moved.TheVariants.{On, Waits}
 use Rattle.gmp_book.specs.declared.went.Went.{Went}
 use Rattle.gmp_book.specs.Book.{Contents, SameValues, TakesBack}
 use Rattle.gmp_book.specs.Log.{Log, Records}
-
--- The reply that a go stands for
-
--- with a ticket, that ticket, and else the fault that is told
-abbrev pub started_with : Option Ticket → Woke → Reply
-started_with (Some t) told = reply.Ticket (readiness_of t)
-started_with None (woke.Fault f) = reply.Fault f
-started_with None told = reply.Nothing
-
--- what a go that went on so was answered
-abbrev pub went : {T : Type 0} → Went T → Reply
-went w = started_with w.push w.held.woke
 
 -- What a reply says to the goroutine that asked
 

@@ -3,6 +3,7 @@ ghost use Rattle.std.specs.Prelude.{◌≡◌, ◌↔◌, ◌<◌, ◌++◌, [],
 ghost use Rattle.gmp_seq.specs.declared.status.Place.TheVariants.{Shelf, Out};
 ghost use Rattle.gmp_seq.specs.Fits.{AreLimits};
 ghost use Rattle.gmp_seq.specs.Machines.{is_parked};
+ghost use Rattle.gmp_base.specs.declared.ask.Woke.{Woke};
 ghost use Rattle.gmp_base.specs.declared.number.CNo.{CNo};
 ghost use Rattle.gmp_seq.specs.Channels.{items_at};
 ghost use Rattle.gmp_seq.specs.Laws.{NobodyCouldProceed};
@@ -18,8 +19,9 @@ mod ending;
 
 use crate::ledger::{Exited, Ledger, Parking};
 use crate::opening::{Unopened, first_passes, may_open};
+use crate::replies::started;
 use crate::went::Went;
-use gmp_base::{GNo, Held, MNo, Pass, Proc, Refusal, Refused, Ticket, Woke};
+use gmp_base::{GNo, Held, MNo, Pass, Proc, Refusal, Refused, Ticket};
 use gmp_seq::{Call, Entry, Limits, Outcome, Reply, Status};
 use gmp_slots::Slots;
 use std::alloc::Global;
@@ -52,7 +54,7 @@ impl<T, Q> Model for Book<T, Q> {
 
 impl<T, Q> Book<T, Q> {
     ghost use Rattle.gmp_book.specs.Book.{IsBook, SameValues, HandsOut, TakesBack, HandsOutOwner, TakesBackOwner, MayOpen, WhyUnopened, opening_book, opening_passes};
-    ghost use Rattle.gmp_book.specs.Went.{went};
+    ghost use Rattle.gmp_book.specs.Went.{Proceeds};
 
     /// A book of a run that has made no call, and one pass for each machine, in order.
     ///
@@ -210,27 +212,12 @@ impl<T, Q> Book<T, Q> {
         ensures refused { why_refused result ≡ refusal_of self.old.log pass.old (Call.Go body) (by_held held) }
         ensures back { IfErr result (λ r. r.back ≡ held) }
         ensures err { OnErr result ((self.new ≡ self.old) × (pass.new ≡ pass.old)) }
-        ensures entry { IfOk result (λ w. Records self.old.log pass.old (Call.Go body) (went w) self.new.log pass.new) }
-        ensures held { IfOk result (λ w. w.held ≡ record held { woke = w.held.woke }) }
-        ensures done { IfOk result (λ w. IfSome w.push (λ _. w.held.woke ≡ Woke.Done)) }
-        ensures run { IfOk result (λ w. IfSome w.push (λ t. t.run ≡ self.old.log.run)) }
+        ensures entry { IfOk result (λ w. Proceeds self.old.log pass.old (Call.Go body) held self.new.log pass.new w) }
         ensures values { OnOk result (SameValues self.old self.new) }
     {
         match self.ledger.try_go(pass, held.run, held.g, body) {
             Err(why) => Err(Refused { why, back: held }),
-            Ok(started) => {
-                let (run, g, _, own) = held.open();
-                Ok(match started {
-                    Ok(r) => Went {
-                        held: Held::of(run, g, Woke::Done, own),
-                        push: Some(Ticket::of(run, r.g, r.epoch)),
-                    },
-                    Err(fault) => Went {
-                        held: Held::of(run, g, Woke::Fault(fault), own),
-                        push: None,
-                    },
-                })
-            }
+            Ok(answer) => Ok(Went::by(held, started(answer))),
         }
     }
 

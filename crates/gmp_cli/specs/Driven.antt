@@ -1,9 +1,11 @@
 -- What one machine keeps while it drives a run.
-use Rattle.std.specs.Prelude.{◌≡◌, ℕ, ◌+◌, ◌≤◌, ◌<◌, Bool, true, false, Option, None, Some, List, [], ◌∷◌, ◌++◌, length, map, slice_set}
+use Rattle.std.specs.Prelude.{◌≡◌, ℕ, ◌+◌, ◌≤◌, ◌<◌, ◌==◌, Bool, true, false, not, Option, None, Some, List, [], ◌∷◌, ◌++◌, length, map, slice_set, is_some}
+use Rattle.circular_buffer.specs.Buffer.{keep_last}
 use Rattle.gmp_base.specs.declared.ask.Ask.{Ask}
 use Rattle.gmp_base.specs.declared.ask.Ask.TheVariants as ask
 use Rattle.gmp_base.specs.declared.number.GNo.{GNo}
 use Rattle.gmp_base.specs.declared.number.MNo.{MNo}
+use Rattle.gmp_base.specs.declared.number.PNo.{PNo}
 use Rattle.gmp_base.specs.declared.number.Readiness.{Readiness}
 use Rattle.gmp_base.specs.declared.pass.Pass.{Pass}
 use Rattle.gmp_base.specs.Values.{readiness_of}
@@ -14,17 +16,17 @@ use Rattle.gmp_seq.specs.declared.call.Call.{Call}
 use Rattle.gmp_seq.specs.declared.call.Call.TheVariants as call
 use Rattle.gmp_seq.specs.declared.call.Entry.{Entry}
 use Rattle.gmp_seq.specs.declared.status.Status.{Status}
-use Rattle.gmp_seq.specs.declared.status.Status.TheVariants.{Ready}
+use Rattle.gmp_seq.specs.declared.status.Status.TheVariants.{Running, Calling, Waiting}
 use Rattle.gmp_seq.specs.Fits.{AreLimits}
-use Rattle.gmp_seq.specs.Machines.{Machines, IsAwake, has_processor, some_idle, spins}
+use Rattle.gmp_seq.specs.Machines.{Machines, Holds, IsAwake, has_processor, set_holder, some_idle, spins}
 use Rattle.gmp_seq.specs.Run.{IsLegal}
 use Rattle.gmp_seq.specs.State.{State}
-use Rattle.gmp_seq.specs.Table.{Table, epoch_at, is_out, is_running_on}
+use Rattle.gmp_seq.specs.Table.{Table, epoch_at, is_out, is_running_on, is_shelved, some_status}
 use Rattle.gmp_slots.specs.Slots.{is_vacant, all_filled}
-use Rattle.gmp_table.specs.Kept.{IsListing, passes_at}
+use Rattle.gmp_table.specs.Kept.{IsListing}
 use Rattle.gmp_cli.specs.declared.machine.Hand.{Hand}
 use Rattle.gmp_cli.specs.declared.machine.Machine.{Machine}
-use Rattle.gmp_cli.specs.declared.machine.Hand.TheVariants.{Start, Look, Claim, Run, Poke}
+use Rattle.gmp_cli.specs.declared.machine.Hand.TheVariants.{Start, Look, Claim, Drop, Park, Poke, Run}
 
 -- What callers see
 
@@ -49,6 +51,12 @@ pub record GoesOnBy (call : Call) (old new : Log) : Type 0 where
 abbrev pub call_of : Ask → Call
 call_of ask.Yield = call.Yield
 call_of (ask.Go g) = call.Go g
+call_of (ask.Make capacity) = call.Make capacity
+call_of (ask.Send c v) = call.Send c v
+call_of (ask.Recv c) = call.Recv c
+call_of (ask.Close c) = call.Close c
+call_of (ask.Len c) = call.Len c
+call_of (ask.Cap c) = call.Cap c
 call_of _ = call.Exit
 
 -- the report tells a run that was opened so: its history is legal, and its outcome is that of the state that the history leads to
@@ -66,28 +74,35 @@ pub record IsReportOf {T Q : Type 0} (log : Log) (report : Report T Q) : Type 0 
 abbrev pub machine : MNo
 machine = record { 0 = 0 }
 
--- where it stands: the ticket in hand, who runs, and whether it holds its processor
+-- where it stands: the ticket in hand, who runs, the processor that it holds, and whether it found no ticket anywhere
 pub record Stand : Type 0 where
   pub hand : List Readiness
   pub running : List GNo
-  pub equipped : Bool
+  pub holding : Option PNo
+  pub idle : Bool
 
 abbrev pub starting : Stand
-starting = record { hand = []; running = []; equipped = false }
+starting = record { hand = []; running = []; holding = None; idle = false }
 
-abbrev pub looking : Stand
-looking = record { hand = []; running = []; equipped = true }
+abbrev pub looking : PNo → Stand
+looking p = record { hand = []; running = []; holding = Some p; idle = false }
 
-abbrev pub claiming : Readiness → Stand
-claiming r = record { hand = r ∷ []; running = []; equipped = true }
+abbrev pub claiming : PNo → Readiness → Stand
+claiming p r = record { hand = r ∷ []; running = []; holding = Some p; idle = false }
 
-abbrev pub running_one : GNo → Stand
-running_one g = record { hand = []; running = g ∷ []; equipped = true }
+abbrev pub running_one : PNo → GNo → Stand
+running_one p g = record { hand = []; running = g ∷ []; holding = Some p; idle = false }
 
--- the processor is idle at the start, and held from then on
-abbrev pub HoldsAt : Bool → Machines → Type 0
-HoldsAt false w = IsAwake w machine × (has_processor w machine ≡ false) × (some_idle w ≡ true) × (spins w machine ≡ false)
-HoldsAt true w = IsAwake w machine × (has_processor w machine ≡ true) × (spins w machine ≡ false)
+abbrev pub dropping : PNo → Stand
+dropping p = record { hand = []; running = []; holding = Some p; idle = true }
+
+abbrev pub parking : Stand
+parking = record { hand = []; running = []; holding = None; idle = true }
+
+-- the machine is awake, and holds this processor alone, or none where one is idle
+abbrev pub HoldsAt : Option PNo → Machines → Type 0
+HoldsAt None w = IsAwake w machine × (has_processor w machine ≡ false) × (some_idle w ≡ true) × (spins w machine ≡ false)
+HoldsAt (Some p) w = IsAwake w machine × Holds w machine p × (has_processor (set_holder w p None) machine ≡ false) × (spins w machine ≡ false)
 
 abbrev pub owners : List Readiness → List GNo
 owners tickets = map (λ (r : Readiness). r.g) tickets
@@ -97,25 +112,37 @@ abbrev pub AreIssued : Table → List Readiness → Type 0
 AreIssued t [] = Unit {0}
 AreIssued t (r ∷ tickets) = (epoch_at t r.g ≡ r.epoch) × AreIssued t tickets
 
--- the tickets that are out are these, each once, and the machine runs this goroutine, if one
+-- it may come to be ready though the machine does nothing: another machine has it, or it waits with a deadline
+abbrev pub is_elsewhere : Status → Bool
+is_elsewhere (Running m) = not (machine.0 == m.0)
+is_elsewhere (Calling m) = true
+is_elsewhere (Waiting w) = is_some w.until
+is_elsewhere _ = false
+
+-- the tickets that are out are these, each once; the machine runs this goroutine, if one; and nobody is elsewhere
 pub record AreTickets (t : Table) (tickets : List Readiness) (running : List GNo) : Type 0 where
   pub outs : IsListing is_out t.goroutines (owners tickets)
   pub issued : AreIssued t tickets
   pub runs : IsListing (is_running_on machine) t.goroutines running
+  pub others : IsListing is_elsewhere t.goroutines []
 
--- ready, or run by the machine
-abbrev pub is_live : Status → Bool
-is_live (Ready place answer) = true
-is_live s = is_running_on machine s
+-- no ticket is in the queue or on the shelf
+pub record NoTicket (t : Table) (queue : List Readiness) : Type 0 where
+  pub queue_is : queue ≡ []
+  pub shelf : some_status is_shelved t ≡ false
 
--- the tickets that are out are in hand or in the queue, and goroutine 0 goes on
+-- the tickets that are out are in hand or in the queue
 pub record IsDriven (log : Log) (queue : List Readiness) (capacity : ℕ) (stand : Stand) (bodies : ℕ) : Type 0 where
   pub tickets : AreTickets log.state.table (stand.hand ++ queue) stand.running
-  -- while the run lasts goroutine 0 is ready or runs
-  pub live : log.state.outcome ≡ None → passes_at is_live log.state.table.goroutines 0 ≡ true
+  pub none : stand.idle ≡ true → NoTicket log.state.table queue
   pub stock : length log.state.table.goroutines ≡ bodies
   pub room : bodies ≤ capacity
-  pub holds : HoldsAt stand.equipped log.state.machines
+  pub holds : HoldsAt stand.holding log.state.machines
+
+-- the queue with the ticket that a call gave out, if it did, last
+abbrev pub pushed : ℕ → List Readiness → Option Readiness → List Readiness
+pushed capacity queue (Some r) = keep_last capacity (queue ++ r ∷ [])
+pushed capacity queue None = queue
 
 -- the pass is the machine's latest
 pub record IsLatest (log : Log) (pass : Pass) : Type 0 where
@@ -130,18 +157,21 @@ pub record IsLatest (log : Log) (pass : Pass) : Type 0 where
 
 abbrev pub stand_of : Hand → Stand
 stand_of Start = starting
-stand_of (Look proc) = looking
-stand_of (Claim proc ticket) = claiming (readiness_of ticket)
-stand_of (Run proc held) = running_one held.g
-stand_of (Poke proc held) = running_one held.g
+stand_of (Look proc) = looking proc.p
+stand_of (Claim proc ticket) = claiming proc.p (readiness_of ticket)
+stand_of (Run proc held) = running_one proc.p held.g
+stand_of (Poke proc held) = running_one proc.p held.g
+stand_of (Drop proc) = dropping proc.p
+stand_of Park = parking
 
 -- each value is of this run
 abbrev pub AreOfRun : ℕ → Hand → Type 0
-AreOfRun run Start = Unit {0}
 AreOfRun run (Look proc) = proc.run ≡ run
 AreOfRun run (Claim proc ticket) = (proc.run ≡ run) × (ticket.run ≡ run)
 AreOfRun run (Run proc held) = (proc.run ≡ run) × (held.run ≡ run)
 AreOfRun run (Poke proc held) = (proc.run ≡ run) × (held.run ≡ run)
+AreOfRun run (Drop proc) = proc.run ≡ run
+AreOfRun run _ = Unit {0}
 
 -- the one place that is empty is this
 pub record LacksOne {X : Type 0} (slots : List (Option X)) (i : ℕ) : Type 0 where
@@ -156,11 +186,12 @@ BodiesBut bodies _ = all_filled bodies ≡ true
 
 -- the owner that is out is that of the processor that is held
 abbrev pub OwnersBut : {X : Type 0} → List (Option X) → Hand → Type 0
-OwnersBut owners Start = all_filled owners ≡ true
 OwnersBut owners (Look proc) = LacksOne owners proc.p.0
 OwnersBut owners (Claim proc ticket) = LacksOne owners proc.p.0
 OwnersBut owners (Run proc held) = LacksOne owners proc.p.0
 OwnersBut owners (Poke proc held) = LacksOne owners proc.p.0
+OwnersBut owners (Drop proc) = LacksOne owners proc.p.0
+OwnersBut owners _ = all_filled owners ≡ true
 
 -- the machine with its book, its pass, its queue, and what it holds
 pub record Drives {T Q : Type 0} (book : Contents T Q) (pass : Pass) (queue : List Readiness) (capacity : ℕ) (hand : Hand) : Type 0 where

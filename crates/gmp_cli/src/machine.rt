@@ -1,5 +1,5 @@
 //! One machine with a processor, and its own queue of tickets: the loop of the driver's table over the book.
-ghost use Rattle.std.specs.Prelude.{◌≡◌, ◌⊎◌, true, false, None, Some, [], length, slice_set, is_none, IfOk, IfErr};
+ghost use Rattle.std.specs.Prelude.{◌≡◌, ◌⊎◌, true, false, None, Some, [], length, slice_set, is_none, IfOk, IfErr, OnOk};
 ghost use Rattle.gmp_base.specs.Values.{readiness_of};
 ghost use Rattle.gmp_seq.specs.Table.{is_outstanding};
 ghost use Rattle.gmp_slots.specs.Slots.{is_vacant};
@@ -7,12 +7,14 @@ ghost use Rattle.gmp_base.specs.declared.refusal.Refusal.TheVariants.{BadLimits,
 ghost use Rattle.gmp_book.specs.Log.{opening_log};
 ghost use Rattle.gmp_seq.specs.Fits.{AreLimits};
 
+mod asking;
+
 use crate::commands::ScriptBody;
 use circular_buffer::HeapCircularBuffer;
-use gmp_base::{Ask, Body, GNo, Held, Pass, Proc, Readiness, Refusal, Ticket};
-use gmp_book::{Book, Report, Unopened, Went};
+use gmp_base::{Held, Pass, Proc, Readiness, Refusal, Ticket};
+use gmp_book::{Book, Report, Unopened};
 use gmp_seq::Limits;
-use std::alloc::Global;
+use std::alloc::{AllocError, Global};
 
 /// The number of the run: there is one.
 const RUN: u64 = 0;
@@ -33,8 +35,12 @@ pub(crate) enum Hand {
     Claim(Proc<()>, Ticket),
     /// It runs a goroutine, which is resumed next.
     Run(Proc<()>, Held<ScriptBody>),
-    /// Its goroutine gave it a ticket, for which another machine may wake.
+    /// A call of its goroutine made others ready, for whom another machine may wake.
     Poke(Proc<()>, Held<ScriptBody>),
+    /// It found no ticket, and gives its processor up.
+    Drop(Proc<()>),
+    /// It holds nothing, and parks.
+    Park,
 }
 
 /// The machine: its book, its pass, and its own queue, first in, first out.
@@ -46,7 +52,7 @@ pub(crate) struct Machine {
     queue: HeapCircularBuffer<Readiness>,
     /// Claims since the last tick, up to 16.
     turns: u8,
-    /// A tick woke somebody, and no other machine was told yet. Nobody waits yet, so it stays false.
+    /// A tick woke somebody, and no other machine was told yet. No goroutine of a script waits with a deadline yet, so it stays false.
     fresh: bool,
 }
 
@@ -90,9 +96,8 @@ fn give_proc(book: &mut Book<ScriptBody, ()>, proc: Proc<()>)
 }
 
 impl Machine {
-    ghost use Rattle.gmp_cli.specs.Driven.{Driving, SameOpening, GoesOn, GoesOnBy, call_of, IsReportOf};
-    ghost use Rattle.gmp_cli.specs.Script.{next_ask};
-    ghost use Rattle.gmp_seq.specs.declared.call.Call.TheVariants.{Yield, Go, Exit};
+    ghost use Rattle.gmp_cli.specs.Driven.{Driving, GoesOn, IsReportOf};
+    ghost use Rattle.gmp_seq.specs.declared.call.Outcome.{Outcome};
 
     /// The machine before its first call.
     pub(crate) fn open(
@@ -138,17 +143,35 @@ impl Machine {
         }
     }
 
-    /// Makes calls until the run has an outcome, and gives back all that it holds then.
-    pub(crate) fn run(self) -> Report<ScriptBody, ()>
+    /// Makes calls until the run has an outcome, and gives back all that it holds then. A channel that is refused memory ends it.
+    pub(crate) fn run(self, alloc: Global) -> Result<Report<ScriptBody, ()>, AllocError>
         requires { Driving self Hand.Start }
-        ensures { IsReportOf self.book.log result }
+        ensures { IfOk result (IsReportOf self.book.log) }
     {
         let mut machine = self;
         let mut hand = Hand::Start;
         while machine.book.outcome().is_none() {
-            hand = machine.call(hand);
+            match machine.call(alloc, hand) {
+                Ok(next) => hand = next,
+                Err(refused) => {
+                    machine.abandon();
+                    return Err(refused);
+                }
+            }
         }
-        machine.close(hand)
+        Ok(machine.close(hand))
+    }
+
+    /// Lets all go, where memory was refused.
+    fn abandon(self) {
+        let Machine {
+            book: _,
+            pass,
+            queue: _,
+            turns: _,
+            fresh: _,
+        } = self;
+        pass.open();
     }
 
     /// Gives all back, and tells the run.
@@ -166,8 +189,8 @@ impl Machine {
         } = self;
         pass.open();
         match hand {
-            Hand::Start => {}
-            Hand::Look(proc) => give_proc(&mut book, proc),
+            Hand::Start | Hand::Park => {}
+            Hand::Look(proc) | Hand::Drop(proc) => give_proc(&mut book, proc),
             Hand::Claim(proc, ticket) => {
                 give_ticket(&mut book, ticket);
                 give_proc(&mut book, proc);
@@ -184,18 +207,20 @@ impl Machine {
     }
 
     /// Makes the next call of the machine's program.
-    fn call(&mut self, hand: Hand) -> Hand
+    fn call(&mut self, alloc: Global, hand: Hand) -> Result<Hand, AllocError>
         requires ongoing { self.old.book.log.state.outcome ≡ None }
         requires drives { Driving self.old hand }
-        ensures drives { Driving self.new result }
-        ensures goes { GoesOn self.old.book.log self.new.book.log }
+        ensures drives { IfOk result (Driving self.new) }
+        ensures goes { OnOk result (GoesOn self.old.book.log self.new.book.log) }
     {
         match hand {
-            Hand::Start => self.start(),
-            Hand::Look(proc) => self.look(proc),
-            Hand::Claim(proc, ticket) => self.claim(proc, ticket),
-            Hand::Run(proc, held) => self.resume(proc, held),
-            Hand::Poke(proc, held) => self.poke(proc, held),
+            Hand::Start => Ok(self.start()),
+            Hand::Look(proc) => Ok(self.look(proc)),
+            Hand::Claim(proc, ticket) => Ok(self.claim(proc, ticket)),
+            Hand::Run(proc, held) => self.resume(alloc, proc, held),
+            Hand::Poke(proc, held) => Ok(self.poke(proc, held)),
+            Hand::Drop(proc) => Ok(self.give_up(proc)),
+            Hand::Park => Ok(self.park()),
         }
     }
 
@@ -228,7 +253,7 @@ impl Machine {
         }
     }
 
-    /// Tells the book the clock's reading. Its tick wakes nobody, since nobody waits.
+    /// Tells the book the clock's reading.
     fn tick(&mut self, proc: Proc<()>) -> Hand
         requires ongoing { self.old.book.log.state.outcome ≡ None }
         requires drives { Driving self.old (Hand.Look proc) }
@@ -247,7 +272,7 @@ impl Machine {
         }
     }
 
-    /// Takes a ticket from the shelf: with no ticket in the own queue, goroutine 0 is on it.
+    /// Takes a ticket from the shelf, where one is on it.
     fn take(&mut self, proc: Proc<()>) -> Hand
         requires ongoing { self.old.book.log.state.outcome ≡ None }
         requires empty { self.old.queue.items ≡ [] }
@@ -257,7 +282,34 @@ impl Machine {
     {
         match self.book.take(&mut self.pass) {
             Ok(Some(ticket)) => Hand::Claim(proc, ticket),
-            Ok(None) => unreachable!(),
+            Ok(None) => Hand::Drop(proc),
+            Err(_) => unreachable!(),
+        }
+    }
+
+    /// Gives its processor up, since there is no ticket.
+    fn give_up(&mut self, proc: Proc<()>) -> Hand
+        requires ongoing { self.old.book.log.state.outcome ≡ None }
+        requires drives { Driving self.old (Hand.Drop proc) }
+        ensures drives { Driving self.new result }
+        ensures goes { GoesOn self.old.book.log self.new.book.log }
+    {
+        match self.book.declare(&mut self.pass, proc) {
+            Ok(()) => Hand::Park,
+            Err(_) => unreachable!(),
+        }
+    }
+
+    /// Parks: with no other machine and no deadline all are asleep then, which ends the run.
+    fn park(&mut self) -> Hand
+        requires ongoing { self.old.book.log.state.outcome ≡ None }
+        requires drives { Driving self.old Hand.Park }
+        ensures drives { Driving self.new result }
+        ensures goes { GoesOn self.old.book.log self.new.book.log }
+        ensures asleep { self.new.book.log.state.outcome ≡ Some Outcome.AllAsleep }
+    {
+        match self.book.park(&mut self.pass) {
+            Ok(_) => Hand::Start,
             Err(_) => unreachable!(),
         }
     }
@@ -297,76 +349,7 @@ impl Machine {
         }
     }
 
-    /// Resumes the body, and makes the call that it asks for.
-    fn resume(&mut self, proc: Proc<()>, held: Held<ScriptBody>) -> Hand
-        requires ongoing { self.old.book.log.state.outcome ≡ None }
-        requires drives { Driving self.old (Hand.Run proc held) }
-        ensures drives { Driving self.new result }
-        ensures goes { GoesOn self.old.book.log self.new.book.log }
-        ensures asked { GoesOnBy (call_of (next_ask held.body)) self.old.book.log self.new.book.log }
-    {
-        let (run, g, woke, mut body) = held.open();
-        let ask = body.resume(woke);
-        let held = Held::of(run, g, woke, body);
-        match ask {
-            Ask::Yield => self.yield_to(proc, held),
-            Ask::Exit => self.exit(proc, held),
-            Ask::Go(body) => self.go(proc, held, body),
-            // A body of a script asks nothing else.
-            _ => unreachable!(),
-        }
-    }
-
-    /// The goroutine goes onto the shelf.
-    fn yield_to(&mut self, proc: Proc<()>, held: Held<ScriptBody>) -> Hand
-        requires ongoing { self.old.book.log.state.outcome ≡ None }
-        requires drives { Driving self.old (Hand.Run proc held) }
-        ensures drives { Driving self.new result }
-        ensures goes { GoesOn self.old.book.log self.new.book.log }
-        ensures call { GoesOnBy Yield self.old.book.log self.new.book.log }
-    {
-        match self.book.yield_to(&mut self.pass, held) {
-            Ok(()) => Hand::Look(proc),
-            Err(_) => unreachable!(),
-        }
-    }
-
-    /// The goroutine ends, and with goroutine 0 the run.
-    fn exit(&mut self, proc: Proc<()>, held: Held<ScriptBody>) -> Hand
-        requires ongoing { self.old.book.log.state.outcome ≡ None }
-        requires drives { Driving self.old (Hand.Run proc held) }
-        ensures drives { Driving self.new result }
-        ensures goes { GoesOn self.old.book.log self.new.book.log }
-        ensures call { GoesOnBy Exit self.old.book.log self.new.book.log }
-    {
-        match self.book.exit(&mut self.pass, held) {
-            Ok(_) => Hand::Look(proc),
-            Err(_) => unreachable!(),
-        }
-    }
-
-    /// Starts a body, whose ticket goes onto the own queue.
-    fn go(&mut self, proc: Proc<()>, held: Held<ScriptBody>, body: GNo) -> Hand
-        requires ongoing { self.old.book.log.state.outcome ≡ None }
-        requires drives { Driving self.old (Hand.Run proc held) }
-        ensures drives { Driving self.new result }
-        ensures goes { GoesOn self.old.book.log self.new.book.log }
-        ensures call { GoesOnBy (Go body) self.old.book.log self.new.book.log }
-    {
-        match self.book.go(&mut self.pass, held, body) {
-            Ok(Went { held, push }) => match push {
-                Some(ticket) => {
-                    self.queue.push_back(ticket.readiness());
-                    ticket.open();
-                    Hand::Poke(proc, held)
-                }
-                None => Hand::Run(proc, held),
-            },
-            Err(_) => unreachable!(),
-        }
-    }
-
-    /// Wakes another machine for the ticket that went onto the own queue, where one is to be woken.
+    /// Wakes another machine for those who are ready by a call of its goroutine, where one is to be woken.
     fn poke(&mut self, proc: Proc<()>, held: Held<ScriptBody>) -> Hand
         requires ongoing { self.old.book.log.state.outcome ≡ None }
         requires drives { Driving self.old (Hand.Poke proc held) }

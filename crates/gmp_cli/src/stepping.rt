@@ -49,7 +49,9 @@ fn run(alloc: Global, limits: Limits, script: Script) -> Result<Trace, Ended>
         Err(Refusal::BadLimits) => return Err(Ended::bad_limits()),
         Err(_) => return Err(Ended::out_of_memory()),
     };
-    let report = machine.run();
+    let Ok(report) = machine.run(alloc) else {
+        return Err(Ended::out_of_memory());
+    };
     Ok(Trace {
         limits: report.limits,
         bodies: report.bodies.len() as u16,
