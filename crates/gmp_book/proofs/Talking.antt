@@ -127,7 +127,7 @@ parks_same m reply.Parked old new (work, astir, minds, is, rest, machines) = (is
 parks_same m _ old new h = absurd h
 
 -- a wait leaves the machines
-waits_machines : (limits : Limits) (m : MNo) (c : Call) (old new : State) → Effect limits m c reply.Waits old new → SameMachines old new
+pub waits_machines : (limits : Limits) (m : MNo) (c : Call) (old new : State) → Effect limits m c reply.Waits old new → SameMachines old new
 waits_machines limits m (call.Send c v) old new (g, runs, (made, (blocked, is, rest, machines))) = machines
 waits_machines limits m (call.Recv c) old new (g, runs, (made, (blocked, is, rest, machines))) = machines
 waits_machines limits m (call.Select cases has_default until) old new (few, (g, runs, (made, no_default, (blocked, is, rest, machines)))) = machines

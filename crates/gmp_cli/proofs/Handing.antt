@@ -1,13 +1,12 @@
 -- What the machine holds is the book's, call by call.
-use Rattle.std.proofs.Common.{◌≡◌, ℕ, zero, suc, ◌+◌, ◌<◌, ◌≤◌, true, List, [], ◌∷◌, ◌++◌, Option, Some, None, length, length-set, map, replicate, set, slice_get, slice_index, is_some, refl, sym, ◌∙◌, ap, subst, arith}
+use Rattle.std.proofs.Common.{◌≡◌, ℕ, zero, suc, ◌+◌, ◌<◌, ◌≤◌, true, false, List, [], ◌∷◌, ◌++◌, Option, Some, None, length, length-set, map, replicate, set, slice_get, slice_index, is_some, refl, sym, ◌∙◌, ap, subst, arith}
 use Rattle.std.proofs.lemmas.Bool.{and_parts}
 use Rattle.std.proofs.lemmas.Grind.{common_steps}
 use Rattle.std.proofs.lemmas.List.{get_or-set_same, length-map, length-replicate}
 use Rattle.std.specs.Option.{option_map}
-use Rattle.std.specs.Prelude.{IfSome, MatchOption}
-use Rattle.circular_buffer.specs.Buffer.{keep_last}
-use Rattle.gmp_base.specs.declared.ask.Fault.{Fault}
-use Rattle.gmp_base.specs.declared.ask.Woke.{Woke}
+use Rattle.std.specs.Prelude.{◌↔◌, IfSome, MatchOption}
+use Rattle.gmp_base.specs.declared.cases.Case.TheVariants as case
+use Rattle.gmp_base.specs.declared.number.CNo.{CNo}
 use Rattle.gmp_base.specs.declared.ask.Woke.TheVariants as woke
 use Rattle.gmp_base.specs.declared.number.GNo.{GNo}
 use Rattle.gmp_base.specs.declared.number.MNo.{MNo}
@@ -18,32 +17,40 @@ use Rattle.gmp_base.specs.declared.value.Proc.{Proc}
 use Rattle.gmp_base.specs.declared.value.Ticket.{Ticket}
 use Rattle.gmp_base.specs.Values.{readiness_of}
 use Rattle.gmp_book.specs.declared.ledger.Exited.{Exited}
-use Rattle.gmp_book.specs.declared.ledger.Exited.TheVariants.{Dead, MainEnded}
+use Rattle.gmp_book.specs.declared.ledger.Parking.{Parking}
+use Rattle.gmp_book.specs.declared.ledger.Parking.TheVariants.{AllAsleep}
+use Rattle.gmp_book.specs.declared.went.Moved.{Moved}
+use Rattle.gmp_book.specs.declared.went.Moved.TheVariants.{On, Waits}
 use Rattle.gmp_book.proofs.Bodies.{all_filled-map}
-use Rattle.gmp_book.specs.Book.{Contents, MayOpen, opening_book, SameValues, HandsOut, HandsOutOwner, TakesBack}
+use Rattle.gmp_book.specs.Book.{Contents, MayOpen, opening_book, SameValues, HandsOut, HandsOutOwner, TakesBack, TakesBackOwner}
 use Rattle.gmp_book.specs.Log.{Log, Records, calls_of}
-use Rattle.gmp_book.specs.Refusals.{IsCurrent, refusal_of, by_ticket}
-use Rattle.gmp_book.proofs.Granted.{claim_granted, take_granted, out_test}
+use Rattle.gmp_book.specs.Refusals.{IsCurrent, refusal_of, by_proc, by_ticket}
+use Rattle.gmp_book.proofs.Granted.{claim_granted, declare_granted, take_granted, out_test}
+use Rattle.gmp_book.proofs.Talking.{waits_machines}
 use Rattle.gmp_book.specs.declared.went.Went.{Went}
-use Rattle.gmp_book.specs.Replies.{acquired, taken, left, poked}
-use Rattle.gmp_book.specs.Went.{started_with, went}
+use Rattle.gmp_book.specs.Replies.{acquired, taken, left, parking, poked}
+use Rattle.gmp_book.specs.Went as by
+use Rattle.gmp_book.specs.Went.{is_wait, ticket_in}
 use Rattle.gmp_seq.specs.declared.call.Call.{Call}
 use Rattle.gmp_seq.specs.declared.call.Call.TheVariants as call
 use Rattle.gmp_seq.specs.declared.call.Limits.{Limits}
 use Rattle.gmp_seq.specs.declared.call.Outcome.TheVariants as outcome
 use Rattle.gmp_seq.specs.declared.call.Reply.{Reply}
 use Rattle.gmp_seq.specs.declared.call.Reply.TheVariants as reply
+use Rattle.gmp_seq.specs.declared.status.Kind.TheVariants as kind
+use Rattle.gmp_seq.specs.declared.status.Offer.{Offer}
 use Rattle.gmp_seq.specs.declared.status.Place.TheVariants.{Shelf}
 use Rattle.gmp_seq.specs.declared.status.Status.TheVariants as status
+use Rattle.gmp_seq.specs.Machines.{Holds, spins}
 use Rattle.gmp_seq.specs.Needs.{Needs}
 use Rattle.gmp_seq.specs.Step.{Step}
-use Rattle.gmp_seq.specs.Table.{is_outstanding, made_ready, set_status}
+use Rattle.gmp_seq.specs.Table.{IsAsleep, RunsNothing, is_outstanding, made_ready, made_wait, set_status}
 use Rattle.gmp_slots.specs.Slots.{is_vacant, all_filled}
 use Rattle.gmp_cli.specs.declared.machine.Hand.{Hand}
-use Rattle.gmp_cli.specs.declared.machine.Hand.TheVariants.{Start, Look, Claim, Run, Poke}
-use Rattle.gmp_cli.specs.Driven.{Drives, GoesOn, IsDriven, IsLatest, LacksOne, machine, looking}
+use Rattle.gmp_cli.specs.declared.machine.Hand.TheVariants.{Start, Look, Claim, Drop, Park, Poke, Run}
+use Rattle.gmp_cli.specs.Driven.{Drives, GoesOn, IsDriven, IsLatest, LacksOne, machine, looking, pushed, running_one}
 use Rattle.gmp_cli.specs.Script.{Commands}
-use Rattle.gmp_cli.proofs.Driving.{opening_driven, started_driven, taken_driven, claimed_driven, poked_driven, poked_on, ticked_driven, gone_driven, faulted_driven, yielded_driven, exited_driven, claim_needs, takes_some}
+use Rattle.gmp_cli.proofs.Driving.{opening_driven, started_driven, taken_driven, none_driven, claimed_driven, poked_driven, poked_on, declared_driven, declare_needs, park_needs, park_asleep, parked_driven, ticked_driven, gone_driven, made_driven, dealt_driven, closed_driven, len_driven, cap_driven, waited_driven, yielded_driven, exited_driven, claim_needs}
 use Rattle.gmp_cli.proofs.Tickets.{first_out}
 
 -- Slots
@@ -114,9 +121,16 @@ may_call log pass latest lasts = record {
 pub claim_allowed : {T Q : Type 0} (book : Contents T Q) (pass : Pass) (queue : List Readiness) (capacity : ℕ) (proc : Proc Unit) (ticket : Ticket) → book.log.state.outcome ≡ None
     → Drives book pass queue capacity (Claim proc ticket) → refusal_of book.log pass (call.Claim (readiness_of ticket)) (by_ticket ticket) ≡ None
 claim_allowed book pass queue capacity proc ticket lasts kept =
-    let needs = claim_needs book.log (readiness_of ticket) queue capacity (length book.bodies) kept.driven in
+    let needs = claim_needs book.log proc.p (readiness_of ticket) queue capacity (length book.bodies) kept.driven in
     rw kept.run.1 (claim_granted book.log pass kept.latest.run (may_call book.log pass kept.latest lasts) (readiness_of ticket)
     (subst (λ (m : MNo). Needs m (call.Claim (readiness_of ticket)) book.log.state) (sym kept.latest.m) needs))
+
+pub declare_allowed : {T Q : Type 0} (book : Contents T Q) (pass : Pass) (queue : List Readiness) (capacity : ℕ) (proc : Proc Unit) → book.log.state.outcome ≡ None
+    → Drives book pass queue capacity (Drop proc) → refusal_of book.log pass call.Declare (by_proc proc) ≡ None
+declare_allowed book pass queue capacity proc lasts kept =
+    let needs = declare_needs book.log proc.p queue capacity (length book.bodies) kept.driven in
+    rw kept.run (declare_granted book.log pass kept.latest.run (may_call book.log pass kept.latest lasts) proc.p
+    (subst (λ (m : MNo). RunsNothing book.log.state.table m × (spins book.log.state.machines m ≡ false) × Holds book.log.state.machines m proc.p) (sym kept.latest.m) needs))
 
 pub take_allowed : {T Q : Type 0} (book : Contents T Q) (pass : Pass) (queue : List Readiness) (capacity : ℕ) (proc : Proc Unit) → book.log.state.outcome ≡ None
     → Drives book pass queue capacity (Look proc) → refusal_of book.log pass call.Take [] ≡ None
@@ -135,9 +149,9 @@ hand_out book pass queue capacity hand proc ticket is kept =
 pub popped_drives : {T Q : Type 0} (book : Contents T Q) (pass : Pass) (queue rest : List Readiness) (capacity : ℕ) (proc : Proc Unit) (r : Readiness) (ticket : Ticket) → queue ≡ r ∷ rest
     → ticket ≡ record { run = pass.run; g = r.g; epoch = r.epoch } → Drives book pass queue capacity (Look proc) → Drives book pass rest capacity (Claim proc ticket)
 popped_drives book pass queue rest capacity proc r ticket first is kept =
-    let driven = subst (λ (q : List Readiness). IsDriven book.log q capacity looking (length book.bodies)) first kept.driven in
+    let driven = subst (λ (q : List Readiness). IsDriven book.log q capacity (looking proc.p) (length book.bodies)) first kept.driven in
     rw is record {
-      driven = record { tickets = driven.tickets; live = driven.live; stock = driven.stock; room = driven.room; holds = driven.holds };
+      driven = record { tickets = driven.tickets; none = λ e. cc; stock = driven.stock; room = driven.room; holds = driven.holds };
       latest = kept.latest;
       run = (kept.run, kept.latest.run);
       bodies = kept.bodies;
@@ -159,7 +173,7 @@ module _ (old new : Contents Commands Unit) (before after : Pass) (queue : List 
   acquire_drives proc records hands kept =
       let step = at_machine call.Acquire (acquired (Some proc.p)) Start records kept in
       record {
-        driven = rw hands.bodies (started_driven old.log new.log (Some proc.p) queue capacity (length old.bodies) step kept.driven);
+        driven = rw hands.bodies (started_driven old.log new.log (Some proc.p) queue capacity (length old.bodies) proc.p refl step kept.driven);
         latest = latest_on old.log new.log before after call.Acquire (acquired (Some proc.p)) records kept.latest;
         run = same_run call.Acquire (acquired (Some proc.p)) records proc.run hands.run;
         bodies = rw hands.bodies kept.bodies;
@@ -177,9 +191,9 @@ module _ (old new : Contents Commands Unit) (before after : Pass) (queue : List 
       → Drives old before queue capacity (Look proc) → Drives new after queue capacity (Claim proc ticket)
   take_drives proc ticket empty records run same kept =
       let step = at_machine call.Take (taken (Some (readiness_of ticket))) (Look proc) records kept in
-      let driven = subst (λ (q : List Readiness). IsDriven old.log q capacity looking (length old.bodies)) empty kept.driven in
+      let driven = subst (λ (q : List Readiness). IsDriven old.log q capacity (looking proc.p) (length old.bodies)) empty kept.driven in
       record {
-        driven = rw (empty, same.bodies) (taken_driven old.log new.log (readiness_of ticket) capacity (length old.bodies) step driven);
+        driven = rw (empty, same.bodies) (taken_driven old.log new.log proc.p (readiness_of ticket) capacity (length old.bodies) step driven);
         latest = latest_on old.log new.log before after call.Take (taken (Some (readiness_of ticket))) records kept.latest;
         run = (same_run call.Take (taken (Some (readiness_of ticket))) records proc.run kept.run, same_run call.Take (taken (Some (readiness_of ticket))) records ticket.run run);
         bodies = rw same.bodies kept.bodies;
@@ -193,18 +207,55 @@ module _ (old new : Contents Commands Unit) (before after : Pass) (queue : List 
       subst (λ (t : Ticket). Drives new after queue capacity (Claim proc t)) same_ticket (take_drives proc x empty records run same kept)
   taken_drives proc ticket None is empty records run same kept = absurd cc
 
-  -- there is a ticket on the shelf
-  pub none_taken : (proc : Proc Unit) → queue ≡ [] → Records old.log before call.Take (taken None) new.log after → Drives old before queue capacity (Look proc) → ⊥
-  none_taken proc empty records kept =
+  -- no ticket was there
+  pub none_drives : (proc : Proc Unit) (o : Option Ticket) → o ≡ None → queue ≡ [] → Records old.log before call.Take (taken (option_map readiness_of o)) new.log after → SameValues old new
+      → Drives old before queue capacity (Look proc) → Drives new after queue capacity (Drop proc)
+  none_drives proc (Some x) is empty records same kept = absurd cc
+  none_drives proc None is empty records same kept =
       let step = at_machine call.Take reply.Nothing (Look proc) records kept in
-      takes_some old.log new.log capacity (length old.bodies) step (subst (λ (q : List Readiness). IsDriven old.log q capacity looking (length old.bodies)) empty kept.driven)
+      let driven = subst (λ (q : List Readiness). IsDriven old.log q capacity (looking proc.p) (length old.bodies)) empty kept.driven in
+      record {
+        driven = rw (empty, same.bodies) (none_driven old.log new.log proc.p capacity (length old.bodies) step driven);
+        latest = latest_on old.log new.log before after call.Take reply.Nothing records kept.latest;
+        run = same_run call.Take reply.Nothing records proc.run kept.run;
+        bodies = rw same.bodies kept.bodies;
+        owners = rw same.owners kept.owners;
+      }
 
-  pub tick_drives : (proc : Proc Unit) (moment n : ℕ) → Records old.log before (call.Tick moment) (reply.Woke n) new.log after → new.log.state.table.goroutines ≡ old.log.state.table.goroutines → SameValues old new
+  pub declare_drives : (proc : Proc Unit) → Records old.log before call.Declare (reply.Idle proc.p) new.log after → TakesBackOwner old new proc → Drives old before queue capacity (Drop proc)
+      → Drives new after queue capacity Park
+  declare_drives proc records back kept =
+      let step = at_machine call.Declare (reply.Idle proc.p) (Drop proc) records kept in
+      record {
+        driven = rw back.bodies (declared_driven old.log new.log proc.p queue capacity (length old.bodies) step kept.driven);
+        latest = latest_on old.log new.log before after call.Declare (reply.Idle proc.p) records kept.latest;
+        run = tt;
+        bodies = rw back.bodies kept.bodies;
+        owners = rw back.owners (kept.owners.rest proc.owner);
+      }
+
+  pub park_drives : (answer : Parking) → Records old.log before call.Park (parking answer) new.log after → (answer ≡ AllAsleep ↔ IsAsleep old.log.state.table) → SameValues old new
+      → Drives old before queue capacity Park → Drives new after queue capacity Start × (new.log.state.outcome ≡ Some outcome.AllAsleep)
+  park_drives answer records asleep same kept =
+      let is = asleep.1 (park_asleep old.log queue capacity (length old.bodies) kept.driven) in
+      let said = subst (λ (a : Parking). Records old.log before call.Park (parking a) new.log after) is records in
+      let step = at_machine call.Park reply.AllAsleep Park said kept in (
+        record {
+          driven = rw same.bodies (parked_driven old.log new.log queue capacity (length old.bodies) step kept.driven);
+          latest = latest_on old.log new.log before after call.Park reply.AllAsleep said kept.latest;
+          run = tt;
+          bodies = rw same.bodies kept.bodies;
+          owners = rw same.owners kept.owners;
+        },
+        step.3,
+      )
+
+  pub tick_drives : (proc : Proc Unit) (moment n : ℕ) → Records old.log before (call.Tick moment) (reply.Woke n) new.log after → SameValues old new
       → Drives old before queue capacity (Look proc) → Drives new after queue capacity (Look proc)
-  tick_drives proc moment n records rows same kept =
+  tick_drives proc moment n records same kept =
       let step = at_machine (call.Tick moment) (reply.Woke n) (Look proc) records kept in
       record {
-        driven = rw same.bodies (ticked_driven old.log new.log moment n queue capacity (length old.bodies) step rows kept.driven);
+        driven = rw same.bodies (ticked_driven old.log new.log proc.p moment n queue capacity (length old.bodies) step kept.driven);
         latest = latest_on old.log new.log before after (call.Tick moment) (reply.Woke n) records kept.latest;
         run = same_run (call.Tick moment) (reply.Woke n) records proc.run kept.run;
         bodies = rw same.bodies kept.bodies;
@@ -216,7 +267,7 @@ module _ (old new : Contents Commands Unit) (before after : Pass) (queue : List 
   claim_drives proc ticket held records hands g kept =
       let step = at_machine (call.Claim (readiness_of ticket)) reply.Held (Claim proc ticket) records kept in
       record {
-        driven = rw (g, hands.bodies, length-set old.bodies held.g.0 None) (claimed_driven old.log new.log (readiness_of ticket) queue capacity (length old.bodies) step kept.driven);
+        driven = rw (g, hands.bodies, length-set old.bodies held.g.0 None) (claimed_driven old.log new.log proc.p (readiness_of ticket) queue capacity (length old.bodies) step kept.driven);
         latest = latest_on old.log new.log before after (call.Claim (readiness_of ticket)) reply.Held records kept.latest;
         run = (same_run (call.Claim (readiness_of ticket)) reply.Held records proc.run kept.run.0, same_run (call.Claim (readiness_of ticket)) reply.Held records held.run hands.run);
         bodies = rw hands.bodies (lacks old.bodies held.g.0 held.body kept.bodies hands.body);
@@ -228,7 +279,7 @@ module _ (old new : Contents Commands Unit) (before after : Pass) (queue : List 
   freshen_drives proc ticket woken records same kept =
       let step = at_machine call.Poke (poked woken) (Claim proc ticket) records kept in
       record {
-        driven = rw same.bodies (poked_driven old.log new.log woken (readiness_of ticket) queue capacity (length old.bodies) step kept.driven);
+        driven = rw same.bodies (poked_driven old.log new.log woken proc.p (readiness_of ticket) queue capacity (length old.bodies) step kept.driven);
         latest = latest_on old.log new.log before after call.Poke (poked woken) records kept.latest;
         run = (same_run call.Poke (poked woken) records proc.run kept.run.0, same_run call.Poke (poked woken) records ticket.run kept.run.1);
         bodies = rw same.bodies kept.bodies;
@@ -240,7 +291,7 @@ module _ (old new : Contents Commands Unit) (before after : Pass) (queue : List 
   poke_drives proc held woken records same kept =
       let step = at_machine call.Poke (poked woken) (Poke proc held) records kept in
       record {
-        driven = rw same.bodies (poked_on old.log new.log woken held.g queue capacity (length old.bodies) step kept.driven);
+        driven = rw same.bodies (poked_on old.log new.log woken proc.p held.g queue capacity (length old.bodies) step kept.driven);
         latest = latest_on old.log new.log before after call.Poke (poked woken) records kept.latest;
         run = (same_run call.Poke (poked woken) records proc.run kept.run.0, same_run call.Poke (poked woken) records held.run kept.run.1);
         bodies = rw same.bodies kept.bodies;
@@ -253,66 +304,117 @@ module _ (old new : Contents Commands Unit) (before after : Pass) (queue : List 
   yield_drives proc held r records ready back kept =
       let step = at_machine call.Yield (reply.Shelved r) (Run proc held) records kept in
       record {
-        driven = rw (back.bodies, length-set old.bodies held.g.0 (Some held.body)) (yielded_driven old.log new.log held.g r queue capacity (length old.bodies) step ready kept.driven);
+        driven = rw (back.bodies, length-set old.bodies held.g.0 (Some held.body)) (yielded_driven old.log new.log proc.p held.g r queue capacity (length old.bodies) step ready kept.driven);
         latest = latest_on old.log new.log before after call.Yield (reply.Shelved r) records kept.latest;
         run = same_run call.Yield (reply.Shelved r) records proc.run kept.run.0;
         bodies = rw back.bodies (kept.bodies.rest held.body);
         owners = rw back.owners kept.owners;
       }
 
-  -- the exit of goroutine 0 is the outcome
-  ended : (e : Exited) (s t : _) → (e ≡ MainEnded) → Step old.log.limits machine call.Exit (left e) s t → t.outcome ≡ Some outcome.MainEnded
-  ended MainEnded s t is step = step.3
-  ended Dead s t is step = absurd cc
-
-  pub exit_drives : (proc : Proc Unit) (held : Held Commands) (e : Exited) → Records old.log before call.Exit (left e) new.log after → (held.g.0 ≡ 0 → e ≡ MainEnded)
+  pub exit_drives : (proc : Proc Unit) (held : Held Commands) (e : Exited) → Records old.log before call.Exit (left e) new.log after
       → new.log.state.table ≡ set_status old.log.state.table held.g status.Dead → TakesBack old new held → Drives old before queue capacity (Run proc held) → Drives new after queue capacity (Look proc)
-  exit_drives proc held e records main dead back kept =
+  exit_drives proc held e records dead back kept =
       let step = at_machine call.Exit (left e) (Run proc held) records kept in
       record {
-        driven = rw (back.bodies, length-set old.bodies held.g.0 (Some held.body))
-            (exited_driven old.log new.log held.g e queue capacity (length old.bodies) step dead (λ g. ended e old.log.state new.log.state (main g) step) kept.driven);
+        driven = rw (back.bodies, length-set old.bodies held.g.0 (Some held.body)) (exited_driven old.log new.log proc.p held.g e queue capacity (length old.bodies) step dead kept.driven);
         latest = latest_on old.log new.log before after call.Exit (left e) records kept.latest;
         run = same_run call.Exit (left e) records proc.run kept.run.0;
         bodies = rw back.bodies (kept.bodies.rest held.body);
         owners = rw back.owners kept.owners;
       }
 
-  pub went_drives : (proc : Proc Unit) (held held' : Held Commands) (k : GNo) (ticket : Ticket) → Records old.log before (call.Go k) (reply.Ticket (readiness_of ticket)) new.log after
-      → held'.g ≡ held.g → held'.run ≡ held.run → SameValues old new → Drives old before queue capacity (Run proc held)
-      → Drives new after (keep_last capacity (queue ++ readiness_of ticket ∷ [])) capacity (Poke proc held')
-  went_drives proc held held' k ticket records g run same kept =
-      let step = at_machine (call.Go k) (reply.Ticket (readiness_of ticket)) (Run proc held) records kept in
+  -- The goroutine goes on
+
+  -- the tickets that are to be pushed are those that the reply gives out
+  same_push : (run : ℕ) (o : Option Readiness) (push : Option Ticket) → push ≡ option_map (λ (r : Readiness). let t : Ticket = record { run = run; g = r.g; epoch = r.epoch } in t) o
+      → option_map readiness_of push ≡ o
+  same_push run None push is = rw is refl
+  same_push run (Some r) push is = rw is refl
+
+  went_drives : (proc : Proc Unit) (held : Held Commands) (w : Went Commands) (asked : Call) (answer : Reply) → Records old.log before asked answer new.log after → by.GoesOn answer held w → SameValues old new
+      → IsDriven new.log (pushed capacity queue (ticket_in answer)) capacity (running_one proc.p held.g) (length old.bodies) → Drives old before queue capacity (Run proc held)
+      → Drives new after (pushed capacity queue (option_map readiness_of w.push)) capacity (Run proc w.held)
+  went_drives proc held w asked answer records goes same driven kept =
+      let g : w.held.g ≡ held.g = ap (λ (h : Held Commands). h.g) goes.told in
+      let run : w.held.run ≡ held.run = ap (λ (h : Held Commands). h.run) goes.told in
       record {
-        driven = rw (g, same.bodies) (gone_driven old.log new.log held.g k (readiness_of ticket) queue capacity (length old.bodies) step kept.driven);
-        latest = latest_on old.log new.log before after (call.Go k) (reply.Ticket (readiness_of ticket)) records kept.latest;
-        run = (same_run (call.Go k) (reply.Ticket (readiness_of ticket)) records proc.run kept.run.0, same_run (call.Go k) (reply.Ticket (readiness_of ticket)) records held'.run (run ∙ kept.run.1));
+        driven = rw (g, same.bodies, same_push held.run (ticket_in answer) w.push goes.push) driven;
+        latest = latest_on old.log new.log before after asked answer records kept.latest;
+        run = (same_run asked answer records proc.run kept.run.0, same_run asked answer records w.held.run (run ∙ kept.run.1));
         bodies = rw (g, same.bodies) kept.bodies;
         owners = rw same.owners kept.owners;
       }
 
-  pub faulted_drives : (proc : Proc Unit) (held held' : Held Commands) (k : GNo) (f : Fault) → Records old.log before (call.Go k) (reply.Fault f) new.log after
-      → held'.g ≡ held.g → held'.run ≡ held.run → SameValues old new → Drives old before queue capacity (Run proc held) → Drives new after queue capacity (Run proc held')
-  faulted_drives proc held held' k f records g run same kept =
-      let step = at_machine (call.Go k) (reply.Fault f) (Run proc held) records kept in
+  pub go_drives : (proc : Proc Unit) (held : Held Commands) (w : Went Commands) (k : GNo) → by.Proceeds old.log before (call.Go k) held new.log after w → SameValues old new
+      → Drives old before queue capacity (Run proc held) → Drives new after (pushed capacity queue (option_map readiness_of w.push)) capacity (Run proc w.held)
+  go_drives proc held w k went same kept =
+      went_drives proc held w (call.Go k) went.answer went.records went.goes same
+      (gone_driven old.log new.log proc.p held.g k went.answer queue capacity (length old.bodies) (at_machine (call.Go k) went.answer (Run proc held) went.records kept) kept.driven) kept
+
+  pub make_drives : (proc : Proc Unit) (held : Held Commands) (w : Went Commands) (room : ℕ) → by.Proceeds old.log before (call.Make room) held new.log after w → SameValues old new
+      → Drives old before queue capacity (Run proc held) → Drives new after (pushed capacity queue (option_map readiness_of w.push)) capacity (Run proc w.held)
+  make_drives proc held w room went same kept =
+      went_drives proc held w (call.Make room) went.answer went.records went.goes same
+      (made_driven old.log new.log proc.p held.g room went.answer queue capacity (length old.bodies) (at_machine (call.Make room) went.answer (Run proc held) went.records kept) kept.driven) kept
+
+  pub len_drives : (proc : Proc Unit) (held : Held Commands) (w : Went Commands) (c : Option CNo) → by.Proceeds old.log before (call.Len c) held new.log after w → SameValues old new
+      → Drives old before queue capacity (Run proc held) → Drives new after (pushed capacity queue (option_map readiness_of w.push)) capacity (Run proc w.held)
+  len_drives proc held w c went same kept =
+      went_drives proc held w (call.Len c) went.answer went.records went.goes same
+      (len_driven old.log new.log proc.p held.g c went.answer queue capacity (length old.bodies) (at_machine (call.Len c) went.answer (Run proc held) went.records kept) kept.driven) kept
+
+  pub cap_drives : (proc : Proc Unit) (held : Held Commands) (w : Went Commands) (c : Option CNo) → by.Proceeds old.log before (call.Cap c) held new.log after w → SameValues old new
+      → Drives old before queue capacity (Run proc held) → Drives new after (pushed capacity queue (option_map readiness_of w.push)) capacity (Run proc w.held)
+  cap_drives proc held w c went same kept =
+      went_drives proc held w (call.Cap c) went.answer went.records went.goes same
+      (cap_driven old.log new.log proc.p held.g c went.answer queue capacity (length old.bodies) (at_machine (call.Cap c) went.answer (Run proc held) went.records kept) kept.driven) kept
+
+  pub close_drives : (proc : Proc Unit) (held : Held Commands) (w : Went Commands) (count : ℕ) (c : Option CNo) → by.ProceedsBy old.log before (call.Close c) held new.log after w count → SameValues old new
+      → Drives old before queue capacity (Run proc held) → Drives new after (pushed capacity queue (option_map readiness_of w.push)) capacity (Run proc w.held)
+  close_drives proc held w count c went same kept =
+      let step = at_machine (call.Close c) went.answer (Run proc held) went.records kept in
+      went_drives proc held w (call.Close c) went.answer went.records went.goes same
+      (closed_driven old.log new.log proc.p held.g c went.answer queue capacity (length old.bodies) step.1.2 kept.driven) kept
+
+  -- The goroutine goes on, or waits
+
+  pub send_drives : (proc : Proc Unit) (held : Held Commands) (moved : Moved Commands) (w : Went Commands) (c : Option CNo) (v : ℕ) → moved ≡ On w
+      → by.ProceedsOrWaits old.log before (call.Send c v) held new.log after moved → by.MovesBody old new held moved → Drives old before queue capacity (Run proc held)
+      → Drives new after (pushed capacity queue (option_map readiness_of w.push)) capacity (Run proc w.held)
+  send_drives proc held moved w c v is went same kept =
+      let moves = subst (λ (m : Moved Commands). by.Moves went.answer held m) is went.moves in
+      let values = subst (λ (m : Moved Commands). by.MovesBody old new held m) is same in
+      let step = at_machine (call.Send c v) went.answer (Run proc held) went.records kept in
+      went_drives proc held w (call.Send c v) went.answer went.records moves.1 values
+      (dealt_driven old.log new.log proc.p held.g step.1.0 (case.Send c v) went.answer queue capacity (length old.bodies) step.1.2 moves.0 kept.driven) kept
+
+  pub recv_drives : (proc : Proc Unit) (held : Held Commands) (moved : Moved Commands) (w : Went Commands) (c : Option CNo) → moved ≡ On w
+      → by.ProceedsOrWaits old.log before (call.Recv c) held new.log after moved → by.MovesBody old new held moved → Drives old before queue capacity (Run proc held)
+      → Drives new after (pushed capacity queue (option_map readiness_of w.push)) capacity (Run proc w.held)
+  recv_drives proc held moved w c is went same kept =
+      let moves = subst (λ (m : Moved Commands). by.Moves went.answer held m) is went.moves in
+      let values = subst (λ (m : Moved Commands). by.MovesBody old new held m) is same in
+      let step = at_machine (call.Recv c) went.answer (Run proc held) went.records kept in
+      went_drives proc held w (call.Recv c) went.answer went.records moves.1 values
+      (dealt_driven old.log new.log proc.p held.g step.1.0 (case.Recv c) went.answer queue capacity (length old.bodies) step.1.2 moves.0 kept.driven) kept
+
+  -- a wait leaves the machines
+  pub wait_drives : (proc : Proc Unit) (held : Held Commands) (moved : Moved Commands) (asked : Call) (offers : List Offer) → moved ≡ Waits
+      → by.ProceedsOrWaits old.log before asked held new.log after moved → by.MovesBody old new held moved
+      → (moved ≡ Waits → new.log.state.table ≡ made_wait old.log.state.table held.g kind.Plain offers None) → Drives old before queue capacity (Run proc held)
+      → Drives new after queue capacity (Look proc)
+  wait_drives proc held moved asked offers is went same waits kept =
+      let answer : went.answer ≡ reply.Waits = subst (λ (m : Moved Commands). by.Moves went.answer held m) is went.moves in
+      let back : TakesBack old new held = subst (λ (m : Moved Commands). by.MovesBody old new held m) is same in
+      let records = subst (λ (r : Reply). Records old.log before asked r new.log after) answer went.records in
+      let machines = waits_machines old.log.limits before.m asked old.log.state new.log.state records.step.1 in
       record {
-        driven = rw (g, same.bodies) (faulted_driven old.log new.log held.g k f queue capacity (length old.bodies) step kept.driven);
-        latest = latest_on old.log new.log before after (call.Go k) (reply.Fault f) records kept.latest;
-        run = (same_run (call.Go k) (reply.Fault f) records proc.run kept.run.0, same_run (call.Go k) (reply.Fault f) records held'.run (run ∙ kept.run.1));
-        bodies = rw (g, same.bodies) kept.bodies;
-        owners = rw same.owners kept.owners;
+        driven = rw (back.bodies, length-set old.bodies held.g.0 (Some held.body)) (waited_driven old.log new.log proc.p held.g offers queue capacity (length old.bodies) (waits is) machines kept.driven);
+        latest = latest_on old.log new.log before after asked reply.Waits records kept.latest;
+        run = same_run asked reply.Waits records proc.run kept.run.0;
+        bodies = rw back.bodies (kept.bodies.rest held.body);
+        owners = rw back.owners kept.owners;
       }
-
-  started_by : (push : Option Ticket) (ticket : Ticket) (told : Woke) → push ≡ Some ticket → started_with push told ≡ reply.Ticket (readiness_of ticket)
-  started_by push ticket told is = ap (λ (o : Option Ticket). started_with o told) is
-
-  -- the goroutine goes on, and its ticket goes onto the queue
-  pub going_on : (proc : Proc Unit) (held : Held Commands) (w : Went Commands) (k : GNo) (ticket : Ticket) → w.push ≡ Some ticket → Records old.log before (call.Go k) (went w) new.log after
-      → w.held ≡ record held { woke = w.held.woke } → SameValues old new → Drives old before queue capacity (Run proc held)
-      → Drives new after (keep_last capacity (queue ++ readiness_of ticket ∷ [])) capacity (Poke proc w.held)
-  going_on proc held w k ticket push records is same kept =
-      went_drives proc held w.held k ticket (subst (λ (r : Reply). Records old.log before (call.Go k) r new.log after) (started_by w.push ticket w.held.woke push) records)
-      (ap (λ (h : Held Commands). h.g) is) (ap (λ (h : Held Commands). h.run) is) same kept
 
 -- The opening
 

@@ -1,27 +1,27 @@
 -- The tickets that are out, and who runs, where one goroutine changes.
-use Rattle.std.proofs.Common.{◌≡◌, ℕ, ◌+◌, ◌==◌, Bool, true, false, List, [], ◌∷◌, ◌++◌, Option, Some, None, set, slice_get, refl, sym, ◌∙◌, ap, arith}
+use Rattle.std.proofs.Common.{◌≡◌, ℕ, zero, suc, ◌+◌, ◌≤◌, ◌==◌, Bool, true, false, not, ◌||◌, List, [], ◌∷◌, ◌++◌, Option, Some, None, map, set, slice_get, refl, sym, ◌∙◌, ap, arith}
 use Rattle.std.proofs.lemmas.Bool.{false≢true}
 use Rattle.std.proofs.lemmas.Bool.Decides.{nat_tests}
 use Rattle.std.proofs.lemmas.List.{map-append}
 use Rattle.std.proofs.lemmas.List.Sums.{sum_by-cons}
 use Rattle.std.proofs.lemmas.Option.{slice_get_within}
+use Rattle.std.specs.List.{list_any}
 use Rattle.std.specs.Option.{option_map, option_map_or}
 use Rattle.gmp_base.specs.declared.number.GNo.{GNo}
 use Rattle.gmp_base.specs.declared.number.MNo.{MNo}
 use Rattle.gmp_base.specs.declared.number.Readiness.{Readiness}
-use Rattle.gmp_base.specs.declared.ask.Woke.TheVariants as woke
+use Rattle.gmp_base.specs.declared.ask.Woke.{Woke}
 use Rattle.gmp_seq.specs.declared.call.Reply.TheVariants as reply
 use Rattle.gmp_seq.specs.declared.status.Goroutine.{Goroutine}
 use Rattle.gmp_seq.specs.declared.status.Place.TheVariants.{Shelf, Out}
 use Rattle.gmp_seq.specs.declared.status.Status.{Status}
 use Rattle.gmp_seq.specs.declared.status.Status.TheVariants as status
-use Rattle.gmp_seq.specs.Step.{Takes, Claims, Starts}
-use Rattle.gmp_seq.specs.Table.{Table, IsRunning, RunsNothing, status_at, epoch_at, some_status, is_out, is_shelved, is_running_on}
+use Rattle.gmp_seq.specs.Step.{Takes, Claims}
+use Rattle.gmp_seq.specs.Table.{Table, IsAsleep, IsRunning, RunsNothing, all_woken, status_at, epoch_at, made_ready, next_of, some_status, is_astir, is_out, is_shelved, is_running_on, is_waiting, woken_with}
 use Rattle.gmp_seq.specs.Needs.{IsOut}
-use Rattle.gmp_seq.proofs.Asleep.{fails_at}
-use Rattle.gmp_table.specs.Kept.{tally, times, passes_at, IsListing}
-use Rattle.gmp_table.proofs.Listing.{slice_get-set_same, slice_get-set_other, pushed, pushed_first, popped, passed_by, first_passes, row_of, some_listed, nobody_passes}
-use Rattle.gmp_cli.specs.Driven.{AreTickets, AreIssued, owners, machine, is_live}
+use Rattle.gmp_table.specs.Kept.{tally, times, passes_at, count_status, IsListing}
+use Rattle.gmp_table.proofs.Listing.{slice_get-set_same, slice_get-set_other, pushed, pushed_first, popped, passed_by, first_passes, row_of, some_listed, nobody_passes, cons_listing}
+use Rattle.gmp_cli.specs.Driven.{AreTickets, AreIssued, owners, machine, is_elsewhere}
 
 -- One row of a table changes
 
@@ -93,6 +93,7 @@ taken_tickets old new r tickets (answer, at, is) kept =
       outs = rw turns.becomes (pushed_first is_out old.goroutines r.g x y (owners tickets) kept.outs at refl refl);
       issued = (epoch_same old new r.g x y r.g turns (λ _. epoch) ∙ epoch, issued_kept old new r.g x y tickets turns epoch kept.issued);
       runs = rw turns.becomes (passed_by (is_running_on machine) old.goroutines r.g x y [] kept.runs at refl);
+      others = rw turns.becomes (passed_by is_elsewhere old.goroutines r.g x y [] kept.others at refl);
     }
 
 pub claimed_tickets : (old new : Table) (r : Readiness) (tickets : List Readiness) → Claims machine r reply.Held old new → AreTickets old (r ∷ tickets) [] → AreTickets new tickets (r.g ∷ [])
@@ -105,16 +106,24 @@ claimed_tickets old new r tickets (answer, at, is) kept =
       outs = rw turns.becomes (popped is_out old.goroutines r.g x y (owners tickets) kept.outs at refl refl);
       issued = issued_kept old new r.g x y tickets turns epoch kept.issued.1;
       runs = rw turns.becomes (pushed (is_running_on machine) old.goroutines r.g x y [] kept.runs at refl refl);
+      others = rw turns.becomes (passed_by is_elsewhere old.goroutines r.g x y [] kept.others at refl);
     }
 
-pub started_tickets : (old new : Table) (k : GNo) (r : Readiness) (tickets : List Readiness) (running : List GNo) → Starts k (reply.Ticket r) old new → AreTickets old tickets running
-    → AreTickets new (tickets ++ r ∷ []) running
-started_tickets old new k r tickets running (dormant, next, is) kept =
-    let row = row_with old k status.Dormant dormant in
-    let y : Goroutine = record { status = status.Ready Out woke.First; epoch = epoch_at old k + 1 } in
+-- one that isn't elsewhere
+at_hand : (t : Table) (g : GNo) (x : Goroutine) → IsListing is_elsewhere t.goroutines [] → slice_get t.goroutines g.0 ≡ Some x → is_elsewhere x.status ≡ false
+at_hand t g x kept at =
+    sym (ap (λ (o : Option Goroutine). option_map_or (λ (z : Goroutine). is_elsewhere z.status) o false) at) ∙ nobody_passes is_elsewhere t.goroutines g.0 kept
+
+-- one that is neither out nor run by the machine becomes ready, and its ticket is given out
+pub readied_tickets : (old new : Table) (k : GNo) (s : Status) (told : Woke) (r : Readiness) (tickets : List Readiness) (running : List GNo) → status_at old k ≡ Some s → is_out s ≡ false
+    → is_running_on machine s ≡ false → r ≡ next_of old k → new ≡ made_ready old k Out told → AreTickets old tickets running → AreTickets new (tickets ++ r ∷ []) running
+readied_tickets old new k s told r tickets running was not_out idle next is kept =
+    let row = row_with old k s was in
+    let y : Goroutine = record { status = status.Ready Out told; epoch = epoch_at old k + 1 } in
     let turns : Turns old new k row.row y = record { at = row.at; becomes = ap (λ (t : Table). t.goroutines) is } in
-    let off : is_out row.row.status ≡ false = rw row.does refl in
-    let idle : is_running_on machine row.row.status ≡ is_running_on machine y.status = rw row.does refl in
+    let off : is_out row.row.status ≡ false = rw row.does not_out in
+    let same_runs : is_running_on machine row.row.status ≡ is_running_on machine y.status = rw row.does idle in
+    let same_else : is_elsewhere row.row.status ≡ is_elsewhere y.status = at_hand old k row.row kept.others row.at in
     let g : r.g ≡ k = ap (λ (q : Readiness). q.g) next in
     let owned : owners (tickets ++ r ∷ []) ≡ owners tickets ++ k ∷ [] = map-append (λ (q : Readiness). q.g) tickets (r ∷ []) ∙ ap (λ (h : GNo). owners tickets ++ h ∷ []) g in
     let within = slice_get_within old.goroutines k.0 row.row row.at in
@@ -122,13 +131,14 @@ started_tickets old new k r tickets running (dormant, next, is) kept =
     record {
       outs = rw (owned, turns.becomes) (pushed is_out old.goroutines k row.row y (owners tickets) kept.outs row.at off refl);
       issued = issued_pushed new tickets r (issued_others old new k row.row y tickets turns (no_ticket old k row.row (owners tickets) kept.outs row.at off) kept.issued) epoch;
-      runs = rw turns.becomes (passed_by (is_running_on machine) old.goroutines k row.row y running kept.runs row.at idle);
+      runs = rw turns.becomes (passed_by (is_running_on machine) old.goroutines k row.row y running kept.runs row.at same_runs);
+      others = rw turns.becomes (passed_by is_elsewhere old.goroutines k row.row y [] kept.others row.at same_else);
     }
 
 -- the goroutine that runs no longer does, and has no ticket that is out
 pub parted_tickets : (old new : Table) (g : GNo) (y : Goroutine) (tickets : List Readiness) → new.goroutines ≡ set old.goroutines g.0 y → IsRunning old g machine
-    → is_out y.status ≡ false → is_running_on machine y.status ≡ false → AreTickets old tickets (g ∷ []) → AreTickets new tickets []
-parted_tickets old new g y tickets becomes runs off idle kept =
+    → is_out y.status ≡ false → is_running_on machine y.status ≡ false → is_elsewhere y.status ≡ false → AreTickets old tickets (g ∷ []) → AreTickets new tickets []
+parted_tickets old new g y tickets becomes runs off idle here kept =
     let row = row_with old g (status.Running machine) runs in
     let turns : Turns old new g row.row y = record { at = row.at; becomes = becomes } in
     let was_off : is_out row.row.status ≡ false = rw row.does refl in
@@ -137,6 +147,7 @@ parted_tickets old new g y tickets becomes runs off idle kept =
       outs = rw becomes (passed_by is_out old.goroutines g row.row y (owners tickets) kept.outs row.at (was_off ∙ sym off));
       issued = issued_others old new g row.row y tickets turns (no_ticket old g row.row (owners tickets) kept.outs row.at was_off) kept.issued;
       runs = rw becomes (popped (is_running_on machine) old.goroutines g row.row y [] kept.runs row.at was_on idle);
+      others = rw becomes (passed_by is_elsewhere old.goroutines g row.row y [] kept.others row.at (at_hand old g row.row kept.others row.at ∙ sym here));
     }
 
 -- no row changes
@@ -145,12 +156,121 @@ issued_same old new [] same issued = tt
 issued_same old new (r ∷ tickets) same issued =
     (ap (λ (gs : List Goroutine). option_map_or (λ (z : Goroutine). z.epoch) (slice_get gs r.g.0) 0) same ∙ issued.0, issued_same old new tickets same issued.1)
 
-pub ticked_tickets : (old new : Table) (tickets : List Readiness) → new.goroutines ≡ old.goroutines → AreTickets old tickets [] → AreTickets new tickets []
-ticked_tickets old new tickets same kept = record {
+pub same_tickets : (old new : Table) (tickets : List Readiness) (running : List GNo) → new.goroutines ≡ old.goroutines → AreTickets old tickets running → AreTickets new tickets running
+same_tickets old new tickets running same kept = record {
   outs = rw same kept.outs;
   issued = issued_same old new tickets same kept.issued;
   runs = rw same kept.runs;
+  others = rw same kept.others;
 }
+
+-- Many that wait become ready
+
+-- a test of each row says the same after a change of them
+abbrev SaysSame : (Status → Bool) → (Goroutine → Goroutine) → Type 0
+SaysSame test f = (x : Goroutine) → test (f x).status ≡ test x.status
+
+passes_map : (test : Status → Bool) (f : Goroutine → Goroutine) → SaysSame test f → (rows : List Goroutine) (i : ℕ) → passes_at test (map f rows) i ≡ passes_at test rows i
+passes_map test f same [] i = refl
+passes_map test f same (x ∷ rows) zero = same x
+passes_map test f same (x ∷ rows) (suc i) = passes_map test f same rows i
+
+count_map : (test : Status → Bool) (f : Goroutine → Goroutine) → SaysSame test f → (rows : List Goroutine) → count_status test (map f rows) ≡ count_status test rows
+count_map test f same [] = refl
+count_map test f same (x ∷ rows) =
+    let n = sum_by-cons (λ (z : Goroutine). tally (test z.status)) x rows in
+    let m = sum_by-cons (λ (z : Goroutine). tally (test z.status)) (f x) (map f rows) in
+    let first : tally (test (f x).status) ≡ tally (test x.status) = ap tally (same x) in
+    let rest = count_map test f same rows in
+    omega (arith, n, m, first, rest)
+
+listing_map : (test : Status → Bool) (f : Goroutine → Goroutine) → SaysSame test f → (rows : List Goroutine) (list : List GNo) → IsListing test rows list → IsListing test (map f rows) list
+listing_map test f same rows list kept = record {
+  all = kept.all ∙ sym (count_map test f same rows);
+  each = λ i. kept.each i ∙ ap tally (sym (passes_map test f same rows i));
+}
+
+-- who is woken by this waits
+abbrev pub WakesWaiting : (Status → Option Woke) → Type 0
+WakesWaiting answer = (s : Status) (told : Woke) → answer s ≡ Some told → is_waiting s ≡ true
+
+-- a test that passes neither who waits nor who is on the shelf says the same of one who is woken
+woken_same : (test : Status → Bool) (answer : Status → Option Woke) → WakesWaiting answer → ((s : Status) → is_waiting s ≡ true → test s ≡ false)
+    → ((told : Woke) → test (status.Ready Shelf told) ≡ false) → SaysSame test (λ (x : Goroutine). woken_with (answer x.status) x)
+woken_same test answer wakes no_wait no_shelf x = by_answer (answer x.status) refl
+  where
+    by_answer : (o : Option Woke) → answer x.status ≡ o → test (woken_with o x).status ≡ test x.status
+    by_answer None is = refl
+    by_answer (Some told) is = no_shelf told ∙ sym (no_wait x.status (wakes x.status told is))
+
+out_waits_not : (s : Status) → is_waiting s ≡ true → is_out s ≡ false
+out_waits_not (status.Waiting w) h = refl
+out_waits_not _ h = absurd cc
+
+runner_waits_not : (s : Status) → is_waiting s ≡ true → is_running_on machine s ≡ false
+runner_waits_not (status.Waiting w) h = refl
+runner_waits_not _ h = absurd cc
+
+-- the row of one that is out stays
+epoch_woken : (answer : Status → Option Woke) → WakesWaiting answer → (rows : List Goroutine) (i : ℕ) → passes_at is_out rows i ≡ true
+    → option_map_or (λ (z : Goroutine). z.epoch) (slice_get (map (λ (x : Goroutine). woken_with (answer x.status) x) rows) i) 0 ≡ option_map_or (λ (z : Goroutine). z.epoch) (slice_get rows i) 0
+epoch_woken answer wakes [] i out = refl
+epoch_woken answer wakes (x ∷ rows) zero out = by_answer (answer x.status) refl
+  where
+    by_answer : (o : Option Woke) → answer x.status ≡ o → (woken_with o x).epoch ≡ x.epoch
+    by_answer None is = refl
+    by_answer (Some told) is = absurd (false≢true (sym (out_waits_not x.status (wakes x.status told is)) ∙ out))
+epoch_woken answer wakes (x ∷ rows) (suc i) out = epoch_woken answer wakes rows i out
+
+-- each that is listed is out
+abbrev AllOut : Table → List Readiness → Type 0
+AllOut t [] = Unit {0}
+AllOut t (r ∷ tickets) = (passes_at is_out t.goroutines r.g.0 ≡ true) × AllOut t tickets
+
+all_out : (t : Table) (tickets : List Readiness) → ((i : ℕ) → times i (owners tickets) ≤ tally (passes_at is_out t.goroutines i)) → AllOut t tickets
+all_out t [] most = tt
+all_out t (r ∷ tickets) most = (by_test (passes_at is_out t.goroutines r.g.0) refl, all_out t tickets (λ i. omega (arith, most i, sum_by-cons (λ (z : GNo). tally (z.0 == i)) r.g (owners tickets))))
+  where
+    by_test : (b : Bool) → passes_at is_out t.goroutines r.g.0 ≡ b → b ≡ true
+    by_test true is = refl
+    by_test false is =
+        let n = sum_by-cons (λ (z : GNo). tally (z.0 == r.g.0)) r.g (owners tickets) in
+        let one : tally (r.g.0 == r.g.0) ≡ 1 = grind (arith, nat_tests) in
+        let none : times r.g.0 (owners (r ∷ tickets)) ≤ tally false = rw is at (most r.g.0) in
+        absurd (omega (arith, n, one, none))
+
+issued_woken : (answer : Status → Option Woke) → WakesWaiting answer → (old new : Table) (tickets : List Readiness) → new.goroutines ≡ (all_woken answer old).goroutines → AllOut old tickets
+    → AreIssued old tickets → AreIssued new tickets
+issued_woken answer wakes old new [] is out issued = tt
+issued_woken answer wakes old new (r ∷ tickets) is out issued = (
+  ap (λ (gs : List Goroutine). option_map_or (λ (z : Goroutine). z.epoch) (slice_get gs r.g.0) 0) is ∙ (epoch_woken answer wakes old.goroutines r.g.0 out.0 ∙ issued.0),
+  issued_woken answer wakes old new tickets is out.1 issued.1,
+)
+
+elsewhere_woken : (answer : Status → Option Woke) → WakesWaiting answer → (rows : List Goroutine) → IsListing is_elsewhere rows [] → IsListing is_elsewhere (map (λ (x : Goroutine). woken_with (answer x.status) x) rows) []
+elsewhere_woken answer wakes [] kept = kept
+elsewhere_woken answer wakes (x ∷ rows) kept =
+    let n = sum_by-cons (λ (z : Goroutine). tally (is_elsewhere z.status)) x rows in
+    let here : is_elsewhere x.status ≡ false = nobody_passes is_elsewhere (x ∷ rows) 0 kept in
+    let rest : IsListing is_elsewhere rows [] = record { all = omega (arith, n, kept.all, ap tally here); each = λ i. kept.each (suc i) } in
+    by_answer (answer x.status) (elsewhere_woken answer wakes rows rest)
+  where
+    by_answer : (o : Option Woke) → IsListing is_elsewhere (map (λ (z : Goroutine). woken_with (answer z.status) z) rows) []
+        → IsListing is_elsewhere (woken_with o x ∷ map (λ (z : Goroutine). woken_with (answer z.status) z) rows) []
+    by_answer None below = cons_listing is_elsewhere x _ (nobody_passes is_elsewhere (x ∷ rows) 0 kept) below
+    by_answer (Some told) below = cons_listing is_elsewhere (woken_with (Some told) x) _ refl below
+
+-- nobody that is out, runs, or is elsewhere is woken
+pub woken_tickets : (answer : Status → Option Woke) → WakesWaiting answer → (old new : Table) (tickets : List Readiness) (running : List GNo) → new.goroutines ≡ (all_woken answer old).goroutines
+    → AreTickets old tickets running → AreTickets new tickets running
+woken_tickets answer wakes old new tickets running is kept =
+    let outs_each : (i : ℕ) → times i (owners tickets) ≤ tally (passes_at is_out old.goroutines i) = λ i. omega (arith, kept.outs.each i) in
+    record {
+      outs = rw is (listing_map is_out _ (woken_same is_out answer wakes out_waits_not (λ told. refl)) old.goroutines (owners tickets) kept.outs);
+      issued = issued_woken answer wakes old new tickets is (all_out old tickets outs_each) kept.issued;
+      runs = rw is (listing_map (is_running_on machine) _ (woken_same (is_running_on machine) answer wakes runner_waits_not (λ told. refl)) old.goroutines running kept.runs);
+      others = rw is (elsewhere_woken answer wakes old.goroutines kept.others);
+    }
 
 -- Who runs, and which ticket is out
 
@@ -183,35 +303,38 @@ first_out t r tickets running kept =
         (answer, at ∙ (ap (λ (s : Status). row_as s x.epoch) is ∙ ap (λ (n : ℕ). row_as (status.Ready Out answer) n) epoch))
     by_status x at _ is e = absurd cc
 
--- Goroutine 0
+-- Nobody can go on
 
-pub live_turned : (old new : Table) (g : GNo) (x y : Goroutine) → Turns old new g x y → (g.0 ≡ 0 → is_live y.status ≡ true) → passes_at is_live old.goroutines 0 ≡ true → passes_at is_live new.goroutines 0 ≡ true
-live_turned old new g x y turns lives was = by_test (0 == g.0) refl
+-- where nobody is on the shelf, out, run by the machine or elsewhere, all are asleep
+pub all_asleep : (t : Table) → AreTickets t [] [] → some_status is_shelved t ≡ false → IsAsleep t
+all_asleep t kept shelf =
+    asleep_rows t.goroutines shelf (some_listed is_out t.goroutines [] kept.outs) (some_listed (is_running_on machine) t.goroutines [] kept.runs) (some_listed is_elsewhere t.goroutines [] kept.others)
   where
-    lives_in : Option Goroutine → Bool
-    lives_in o = option_map_or (λ (z : Goroutine). is_live z.status) o false
+    either : (a b : Bool) → (a || b) ≡ false → (a ≡ false) × (b ≡ false)
+    either false false h = (refl, refl)
+    either true b h = absurd cc
+    either false true h = absurd cc
 
-    by_test : (b : Bool) → (0 == g.0) ≡ b → passes_at is_live new.goroutines 0 ≡ true
-    by_test true is =
-        let same : g.0 ≡ 0 = grind (arith, nat_tests) in
-        let within = slice_get_within old.goroutines g.0 x turns.at in
-        let now : slice_get new.goroutines 0 ≡ Some y = rw (turns.becomes, ← same) (slice_get-set_same old.goroutines g.0 y within) in
-        ap lives_in now ∙ lives same
-    by_test false is = rw turns.becomes (ap lives_in (slice_get-set_other old.goroutines g.0 0 y (λ same. grind (arith, nat_tests))) ∙ was)
+    by_status : (s : Status) → is_shelved s ≡ false → is_out s ≡ false → is_running_on machine s ≡ false → is_elsewhere s ≡ false → is_astir s ≡ false
+    by_status status.Dormant h o r e = refl
+    by_status (status.Ready Shelf told) h o r e = absurd cc
+    by_status (status.Ready Out told) h o r e = absurd cc
+    by_status (status.Running m) h o r e = absurd (not_both (machine.0 == m.0) r e)
+      where
+        not_both : (b : Bool) → b ≡ false → not b ≡ false → ⊥
+        not_both true r e = cc
+        not_both false r e = cc
+    by_status (status.Calling m) h o r e = absurd cc
+    by_status (status.Waiting w) h o r e = e
+    by_status status.Dead h o r e = refl
 
--- goroutine 0 is on the shelf where nobody is out and nobody runs
-pub main_shelved : (t : Table) → AreTickets t [] [] → passes_at is_live t.goroutines 0 ≡ true → some_status is_shelved t ≡ false → ⊥
-main_shelved t kept live none =
-    let main : GNo = record { 0 = 0 } in
-    let row = row_of is_live t.goroutines main live in
-    let passes : (Status → Bool) → Option Goroutine → Bool = λ test o. option_map_or (λ (z : Goroutine). test z.status) o false in
-    let unshelved = fails_at (λ (z : Goroutine). is_shelved z.status) t.goroutines 0 row.row none row.at in
-    let not_out : is_out row.row.status ≡ false = sym (ap (passes is_out) row.at) ∙ nobody_passes is_out t.goroutines 0 kept.outs in
-    let idle : is_running_on machine row.row.status ≡ false = sym (ap (passes (is_running_on machine)) row.at) ∙ nobody_passes (is_running_on machine) t.goroutines 0 kept.runs in
-    by_status row.row.status row.is unshelved not_out idle
-  where
-    by_status : (s : Status) → is_live s ≡ true → is_shelved s ≡ false → is_out s ≡ false → is_running_on machine s ≡ false → ⊥
-    by_status (status.Ready Shelf answer) live off in_ idle = cc
-    by_status (status.Ready Out answer) live off in_ idle = cc
-    by_status (status.Running n) live off in_ idle = false≢true (sym idle ∙ live)
-    by_status _ live off in_ idle = cc
+    asleep_rows : (rows : List Goroutine) → list_any (λ (x : Goroutine). is_shelved x.status) rows ≡ false → list_any (λ (x : Goroutine). is_out x.status) rows ≡ false
+        → list_any (λ (x : Goroutine). is_running_on machine x.status) rows ≡ false → list_any (λ (x : Goroutine). is_elsewhere x.status) rows ≡ false
+        → list_any (λ (x : Goroutine). is_astir x.status) rows ≡ false
+    asleep_rows [] h o r e = refl
+    asleep_rows (x ∷ rows) h o r e =
+        let h' = either (is_shelved x.status) (list_any (λ (z : Goroutine). is_shelved z.status) rows) h in
+        let o' = either (is_out x.status) (list_any (λ (z : Goroutine). is_out z.status) rows) o in
+        let r' = either (is_running_on machine x.status) (list_any (λ (z : Goroutine). is_running_on machine z.status) rows) r in
+        let e' = either (is_elsewhere x.status) (list_any (λ (z : Goroutine). is_elsewhere z.status) rows) e in
+        rw (by_status x.status h'.0 o'.0 r'.0 e'.0) (asleep_rows rows h'.1 o'.1 r'.1 e'.1)

@@ -263,9 +263,7 @@ impl Machine {
         match self.book.tick(&mut self.pass, READING) {
             Ok(woken) => {
                 self.turns = 0;
-                if woken > 0 {
-                    self.fresh = true;
-                }
+                self.fresh |= woken > 0;
                 Hand::Look(proc)
             }
             Err(_) => unreachable!(),
