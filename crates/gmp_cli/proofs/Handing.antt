@@ -1,5 +1,5 @@
 -- What the machine holds is the book's, call by call.
-use Rattle.std.proofs.Common.{◌≡◌, ℕ, zero, suc, ◌+◌, ◌<◌, ◌≤◌, true, false, List, [], ◌∷◌, ◌++◌, Option, Some, None, length, length-set, map, replicate, set, slice_get, slice_index, is_some, refl, sym, ◌∙◌, ap, subst, arith}
+use Rattle.std.proofs.Common.{◌≡◌, ℕ, zero, suc, ◌+◌, ◌<◌, ◌≤◌, true, false, List, [], ◌∷◌, Option, Some, None, length, length-set, map, replicate, set, slice_get, slice_index, is_some, refl, sym, ◌∙◌, ap, subst, arith}
 use Rattle.std.proofs.lemmas.Bool.{and_parts}
 use Rattle.std.proofs.lemmas.Grind.{common_steps}
 use Rattle.std.proofs.lemmas.List.{get_or-set_same, length-map, length-replicate}
@@ -50,7 +50,7 @@ use Rattle.gmp_cli.specs.declared.machine.Hand.{Hand}
 use Rattle.gmp_cli.specs.declared.machine.Hand.TheVariants.{Start, Look, Claim, Drop, Park, Poke, Run}
 use Rattle.gmp_cli.specs.Driven.{Drives, GoesOn, IsDriven, IsLatest, LacksOne, machine, looking, pushed, running_one}
 use Rattle.gmp_cli.specs.Script.{Commands}
-use Rattle.gmp_cli.proofs.Driving.{opening_driven, started_driven, taken_driven, none_driven, claimed_driven, poked_driven, poked_on, declared_driven, declare_needs, park_needs, park_asleep, parked_driven, ticked_driven, gone_driven, made_driven, dealt_driven, closed_driven, len_driven, cap_driven, waited_driven, yielded_driven, exited_driven, claim_needs}
+use Rattle.gmp_cli.proofs.Driving.{opening_driven, started_driven, taken_driven, none_driven, claimed_driven, poked_driven, poked_on, declared_driven, declare_needs, park_asleep, parked_driven, ticked_driven, gone_driven, made_driven, dealt_driven, closed_driven, len_driven, cap_driven, waited_driven, yielded_driven, exited_driven, claim_needs}
 use Rattle.gmp_cli.proofs.Tickets.{first_out}
 
 -- Slots

@@ -24,6 +24,8 @@ pub use stepping::step;
 pub use words::settings;
 
 #[cfg(test)]
+mod channel_tests;
+#[cfg(test)]
 mod step_tests;
 #[cfg(test)]
 mod tests;

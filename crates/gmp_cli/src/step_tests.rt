@@ -1,4 +1,7 @@
 use super::*;
+use crate::stepping::traced;
+use gmp_check::outcome_of;
+use gmp_trace::End;
 use std::alloc::Global;
 use std::io;
 use std::io::{ErrorKind, Read, Write};
@@ -6,7 +9,7 @@ use std::process::Abort;
 use std::test::Fail;
 
 /// What the words of a command line say, which are parted by single spaces.
-fn settings_of(rt: &impl Abort, alloc: Global, line: &str) -> Result<Settings, Fail> {
+pub(crate) fn settings_of(rt: &impl Abort, alloc: Global, line: &str) -> Result<Settings, Fail> {
     let mut words = Vec::new(alloc);
     for word in line.split(' ') {
         words.push(String::from_str(alloc, word)?)?;
@@ -17,8 +20,28 @@ fn settings_of(rt: &impl Abort, alloc: Global, line: &str) -> Result<Settings, F
     }
 }
 
+/// That the plain scheduler accepts the trace of the script, and finds its end.
+pub(crate) fn accepted(rt: &impl Abort, alloc: Global, settings: &Settings, script: &[u8]) {
+    let mut reader = script;
+    let trace = match traced(alloc, settings, &mut reader) {
+        Ok(trace) => trace,
+        Err(e) => panic!(rt; "no trace: {e:?}"),
+    };
+    match outcome_of(
+        alloc,
+        trace.limits,
+        trace.bodies,
+        &trace.capacities,
+        &trace.entries,
+    ) {
+        Ok(outcome) => assert_eq!(rt; End::of(outcome), trace.end),
+        Err(e) => panic!(rt; "not accepted: {e:?}"),
+    }
+}
+
 /// The first three entries of every run with one machine.
-const START: &str = "0 0.0 acquire -> proc 0\n1 0.1 take -> ticket 0.1\n2 0.2 claim 0.1 -> held\n";
+pub(crate) const START: &str =
+    "0 0.0 acquire -> proc 0\n1 0.1 take -> ticket 0.1\n2 0.2 claim 0.1 -> held\n";
 
 #[test]
 fn traces_are_written(rt: HostRuntime) -> Result<(), Fail> {
@@ -49,6 +72,7 @@ fn traces_are_written(rt: HostRuntime) -> Result<(), Fail> {
             "gmp-trace 1\nlimits procs 1 machines 1 bodies {bodies} channels 16 entries 10000\ncaps\n{START}{rest}end main ended\n"
         )?;
         assert_eq!(rt; out.as_slice(), want.as_bytes(), "{script}");
+        accepted(&rt, alloc, &settings, script.as_bytes());
     }
     Ok(())
 }
@@ -76,6 +100,7 @@ fn full_books_end(rt: HostRuntime) -> Result<(), Fail> {
         );
         assert_eq!(rt; ended.status, 3, "{line}");
         assert!(rt; out.as_slice().ends_with(tail.as_bytes()), "{line}");
+        accepted(&rt, alloc, &settings, "body\nyield\nagain\n".as_bytes());
     }
     Ok(())
 }
@@ -145,6 +170,9 @@ fn bodies_have_a_limit(rt: HostRuntime) -> Result<(), Fail> {
         let ended = step(alloc, &settings, &mut text.as_slice(), &mut writer);
         assert_eq!(rt; ended.status, status, "{bodies}");
         assert_eq!(rt; writer.lines, lines, "{bodies}");
+        if status == 0 {
+            accepted(&rt, alloc, &settings, &text);
+        }
     }
     Ok(())
 }
@@ -238,6 +266,7 @@ fn output_may_fail(rt: HostRuntime) -> Result<(), Fail> {
     let ended = step(alloc, &settings, &mut &script[..], &mut whole);
     assert_eq!(rt; ended.status, 3);
     assert_eq!(rt; whole.lines, 10_004);
+    accepted(&rt, alloc, &settings, script);
     for room in [0, 1, 65_536, 100_000, whole.bytes.saturating_sub(1)] {
         let mut writer = Counts::with_room(room);
         let ended = step(alloc, &settings, &mut &script[..], &mut writer);

@@ -62,7 +62,11 @@ fn run(alloc: Global, limits: Limits, script: Script) -> Result<Trace, Ended>
 }
 
 /// The trace of the script that is read.
-fn traced<R: Read>(alloc: Global, settings: &Settings, reader: &mut R) -> Result<Trace, Ended>
+pub(crate) fn traced<R: Read>(
+    alloc: Global,
+    settings: &Settings,
+    reader: &mut R,
+) -> Result<Trace, Ended>
     ensures ok { IfOk result (λ x. IsTraceOf (limits_of settings.now) (content x)) }
     ensures script { IfOk result (λ x. IfSome (R.remaining reader.old) (λ all. IsStockOf all (content x))) }
     ensures over { IfOk result (λ x. x.end ≢ End.Running) }
