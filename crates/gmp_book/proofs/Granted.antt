@@ -123,14 +123,9 @@ module _ (log : Log) (pass : Pass) (run : pass.run ≡ log.run) (current : IsCur
   held_run : (g : GNo) → list_any (λ (v : Handed). not (run_of v == log.run)) (handed.Held log.run g ∷ []) ≡ false
   held_run g = or_false _ _ (same_run log.run log.run refl) refl
 
-  pub go_granted : (g k : GNo) → IsRunning log.state.table g pass.m → refusal_of log pass (call.Go k) (handed.Held log.run g ∷ []) ≡ None
-  go_granted g k runs = granted (call.Go k) (handed.Held log.run g ∷ []) (held_run g) refl refl refl (held_own g runs)
-
-  pub yield_granted : (g : GNo) → IsRunning log.state.table g pass.m → refusal_of log pass call.Yield (handed.Held log.run g ∷ []) ≡ None
-  yield_granted g runs = granted call.Yield (handed.Held log.run g ∷ []) (held_run g) refl refl refl (held_own g runs)
-
-  pub exit_granted : (g : GNo) → IsRunning log.state.table g pass.m → refusal_of log pass call.Exit (handed.Held log.run g ∷ []) ≡ None
-  exit_granted g runs = granted call.Exit (handed.Held log.run g ∷ []) (held_run g) refl refl refl (held_own g runs)
+  pub held_granted : (asked : Call) (g : GNo) → is_busy log.state pass.m asked ≡ false → lacks_processor log.state pass.m asked ≡ false → IsRunning log.state.table g pass.m
+      → refusal_of log pass asked (handed.Held log.run g ∷ []) ≡ None
+  held_granted asked g free equipped runs = granted asked (handed.Held log.run g ∷ []) (held_run g) free equipped refl (held_own g runs)
 
   pub spin_granted : Needs pass.m call.Spin log.state → refusal_of log pass call.Spin [] ≡ None
   spin_granted needs = granted call.Spin [] refl (or_false _ _ (awake_test log.state pass.m needs.0) needs.1) refl refl refl

@@ -1,9 +1,10 @@
 //! Laws of the book's refusals. Each is the contract of a function that does nothing.
-ghost use Rattle.std.specs.Prelude.{◌≡◌, ℕ, false, [], ◌∷◌};
+ghost use Rattle.std.specs.Prelude.{◌≡◌, ℕ, false, Option, [], ◌∷◌};
+ghost use Rattle.gmp_base.specs.declared.number.CNo.{CNo};
 ghost use Rattle.gmp_base.specs.declared.number.GNo.{GNo};
 ghost use Rattle.gmp_base.specs.declared.number.PNo.{PNo};
 ghost use Rattle.gmp_base.specs.declared.number.Readiness.{Readiness};
-ghost use Rattle.gmp_seq.specs.declared.call.Call.TheVariants.{Acquire, Take, Put, Claim, Go, Yield, Exit, Enter, Leave, Spin, Unspin, Declare, Bare, Park, Poke, Tick};
+ghost use Rattle.gmp_seq.specs.declared.call.Call.TheVariants.{Acquire, Take, Put, Claim, Go, Yield, Exit, Make, Send, Recv, Close, Len, Cap, Enter, Leave, Spin, Unspin, Declare, Bare, Park, Poke, Tick};
 ghost use Rattle.gmp_seq.specs.Needs.{Needs};
 ghost use Rattle.gmp_seq.specs.Machines.{Holds, spins};
 ghost use Rattle.gmp_seq.specs.Table.{IsRunning, IsCalling, RunsNothing};
@@ -11,8 +12,9 @@ ghost use Rattle.gmp_book.specs.declared.handed.Handed.TheVariants.{Ticket, Held
 ghost use Rattle.gmp_book.specs.Laws.{GrantedWhere};
 
 /// A call by a pass that may call, with values of the book's run, is granted exactly where the scheduler's needs are met: a ticket
-/// that is out, a goroutine that the machine runs or calls for, a processor that it holds, and a machine whose state allows it. It
-/// speaks also of calls that the book is to have, since the lines that refuse them stand already.
+/// that is out, a goroutine that the machine runs or calls for, a processor that it holds, and a machine whose state allows it. A
+/// `make` that is granted may still want memory. The law speaks also of `spin`, `unspin`, `bare`, `enter` and `leave`, which the book
+/// is to have, since the lines that refuse them stand already.
 pub fn granted_where_needed()
     ensures acquire { GrantedWhere Acquire (λ run. []) (λ s m. Needs m Acquire s) }
     ensures take { GrantedWhere Take (λ run. []) (λ s m. Needs m Take s) }
@@ -21,6 +23,12 @@ pub fn granted_where_needed()
     ensures go { (g k : GNo) → GrantedWhere (Go k) (λ run. Held run g ∷ []) (λ s m. IsRunning s.table g m) }
     ensures yields { (g : GNo) → GrantedWhere Yield (λ run. Held run g ∷ []) (λ s m. IsRunning s.table g m) }
     ensures exit { (g : GNo) → GrantedWhere Exit (λ run. Held run g ∷ []) (λ s m. IsRunning s.table g m) }
+    ensures make { (g : GNo) (capacity : ℕ) → GrantedWhere (Make capacity) (λ run. Held run g ∷ []) (λ s m. IsRunning s.table g m) }
+    ensures send { (g : GNo) (c : Option CNo) (v : ℕ) → GrantedWhere (Send c v) (λ run. Held run g ∷ []) (λ s m. IsRunning s.table g m) }
+    ensures recv { (g : GNo) (c : Option CNo) → GrantedWhere (Recv c) (λ run. Held run g ∷ []) (λ s m. IsRunning s.table g m) }
+    ensures close { (g : GNo) (c : Option CNo) → GrantedWhere (Close c) (λ run. Held run g ∷ []) (λ s m. IsRunning s.table g m) }
+    ensures len { (g : GNo) (c : Option CNo) → GrantedWhere (Len c) (λ run. Held run g ∷ []) (λ s m. IsRunning s.table g m) }
+    ensures cap { (g : GNo) (c : Option CNo) → GrantedWhere (Cap c) (λ run. Held run g ∷ []) (λ s m. IsRunning s.table g m) }
     ensures poke { GrantedWhere Poke (λ run. []) (λ s m. Needs m Poke s) }
     ensures spin { GrantedWhere Spin (λ run. []) (λ s m. Needs m Spin s) }
     ensures unspin { GrantedWhere Unspin (λ run. []) (λ s m. Needs m Unspin s) }

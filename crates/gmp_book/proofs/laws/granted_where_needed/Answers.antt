@@ -1,8 +1,8 @@
-use Rattle.std.proofs.Common.{[], ◌∷◌}
+use Rattle.std.proofs.Common.{refl, [], ◌∷◌}
 use Rattle.gmp_seq.specs.declared.call.Call.TheVariants as call
 use Rattle.gmp_book.specs.declared.handed.Handed.TheVariants as handed
 use Rattle.gmp_book.proofs.Allowed.{acquire_needs, take_needs, put_needs, claim_needs, held_runs, poke_needs, tick_needs, spin_needs, unspin_needs, bare_needs, park_needs, declare_needs, enter_needs, leave_needs}
-use Rattle.gmp_book.proofs.Granted.{allowed, acquire_granted, take_granted, put_granted, claim_granted, go_granted, yield_granted, exit_granted, poke_granted, tick_granted, spin_granted, unspin_granted, bare_granted, park_granted, declare_granted, enter_granted, leave_granted}
+use Rattle.gmp_book.proofs.Granted.{allowed, acquire_granted, take_granted, put_granted, claim_granted, held_granted, poke_granted, tick_granted, spin_granted, unspin_granted, bare_granted, park_granted, declare_granted, enter_granted, leave_granted}
 use Rattle.gmp_book.proofs.laws.granted_where_needed.Goals as goal
 
 pub returns-clause-acquire : goal.returns-clause-acquire
@@ -32,19 +32,55 @@ returns-clause-claim c = λ r log pass run current. (
 pub returns-clause-go : goal.returns-clause-go
 returns-clause-go c = λ g k log pass run current. (
   λ e. held_runs log pass log.run g (allowed log pass run current (call.Go k) (handed.Held log.run g ∷ []) e).own,
-  λ needs. go_granted log pass run current g k needs,
+  λ needs. held_granted log pass run current (call.Go k) g refl refl needs,
 )
 
 pub returns-clause-yields : goal.returns-clause-yields
 returns-clause-yields c = λ g log pass run current. (
   λ e. held_runs log pass log.run g (allowed log pass run current call.Yield (handed.Held log.run g ∷ []) e).own,
-  λ needs. yield_granted log pass run current g needs,
+  λ needs. held_granted log pass run current call.Yield g refl refl needs,
 )
 
 pub returns-clause-exit : goal.returns-clause-exit
 returns-clause-exit c = λ g log pass run current. (
   λ e. held_runs log pass log.run g (allowed log pass run current call.Exit (handed.Held log.run g ∷ []) e).own,
-  λ needs. exit_granted log pass run current g needs,
+  λ needs. held_granted log pass run current call.Exit g refl refl needs,
+)
+
+pub returns-clause-make : goal.returns-clause-make
+returns-clause-make c = λ g capacity log pass run current. (
+  λ e. held_runs log pass log.run g (allowed log pass run current (call.Make capacity) (handed.Held log.run g ∷ []) e).own,
+  λ needs. held_granted log pass run current (call.Make capacity) g refl refl needs,
+)
+
+pub returns-clause-send : goal.returns-clause-send
+returns-clause-send c = λ g ch v log pass run current. (
+  λ e. held_runs log pass log.run g (allowed log pass run current (call.Send ch v) (handed.Held log.run g ∷ []) e).own,
+  λ needs. held_granted log pass run current (call.Send ch v) g refl refl needs,
+)
+
+pub returns-clause-recv : goal.returns-clause-recv
+returns-clause-recv c = λ g ch log pass run current. (
+  λ e. held_runs log pass log.run g (allowed log pass run current (call.Recv ch) (handed.Held log.run g ∷ []) e).own,
+  λ needs. held_granted log pass run current (call.Recv ch) g refl refl needs,
+)
+
+pub returns-clause-close : goal.returns-clause-close
+returns-clause-close c = λ g ch log pass run current. (
+  λ e. held_runs log pass log.run g (allowed log pass run current (call.Close ch) (handed.Held log.run g ∷ []) e).own,
+  λ needs. held_granted log pass run current (call.Close ch) g refl refl needs,
+)
+
+pub returns-clause-len : goal.returns-clause-len
+returns-clause-len c = λ g ch log pass run current. (
+  λ e. held_runs log pass log.run g (allowed log pass run current (call.Len ch) (handed.Held log.run g ∷ []) e).own,
+  λ needs. held_granted log pass run current (call.Len ch) g refl refl needs,
+)
+
+pub returns-clause-cap : goal.returns-clause-cap
+returns-clause-cap c = λ g ch log pass run current. (
+  λ e. held_runs log pass log.run g (allowed log pass run current (call.Cap ch) (handed.Held log.run g ∷ []) e).own,
+  λ needs. held_granted log pass run current (call.Cap ch) g refl refl needs,
 )
 
 pub returns-clause-poke : goal.returns-clause-poke
