@@ -1,5 +1,5 @@
 //! The goroutines, the channels on which they wait, and who runs on each machine.
-ghost use Rattle.std.specs.Prelude.{◌≡◌, ◌<◌, ◌≤◌, ◌^◌, ◌++◌, true, Some, List, IfOk, IsTrue, ◌↔◌, option_copied, length, slice_get};
+ghost use Rattle.std.specs.Prelude.{◌≡◌, ◌<◌, ◌≤◌, ◌^◌, ◌++◌, ◌∷◌, [], true, Some, List, IfOk, IfSome, IsTrue, ◌↔◌, option_copied, length, slice_get};
 ghost use Rattle.gmp_base.specs.declared.number.GNo.{GNo};
 ghost use Rattle.gmp_seq.specs.declared.call.Reply.{Reply};
 ghost use Rattle.gmp_seq.specs.declared.status.Place.TheVariants.{Shelf, Out};
@@ -132,6 +132,7 @@ impl Goroutines {
     /// Gives out the ticket of the goroutine that is on the shelf for longest.
     pub(crate) fn take(&mut self) -> Option<Readiness>
         ensures takes { Takes (taken result) self.old.table self.new.table }
+        ensures first { IfSome result (λ r. self.old.shelf ≡ r.g ∷ self.new.shelf) }
         ensures only { OnlyTable self.old self.new }
     {
         self.table.unshelve()
@@ -141,6 +142,7 @@ impl Goroutines {
     pub(crate) fn put(&mut self, r: Readiness)
         requires { is_outstanding self.old.table r ≡ true }
         ensures puts { Puts r Reply.Shelf self.old.table self.new.table }
+        ensures last { self.new.shelf ≡ self.old.shelf ++ r.g ∷ [] }
         ensures only { OnlyTable self.old self.new }
     {
         self.table.shelve(r);
@@ -176,6 +178,7 @@ impl Goroutines {
         requires there { m.0 < self.old.machines }
         ensures ticket { result ≡ next_of self.old.table g }
         ensures table { self.new.table ≡ made_ready self.old.table g Shelf Woke.Done }
+        ensures last { self.new.shelf ≡ self.old.shelf ++ g ∷ [] }
         ensures only { OnlyTable self.old self.new }
     {
         let r = self.table.requeue(g, Woke::Done);

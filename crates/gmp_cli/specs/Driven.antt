@@ -164,6 +164,11 @@ stand_of (Poke proc held) = running_one proc.p held.g
 stand_of (Drop proc) = dropping proc.p
 stand_of Park = parking
 
+-- is it about to poke
+abbrev pub is_poke : Hand → Bool
+is_poke (Poke proc held) = true
+is_poke _ = false
+
 -- each value is of this run
 abbrev pub AreOfRun : ℕ → Hand → Type 0
 AreOfRun run (Look proc) = proc.run ≡ run

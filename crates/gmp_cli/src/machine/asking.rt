@@ -1,15 +1,15 @@
 //! What the machine does with what its goroutine asks.
-ghost use Rattle.std.specs.Prelude.{◌≡◌, ◌<◌, None, Some, option_map, IfOk, OnOk};
+ghost use Rattle.std.specs.Prelude.{◌≡◌, ◌<◌, ◌≤◌, ◌||◌, None, Some, is_some, length, nat_lt, option_map, IfOk, OnErr, OnOk};
 ghost use Rattle.gmp_base.specs.Values.{readiness_of};
 
 use crate::commands::ScriptBody;
 use crate::machine::{Hand, Machine};
-use gmp_base::{Ask, Body, CNo, GNo, Held, Proc};
+use gmp_base::{Ask, Body, CNo, GNo, Held, Proc, Refusal};
 use gmp_book::{Moved, Went};
 use std::alloc::{AllocError, Global};
 
 impl Machine {
-    ghost use Rattle.gmp_cli.specs.Driven.{Driving, Drives, GoesOn, GoesOnBy, call_of, pushed};
+    ghost use Rattle.gmp_cli.specs.Driven.{Driving, Drives, GoesOn, GoesOnBy, call_of, is_poke, pushed};
     ghost use Rattle.gmp_cli.specs.Script.{next_ask};
     ghost use Rattle.gmp_seq.specs.declared.call.Call.TheVariants.{Cap, Close, Exit, Go, Len, Make, Recv, Send, Yield};
 
@@ -49,6 +49,7 @@ impl Machine {
     fn settle(&mut self, proc: Proc<()>, went: Went<ScriptBody>, woken: u64) -> Hand
         requires { Drives self.old.book self.old.pass (pushed self.old.queue.capacity self.old.queue.items (option_map readiness_of went.push)) self.old.queue.capacity (Hand.Run proc went.held) }
         ensures drives { Driving self.new result }
+        ensures pokes { is_poke result ≡ (is_some went.push || nat_lt 0 woken) }
         ensures book { self.new.book ≡ self.old.book }
     {
         let Went { held, push } = went;
@@ -122,13 +123,17 @@ impl Machine {
         ensures drives { IfOk result (Driving self.new) }
         ensures goes { OnOk result (GoesOn self.old.book.log self.new.book.log) }
         ensures call { OnOk result (GoesOnBy (Make capacity) self.old.book.log self.new.book.log) }
+        ensures needed { OnErr result ((capacity ≤ 4096) × (length self.old.book.log.state.channels < self.old.book.log.limits.channels)) }
     {
         match self.book.make(alloc, &mut self.pass, held, capacity) {
             Ok(went) => Ok(self.settle(proc, went, 0)),
             Err(refused) => {
-                let (_, back) = refused.open();
+                let (why, back) = refused.open();
                 back.open();
                 proc.open();
+                if why != Refusal::OutOfMemory {
+                    unreachable!()
+                }
                 Err(AllocError)
             }
         }
