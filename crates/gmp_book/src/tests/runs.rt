@@ -1,25 +1,6 @@
 //! Whole runs.
 use super::*;
 
-/// The entry's machine, its number among the machine's, the call and the reply.
-fn told(alloc: Global, entry: &Entry) -> Result<String, Fail> {
-    Ok(format!(in alloc;
-        "{}.{} {:?} -> {:?}",
-        entry.m.0, entry.k, entry.call, entry.reply
-    )?)
-}
-
-/// That the history ends with these entries.
-fn ends_with(rt: &impl Abort, alloc: Global, history: &[Entry], last: &[&str]) -> Result<(), Fail> {
-    assert!(rt; history.len() >= last.len());
-    let first = history.len() - last.len();
-    for (entry, want) in history[first..].iter().zip(last.iter()) {
-        let told = told(alloc, entry)?;
-        assert_eq!(rt; told.as_str(), *want);
-    }
-    Ok(())
-}
-
 // A body that yields once, and exits.
 #[test]
 fn one_yield(rt: HostRuntime) -> Result<(), Fail> {
