@@ -2,7 +2,7 @@
 use super::answers::{at, claims, closes, ends, moves, resumes, serves, starts, waits};
 use super::*;
 
-/// Main, whose epoch is this, starts the body of this number and yields; that body is held.
+/// Main starts the body of this number and yields; that body is held.
 fn begins(
     rt: &impl Abort,
     book: &mut Desk,
