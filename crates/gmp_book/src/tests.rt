@@ -105,15 +105,19 @@ fn small(rt: &impl Abort, alloc: Global, run: u64) -> Result<(Desk, Pass), Fail>
     alone(rt, alloc, run, SMALL)
 }
 
-/// A book of so many processors and two machines, and both passes.
-fn pair(rt: &impl Abort, alloc: Global, procs: u8) -> Result<(Desk, Pass, Pass), Fail> {
-    let limits = Limits {
+/// So many processors and two machines.
+fn two(procs: u8) -> Limits {
+    Limits {
         procs,
         machines: 2,
         entries: 32,
         ..SMALL
-    };
-    let (book, passes) = opened(rt, alloc, 7, limits)?;
+    }
+}
+
+/// A book of so many processors and two machines, and both passes.
+fn pair(rt: &impl Abort, alloc: Global, procs: u8) -> Result<(Desk, Pass, Pass), Fail> {
+    let (book, passes) = opened(rt, alloc, 7, two(procs))?;
     let mut passes = passes;
     let second = last_pass(rt, &mut passes);
     let first = last_pass(rt, &mut passes);
@@ -175,11 +179,7 @@ fn there<V>(rt: &impl Abort, value: Option<V>) -> V {
 }
 
 /// The machine takes a processor, the oldest ticket, and its goroutine.
-fn begin<T>(
-    rt: &impl Abort,
-    book: &mut Book<T, u32>,
-    pass: &mut Pass,
-) -> (Proc<u32>, Held<T>) {
+fn begin<T>(rt: &impl Abort, book: &mut Book<T, u32>, pass: &mut Pass) -> (Proc<u32>, Held<T>) {
     let proc = there(rt, made(rt, book.acquire(pass)));
     (proc, next(rt, book, pass))
 }

@@ -126,12 +126,7 @@ pub(super) fn claims<T>(
 }
 
 /// Main exits, and the run is over.
-pub(super) fn ends<T>(
-    rt: &impl Abort,
-    book: &mut Book<T, u32>,
-    pass: &mut Pass,
-    held: Held<T>,
-) {
+pub(super) fn ends<T>(rt: &impl Abort, book: &mut Book<T, u32>, pass: &mut Pass, held: Held<T>) {
     let exited = accepted(rt, book.exit(pass, held));
     assert_eq!(rt; exited, Exited::MainEnded);
     assert_eq!(rt; book.outcome(), Some(Outcome::MainEnded));

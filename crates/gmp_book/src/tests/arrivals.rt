@@ -3,13 +3,7 @@ use super::answers::{at, claims, closes, ends, moves, resumes, serves, starts, w
 use super::*;
 
 /// Main starts the body of this number and yields; that body is held.
-fn begins(
-    rt: &impl Abort,
-    book: &mut Desk,
-    pass: &mut Pass,
-    held: Held<u32>,
-    g: u16,
-) -> Held<u32> {
+fn begins(rt: &impl Abort, book: &mut Desk, pass: &mut Pass, held: Held<u32>, g: u16) -> Held<u32> {
     let (held, ticket) = starts(rt, book.go(pass, held, GNo(g)), g);
     accepted(rt, book.yield_to(pass, held));
     claims(rt, book, pass, ticket, Woke::First)
@@ -126,7 +120,12 @@ fn closed(rt: HostRuntime) -> Result<(), Fail> {
     let held = closes(&rt, book.close(&mut pass, held, at(0)), Woke::Done, 3);
     accepted(&rt, book.yield_to(&mut pass, held));
     let zero = Woke::Got(0, false);
-    for (g, epoch, woke) in [(4, 1, Woke::First), (3, 2, zero), (1, 2, zero), (2, 2, zero)] {
+    for (g, epoch, woke) in [
+        (4, 1, Woke::First),
+        (3, 2, zero),
+        (1, 2, zero),
+        (2, 2, zero),
+    ] {
         let held = resumes(&rt, &mut book, &mut pass, g, epoch, woke);
         assert_eq!(rt; accepted(&rt, book.exit(&mut pass, held)), Exited::Dead);
     }

@@ -13,7 +13,11 @@ fn makes(
     let (proc, held) = begin(rt, book, pass);
     let made = book.make(alloc, pass, held, capacity);
     let held = on(rt, made, Woke::Made(CNo(0)));
-    let held = on(rt, book.cap(pass, held, at(0)), Woke::Number(capacity as u64));
+    let held = on(
+        rt,
+        book.cap(pass, held, at(0)),
+        Woke::Number(capacity as u64),
+    );
     let (held, ticket) = starts(rt, book.go(pass, held, GNo(1)), 1);
     accepted(rt, book.yield_to(pass, held));
     (proc, claims(rt, book, pass, ticket, Woke::First))
@@ -153,10 +157,7 @@ fn numbers_go_on(rt: HostRuntime) -> Result<(), Fail> {
         (2, 2, Woke::Fault(Fault::TooManyChannels)),
         (0, 0, Woke::Fault(Fault::TooManyChannels)),
     ] {
-        let limits = Limits {
-            channels,
-            ..LONE
-        };
+        let limits = Limits { channels, ..LONE };
         let capacities = &[1, 1][..opening];
         let (mut book, mut pass) = desk(&rt, alloc, limits, capacities, 1)?;
         let (proc, held) = begin(&rt, &mut book, &mut pass);

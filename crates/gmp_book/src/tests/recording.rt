@@ -56,7 +56,12 @@ fn stage(
 }
 
 /// Main starts body 1 and yields, and body 1 is told its first answer.
-fn other(rt: &impl Abort, book: &mut Stage, pass: &mut Pass, main: Held<Recorder>) -> Held<Recorder> {
+fn other(
+    rt: &impl Abort,
+    book: &mut Stage,
+    pass: &mut Pass,
+    main: Held<Recorder>,
+) -> Held<Recorder> {
     let (held, ticket) = starts(rt, book.go(pass, main, GNo(1)), 1);
     accepted(rt, book.yield_to(pass, hears(held)));
     hears(claims(rt, book, pass, ticket, Woke::First))

@@ -1,5 +1,7 @@
 //! Runs of one machine with channels, entry by entry.
-use super::answers::{at, claims, closes, ends, finds_none, moves, on, resumes, serves, starts, waits};
+use super::answers::{
+    at, claims, closes, ends, finds_none, moves, on, resumes, serves, starts, waits,
+};
 use super::*;
 
 // Channels are made up to the limit, told of and closed.
@@ -38,11 +40,7 @@ fn up_to_the_limit(rt: HostRuntime) -> Result<(), Fail> {
     let held = closes(&rt, book.close(&mut pass, held, at(0)), again, 0);
     let closed = Woke::Fault(Fault::SendOnClosed);
     let held = moves(&rt, book.send(&mut pass, held, at(0), 5), closed);
-    let held = moves(
-        &rt,
-        book.recv(&mut pass, held, at(0)),
-        Woke::Got(0, false),
-    );
+    let held = moves(&rt, book.recv(&mut pass, held, at(0)), Woke::Got(0, false));
     ends(&rt, &mut book, &mut pass, held);
     let report = report_of(&rt, alloc, book, pass, proc);
     assert_eq!(rt; report.bodies.as_slice(), [70].as_slice());
@@ -88,7 +86,10 @@ fn all_asleep(rt: HostRuntime) -> Result<(), Fail> {
         &rt,
         book.surrender_held(Held::of(7, GNo(0), Woke::Done, 99)),
     );
-    assert_eq!(rt; (why.number(), back.open()), (27, (7, GNo(0), Woke::Done, 99)));
+    assert_eq!(rt;
+        (why.number(), back.open()),
+        (27, (7, GNo(0), Woke::Done, 99))
+    );
     let report = accepted(&rt, book.into_report());
     is_true(&rt, alloc, &report);
     assert_eq!(rt; report.outcome, Outcome::AllAsleep);
@@ -107,11 +108,7 @@ fn all_asleep(rt: HostRuntime) -> Result<(), Fail> {
 }
 
 /// Main starts the other body and yields, and that is claimed.
-fn other_begins(
-    rt: &impl Abort,
-    book: &mut Desk,
-    pass: &mut Pass,
-) -> (Proc<u32>, Held<u32>) {
+fn other_begins(rt: &impl Abort, book: &mut Desk, pass: &mut Pass) -> (Proc<u32>, Held<u32>) {
     let (proc, held) = begin(rt, book, pass);
     let (held, ticket) = starts(rt, book.go(pass, held, GNo(1)), 1);
     assert_eq!(rt; made(rt, book.poke(pass)), None);
