@@ -1,14 +1,25 @@
 //! Runs and refusals, compared with worked examples. Bodies are 70 and up, owners 80 and up.
+//!
+//! Histories are judged by the plain checker, `gmp_check`, which only the tests use.
 use super::*;
-use gmp_base::{Fault, GNo, Held, MNo, PNo, Pass, Proc, Refusal, Refused, Ticket, Woke};
+use gmp_base::{CNo, Fault, GNo, Held, MNo, PNo, Pass, Proc, Refusal, Refused, Ticket, Woke};
+use gmp_check::ReplayError;
 use gmp_seq::{Entry, Limits, Outcome};
 use std::alloc::Global;
 use std::process::Abort;
 use std::test::Fail;
 
+mod answers;
+mod arrivals;
+mod capacities;
+mod memory;
 mod opening;
 mod order;
+mod parking;
+mod recording;
 mod refusals;
+mod refusals_of_channels;
+mod rows;
 mod runs;
 
 /// One processor and one machine.
@@ -19,7 +30,39 @@ const SMALL: Limits = Limits {
     entries: 16,
 };
 
+/// The same, with more room.
+const LONE: Limits = Limits {
+    channels: 16,
+    entries: 10000,
+    ..SMALL
+};
+
 type Desk = Book<u32, u32>;
+
+/// So many bodies or owners, from this one up.
+fn in_order(alloc: Global, first: u8, count: u8) -> Result<Vec<u32>, Fail> {
+    let mut list = Vec::new(alloc);
+    for i in 0..count {
+        list.push(first as u32 + i as u32)?;
+    }
+    Ok(list)
+}
+
+/// A book with these bodies, and its passes.
+fn opened_with<T: Drop>(
+    rt: &impl Abort,
+    alloc: Global,
+    run: u64,
+    limits: Limits,
+    capacities: &[u32],
+    bodies: Vec<T>,
+) -> Result<(Book<T, u32>, Vec<Pass>), Fail> {
+    let owners = in_order(alloc, 80, limits.procs)?;
+    match Book::open(alloc, run, limits, capacities, bodies, owners) {
+        Ok(opened) => Ok(opened),
+        Err(unopened) => panic!(rt; "unopened: {:?}", unopened.why),
+    }
+}
 
 /// A book of two channels, with bodies 70, 71 and 72, and its passes.
 fn opened(
@@ -28,15 +71,24 @@ fn opened(
     run: u64,
     limits: Limits,
 ) -> Result<(Desk, Vec<Pass>), Fail> {
-    let bodies = vec![in alloc; 70, 71, 72]?;
-    let mut owners = Vec::new(alloc);
-    for p in 0..limits.procs {
-        owners.push(80 + p as u32)?;
-    }
-    match Book::open(alloc, run, limits, &[0, 4096], bodies, owners) {
-        Ok(opened) => Ok(opened),
-        Err(unopened) => panic!(rt; "unopened: {:?}", unopened.why),
-    }
+    let bodies = in_order(alloc, 70, 3)?;
+    opened_with(rt, alloc, run, limits, &[0, 4096], bodies)
+}
+
+/// A book of run 7 and one machine with so many bodies, and its pass.
+fn desk(
+    rt: &impl Abort,
+    alloc: Global,
+    limits: Limits,
+    capacities: &[u32],
+    bodies: u8,
+) -> Result<(Desk, Pass), Fail> {
+    let bodies = in_order(alloc, 70, bodies)?;
+    let (book, passes) = opened_with(rt, alloc, 7, limits, capacities, bodies)?;
+    let mut passes = passes;
+    let pass = last_pass(rt, &mut passes);
+    close(rt, passes);
+    Ok((book, pass))
 }
 
 /// A book of one machine, and its pass.
@@ -53,15 +105,19 @@ fn small(rt: &impl Abort, alloc: Global, run: u64) -> Result<(Desk, Pass), Fail>
     alone(rt, alloc, run, SMALL)
 }
 
-/// A book of so many processors and two machines, and both passes.
-fn pair(rt: &impl Abort, alloc: Global, procs: u8) -> Result<(Desk, Pass, Pass), Fail> {
-    let limits = Limits {
+/// So many processors and two machines.
+fn two(procs: u8) -> Limits {
+    Limits {
         procs,
         machines: 2,
         entries: 32,
         ..SMALL
-    };
-    let (book, passes) = opened(rt, alloc, 7, limits)?;
+    }
+}
+
+/// A book of so many processors and two machines, and both passes.
+fn pair(rt: &impl Abort, alloc: Global, procs: u8) -> Result<(Desk, Pass, Pass), Fail> {
+    let (book, passes) = opened(rt, alloc, 7, two(procs))?;
     let mut passes = passes;
     let second = last_pass(rt, &mut passes);
     let first = last_pass(rt, &mut passes);
@@ -123,13 +179,13 @@ fn there<V>(rt: &impl Abort, value: Option<V>) -> V {
 }
 
 /// The machine takes a processor, the oldest ticket, and its goroutine.
-fn begin(rt: &impl Abort, book: &mut Desk, pass: &mut Pass) -> (Proc<u32>, Held<u32>) {
+fn begin<T>(rt: &impl Abort, book: &mut Book<T, u32>, pass: &mut Pass) -> (Proc<u32>, Held<T>) {
     let proc = there(rt, made(rt, book.acquire(pass)));
     (proc, next(rt, book, pass))
 }
 
 /// The machine takes the oldest ticket, and its goroutine.
-fn next(rt: &impl Abort, book: &mut Desk, pass: &mut Pass) -> Held<u32> {
+fn next<T>(rt: &impl Abort, book: &mut Book<T, u32>, pass: &mut Pass) -> Held<T> {
     let ticket = there(rt, made(rt, book.take(pass)));
     accepted(rt, book.claim(pass, ticket))
 }
@@ -137,4 +193,81 @@ fn next(rt: &impl Abort, book: &mut Desk, pass: &mut Pass) -> Held<u32> {
 /// Its run, its goroutine, what is to be told, and the body.
 fn parts(held: &Held<u32>) -> (u64, GNo, Woke, u32) {
     (held.run, held.g, held.woke, held.body)
+}
+
+/// The entry's machine, its number among the machine's, the call and the reply.
+fn told(alloc: Global, entry: &Entry) -> Result<String, Fail> {
+    Ok(format!(in alloc;
+        "{}.{} {:?} -> {:?}",
+        entry.m.0, entry.k, entry.call, entry.reply
+    )?)
+}
+
+/// That the history ends with these entries.
+fn ends_with(rt: &impl Abort, alloc: Global, history: &[Entry], last: &[&str]) -> Result<(), Fail> {
+    assert!(rt; history.len() >= last.len());
+    let first = history.len() - last.len();
+    for (entry, want) in history[first..].iter().zip(last.iter()) {
+        let told = told(alloc, entry)?;
+        assert_eq!(rt; told.as_str(), *want);
+    }
+    Ok(())
+}
+
+/// That these are all entries.
+fn is_told(rt: &impl Abort, alloc: Global, history: &[Entry], all: &[&str]) -> Result<(), Fail> {
+    assert_eq!(rt; history.len(), all.len());
+    ends_with(rt, alloc, history, all)
+}
+
+/// That the plain checker takes the history for one with this outcome. Where it is refused memory, it judges nothing.
+fn is_legal(
+    rt: &impl Abort,
+    alloc: Global,
+    limits: Limits,
+    bodies: u16,
+    capacities: &[u32],
+    history: &[Entry],
+    outcome: Option<Outcome>,
+) {
+    let judged = gmp_check::outcome_of(alloc, limits, bodies, capacities, history);
+    if judged != Err(ReplayError::OutOfMemory) {
+        assert_eq!(rt; judged, Ok(outcome));
+    }
+}
+
+/// The same of a book of two channels and three bodies.
+fn is_checked(rt: &impl Abort, alloc: Global, limits: Limits, book: &Desk) {
+    let history = book.history();
+    is_legal(rt, alloc, limits, 3, &[0, 4096], history, book.outcome());
+}
+
+/// The same of a report.
+fn is_true<T>(rt: &impl Abort, alloc: Global, report: &Report<T, u32>) {
+    assert!(rt; report.bodies.len() <= 4096);
+    is_legal(
+        rt,
+        alloc,
+        report.limits,
+        report.bodies.len() as u16,
+        &report.capacities,
+        &report.history,
+        Some(report.outcome),
+    );
+}
+
+/// The run is over, and all but the processor is in: its report.
+fn report_of<T>(
+    rt: &impl Abort,
+    alloc: Global,
+    book: Book<T, u32>,
+    pass: Pass,
+    proc: Proc<u32>,
+) -> Report<T, u32> {
+    let mut book = book;
+    pass.open();
+    accepted(rt, book.surrender_proc(proc));
+    let report = accepted(rt, book.into_report());
+    is_true(rt, alloc, &report);
+    report
 }

@@ -1,15 +1,6 @@
 //! Openings, and what they refuse.
 use super::*;
 
-/// So many bodies or owners, from this one up.
-fn in_order(alloc: Global, first: u8, count: u8) -> Result<Vec<u32>, Fail> {
-    let mut list = Vec::new(alloc);
-    for i in 0..count {
-        list.push(first as u32 + i as u32)?;
-    }
-    Ok(list)
-}
-
 #[test]
 fn each_machine_has_its_pass(rt: HostRuntime) -> Result<(), Fail> {
     let limits = Limits {

@@ -26,6 +26,7 @@ fn turns_come_first(rt: HostRuntime) -> Result<(), Fail> {
         assert_eq!(rt; pass.open(), (run, MNo(0), calls, seen));
     }
     assert_eq!(rt; made(&rt, book.poke(&mut pass)), None);
+    is_checked(&rt, rt.alloc(), SMALL, &book);
     pass.open();
     Ok(())
 }
@@ -47,6 +48,7 @@ fn then_the_end(rt: HostRuntime) -> Result<(), Fail> {
         assert_eq!(rt; why_not(&rt, book.acquire(&mut pass)).number(), why);
         pass.open();
     }
+    is_checked(&rt, rt.alloc(), SMALL, &book);
     (pass.open(), proc.open());
     Ok(())
 }
@@ -61,6 +63,7 @@ fn then_the_state(rt: HostRuntime) -> Result<(), Fail> {
     accepted(&rt, book.yield_to(&mut first, held));
     assert_eq!(rt; claimed(&rt, &mut book, &mut first, 7, 1), 24);
     assert_eq!(rt; claimed(&rt, &mut book, &mut second, 7, 1), 25);
+    is_checked(&rt, rt.alloc(), two(1), &book);
     (first.open(), second.open(), proc.open());
     Ok(())
 }
@@ -74,8 +77,9 @@ fn reports(rt: HostRuntime) -> Result<(), Fail> {
     assert_eq!(rt; why.number(), 30);
     let mut book = book;
     accepted(&rt, book.exit(&mut pass, held));
-    let (why, _) = refused(&rt, book.into_report());
+    let (why, book) = refused(&rt, book.into_report());
     assert_eq!(rt; why.number(), 26);
+    is_checked(&rt, rt.alloc(), SMALL, &book);
     (pass.open(), proc.open());
     Ok(())
 }

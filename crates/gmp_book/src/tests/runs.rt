@@ -1,25 +1,6 @@
 //! Whole runs.
 use super::*;
 
-/// The entry's machine, its number among the machine's, the call and the reply.
-fn told(alloc: Global, entry: &Entry) -> Result<String, Fail> {
-    Ok(format!(in alloc;
-        "{}.{} {:?} -> {:?}",
-        entry.m.0, entry.k, entry.call, entry.reply
-    )?)
-}
-
-/// That the history ends with these entries.
-fn ends_with(rt: &impl Abort, alloc: Global, history: &[Entry], last: &[&str]) -> Result<(), Fail> {
-    assert!(rt; history.len() >= last.len());
-    let first = history.len() - last.len();
-    for (entry, want) in history[first..].iter().zip(last.iter()) {
-        let told = told(alloc, entry)?;
-        assert_eq!(rt; told.as_str(), *want);
-    }
-    Ok(())
-}
-
 // A body that yields once, and exits.
 #[test]
 fn one_yield(rt: HostRuntime) -> Result<(), Fail> {
@@ -51,6 +32,7 @@ fn one_yield(rt: HostRuntime) -> Result<(), Fail> {
     assert_eq!(rt; book.history().len(), 7);
     ends_with(&rt, alloc, book.history(), &want)?;
     let report = accepted(&rt, book.into_report());
+    is_true(&rt, alloc, &report);
     assert_eq!(rt; report.limits, SMALL);
     assert_eq!(rt; report.capacities.as_slice(), [0, 4096].as_slice());
     assert_eq!(rt; report.history.len(), 7);
@@ -128,6 +110,7 @@ fn each_other_call(rt: HostRuntime) -> Result<(), Fail> {
         ((7, MNo(0), 12, 15), (7, MNo(1), 3, 14))
     );
     let report = accepted(&rt, book.into_report());
+    is_true(&rt, rt.alloc(), &report);
     assert_eq!(rt; report.history.len(), 15);
     assert_eq!(rt; report.bodies.as_slice(), [70, 71, 72].as_slice());
     assert_eq!(rt; report.owners.as_slice(), [80, 81].as_slice());
@@ -154,6 +137,7 @@ fn another_exit(rt: HostRuntime) -> Result<(), Fail> {
         Exited::Dead
     );
     assert_eq!(rt; book.outcome(), None);
+    is_checked(&rt, rt.alloc(), two(2), &book);
     (
         held.open(),
         proc.open(),
@@ -176,6 +160,7 @@ fn one_processor_for_two(rt: HostRuntime) -> Result<(), Fail> {
     let (held, ticket) = starts(&rt, &mut book, &mut first, held, 1);
     let (why, ticket) = refused(&rt, book.claim(&mut second, ticket));
     assert_eq!(rt; (why.number(), ticket.open()), (25, (7, GNo(1), 1)));
+    is_checked(&rt, rt.alloc(), two(1), &book);
     (held.open(), proc.open(), first.open(), second.open());
     Ok(())
 }
@@ -200,6 +185,7 @@ fn sixteen_entries(rt: HostRuntime) -> Result<(), Fail> {
     accepted(&rt, book.surrender_proc(proc));
     pass.open();
     let report = accepted(&rt, book.into_report());
+    is_true(&rt, alloc, &report);
     assert_eq!(rt; report.outcome, Outcome::BookFull);
     assert_eq!(rt; report.history.len(), 16);
     let last = ["0.15 Yield -> Shelved(Readiness { g: GNo(0), epoch: 6 })"];
@@ -227,6 +213,7 @@ fn fifty_one_entries(rt: HostRuntime) -> Result<(), Fail> {
     accepted(&rt, book.surrender_proc(proc));
     pass.open();
     let report = accepted(&rt, book.into_report());
+    is_true(&rt, alloc, &report);
     assert_eq!(rt; report.history.len(), 51);
     let last = [
         "0.48 Yield -> Shelved(Readiness { g: GNo(0), epoch: 17 })",

@@ -1,0 +1,82 @@
+//! Want of memory. Run with each allocation refused in turn.
+use super::answers::{at, ends, moves, on};
+use super::*;
+
+/// A book without channels and with one body, 70, and its pass, if there is memory.
+fn desk_or_not(rt: &impl Abort, alloc: Global) -> Option<(Desk, Pass)> {
+    let (Ok(bodies), Ok(owners)) = (vec![in alloc; 70], vec![in alloc; 80]) else {
+        return None;
+    };
+    match Book::open(alloc, 7, LONE, &[], bodies, owners) {
+        Ok((book, passes)) => {
+            let mut passes = passes;
+            let pass = last_pass(rt, &mut passes);
+            close(rt, passes);
+            Some((book, pass))
+        }
+        Err(unopened) => {
+            assert_eq!(rt; unopened.why, Refusal::OutOfMemory);
+            assert_eq!(rt; unopened.bodies.as_slice(), [70].as_slice());
+            assert_eq!(rt; unopened.owners.as_slice(), [80].as_slice());
+            None
+        }
+    }
+}
+
+/// The channel of this number is made, with room for so many values, at once or at the second time.
+fn makes(
+    rt: &impl Abort,
+    alloc: Global,
+    book: &mut Desk,
+    pass: &mut Pass,
+    held: Held<u32>,
+    c: u16,
+    capacity: u32,
+) -> Held<u32> {
+    let (calls, seen) = (pass.calls, pass.seen);
+    match book.make(alloc, pass, held, capacity) {
+        Ok(went) => on(rt, Ok(went), Woke::Made(CNo(c))),
+        Err(refused) => {
+            let (why, held) = refused.open();
+            assert_eq!(rt; (why, why.number()), (Refusal::OutOfMemory, 28));
+            assert_eq!(rt; parts(&held), (7, GNo(0), Woke::NoMemory, 70));
+            assert_eq!(rt; (pass.calls, pass.seen), (calls, seen));
+            assert_eq!(rt; book.history().len() as u64, seen);
+            assert_eq!(rt; book.outcome(), None);
+            let made = book.make(alloc, pass, held, capacity);
+            on(rt, made, Woke::Made(CNo(c)))
+        }
+    }
+}
+
+// The history is the same, whether or not a make was refused memory before.
+#[test]
+fn a_make_that_is_refused_memory_can_be_made_again(rt: HostRuntime) -> Result<(), Fail> {
+    let alloc = rt.alloc();
+    let Some((mut book, mut pass)) = desk_or_not(&rt, alloc) else {
+        return Ok(());
+    };
+    let (proc, held) = begin(&rt, &mut book, &mut pass);
+    let held = makes(&rt, alloc, &mut book, &mut pass, held, 0, 2);
+    let held = makes(&rt, alloc, &mut book, &mut pass, held, 1, 4096);
+    let held = moves(&rt, book.send(&mut pass, held, at(0), 5), Woke::Done);
+    let held = makes(&rt, alloc, &mut book, &mut pass, held, 2, 0);
+    let large = Woke::Fault(Fault::BadCapacity);
+    let held = on(&rt, book.make(alloc, &mut pass, held, 4097), large);
+    let held = moves(&rt, book.recv(&mut pass, held, at(0)), Woke::Got(5, true));
+    ends(&rt, &mut book, &mut pass, held);
+    let want = [
+        "0.0 Acquire -> Proc(PNo(0))",
+        "0.1 Take -> Ticket(Readiness { g: GNo(0), epoch: 1 })",
+        "0.2 Claim(Readiness { g: GNo(0), epoch: 1 }) -> Held",
+        "0.3 Make(2) -> Channel(CNo(0))",
+        "0.4 Make(4096) -> Channel(CNo(1))",
+        "0.5 Send(Some(CNo(0)), 5) -> Sent(None)",
+        "0.6 Make(0) -> Channel(CNo(2))",
+        "0.7 Make(4097) -> Fault(BadCapacity)",
+        "0.8 Recv(Some(CNo(0))) -> Got(5, true, None)",
+        "0.9 Exit -> MainEnded",
+    ];
+    let report = report_of(&rt, alloc, book, pass, proc);
+    is_told(&rt, alloc, &report.history, &want)
+}
