@@ -12,6 +12,7 @@ use Rattle.gmp_seq.specs.declared.call.Call.{Call}
 use Rattle.gmp_seq.specs.declared.call.Relay.{Relay}
 use Rattle.gmp_seq.specs.declared.call.Reply.{Reply}
 use Rattle.gmp_seq.specs.declared.call.Reply.TheVariants as reply
+use Rattle.gmp_seq.specs.declared.call.Taken.{Taken}
 use Rattle.gmp_seq.specs.declared.call.Taken.TheVariants as taken
 use Rattle.gmp_seq.specs.Step.{woke_after}
 use Rattle.gmp_book.specs.declared.went.Moved.{Moved}
@@ -26,13 +27,18 @@ use Rattle.gmp_book.specs.Log.{Log, Records}
 abbrev pub sender_in : Option Relay → Option Readiness
 sender_in from = option_map (λ (x : Relay). x.sender) from
 
+-- the ticket that a communication of a select gives out
+abbrev pub ticket_of : Taken → Option Readiness
+ticket_of (taken.Sent to) = to
+ticket_of (taken.Got v sent from) = sender_in from
+ticket_of taken.Failed = None
+
 -- the ticket that a reply gives out: of the goroutine that is ready by the call
 abbrev pub ticket_in : Reply → Option Readiness
 ticket_in (reply.Ticket r) = Some r
 ticket_in (reply.Sent to) = to
 ticket_in (reply.Got v sent from) = sender_in from
-ticket_in (reply.Chose i (taken.Sent to)) = to
-ticket_in (reply.Chose i (taken.Got v sent from)) = sender_in from
+ticket_in (reply.Chose i how) = ticket_of how
 ticket_in _ = None
 
 -- how many a close woke

@@ -2,7 +2,7 @@
 ghost use Rattle.std.specs.Prelude.{◌≡◌};
 ghost use Rattle.gmp_seq.specs.Step.{woke_after};
 ghost use Rattle.gmp_book.specs.Replies as replies;
-ghost use Rattle.gmp_book.specs.Went.{closed_in, is_wait, sender_in, ticket_in};
+ghost use Rattle.gmp_book.specs.Went.{closed_in, is_wait, sender_in, ticket_in, ticket_of};
 
 use crate::ledger::{Exited, Parking};
 use gmp_base::{Fault, MNo, PNo, Readiness, Woke};
@@ -97,9 +97,9 @@ fn sender(from: Option<Relay>) -> Option<Readiness>
     from.map(|relay| relay.sender)
 }
 
-/// The ticket that a communication gave out.
-fn ticket_of(case: u8, taken: Taken) -> Option<Readiness>
-    ensures { result ≡ ticket_in (Reply.Chose case taken) }
+/// The ticket that a communication of a select gave out.
+fn ticket_of(taken: Taken) -> Option<Readiness>
+    ensures { result ≡ ticket_of taken }
 {
     match taken {
         Taken::Sent(to) => to,
@@ -116,7 +116,7 @@ pub(crate) fn ticket_in(reply: Reply) -> Option<Readiness>
         Reply::Ticket(r) => Some(r),
         Reply::Sent(to) => to,
         Reply::Got(_, _, from) => sender(from),
-        Reply::Chose(case, taken) => ticket_of(case, taken),
+        Reply::Chose(_, taken) => ticket_of(taken),
         _ => None,
     }
 }
