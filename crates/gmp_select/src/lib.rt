@@ -1,0 +1,11 @@
+//! Selects: which cases can proceed, which of them is taken, and who waits for any of its cases (Go specification, Select statements).
+//!
+//! Nothing here takes memory. What a select costs is what its cases cost: each looks at the offers of those who wait.
+#![tactic(auto)]
+
+mod choosing;
+mod waiting;
+
+pub use choosing::{choose, ready_cases};
+pub use waiting::{complete, register, withdraw_all};
+

@@ -1,0 +1,79 @@
+//! Who waits for any of its cases, and the case that proceeds.
+ghost use Rattle.std.specs.Prelude.{◌≡◌, ◌<◌, ◌++◌, Some, true, count_by};
+ghost use Rattle.gmp_seq.specs.declared.status.Kind.{Kind};
+ghost use Rattle.gmp_seq.specs.declared.status.Waiter.{Waiter};
+ghost use Rattle.gmp_seq.specs.Waits.{Proceeds, as_waiters, can, channel_of, names_no_missing, offers_of};
+ghost use Rattle.gmp_chan.specs.Contents.{is_of, without, without_served};
+ghost use Rattle.gmp_select.specs.Waiting.{served};
+
+use gmp_base::{Case, Cases, GNo};
+use gmp_chan::Channels;
+use gmp_seq::{Deal, Kind, Offer, Offers, Transfer};
+
+/// What a case offers once it waits: nothing on nil.
+fn offer_of(i: u8, case: Case) -> Option<Offer> {
+    let (channel, deal) = match case {
+        Case::Send(c, v) => (c?, Deal::Send(v)),
+        Case::Recv(c) => (c?, Deal::Receive),
+    };
+    Some(Offer {
+        case: i,
+        channel,
+        deal,
+    })
+}
+
+/// The offers of a select: one for each case that isn't on nil, by its number.
+fn offers_of(cases: &Cases) -> Offers
+    ensures { result ≡ offers_of cases.now }
+{
+    let mut offers = Offers::new();
+    let mut i = 0;
+    for case in cases.as_slice() {
+        if let Some(offer) = offer_of(i, *case) {
+            offers.push(offer);
+        }
+        i += 1;
+    }
+    offers
+}
+
+/// Goroutine g begins to wait for any of these cases, since this arrival, and answers what it waits for. It has no offer yet.
+pub fn register(channels: &mut Channels, g: GNo, arrival: u64, cases: &Cases) -> Offers
+    requires known { g.0 < channels.old.bodies }
+    requires fresh { count_by (is_of g) channels.old.waiters ≡ 0 }
+    ensures offers { result ≡ offers_of cases.now }
+    ensures waiters { channels.new ≡ record channels.old { waiters = channels.old.waiters ++ as_waiters g arrival Kind.Select (offers_of cases.now) } }
+{
+    let offers = offers_of(cases);
+    channels.wait_on(g, arrival, Kind::Select, &offers);
+    offers
+}
+
+/// Goroutine g waits for none of its cases any more: no offer of its own is left.
+pub fn withdraw_all(channels: &mut Channels, g: GNo)
+    ensures rest { channels.new ≡ record channels.old { waiters = without g channels.old.waiters } }
+    ensures gone { count_by (is_of g) channels.new.waiters ≡ 0 }
+{
+    channels.withdraw(g);
+}
+
+/// A case that can proceed does so. Who is served by it waits no more, for none of its cases.
+pub fn complete(channels: &mut Channels, case: Case) -> Transfer
+    requires made { names_no_missing channels.old.channels (channel_of case) ≡ true }
+    requires able { can channels.old.channels channels.old.waiters case ≡ true }
+    ensures proceeds { Proceeds channels.old.channels channels.old.waiters case result channels.new.channels }
+    ensures waiters { channels.new.waiters ≡ without_served result channels.old.waiters }
+    ensures gone { (w : Waiter) → served result ≡ Some w → count_by (is_of w.g) channels.new.waiters ≡ 0 }
+    ensures limit { channels.new.limit ≡ channels.old.limit }
+    ensures bodies { channels.new.bodies ≡ channels.old.bodies }
+{
+    let how = match case {
+        Case::Send(c, v) => channels.try_send(c, v),
+        Case::Recv(c) => channels.try_recv(c),
+    };
+    match how {
+        Some(how) => how,
+        None => unreachable!(),
+    }
+}
