@@ -17,6 +17,7 @@ mod serving;
 use crate::runners::Runners;
 use gmp_base::{Fault, GNo, MNo, Readiness, Woke};
 use gmp_chan::Channels;
+use gmp_select::withdraw_all;
 use gmp_seq::{Goroutine, Kind, Offers, Status};
 use gmp_table::{StatusTable, Wake};
 use std::alloc::{AllocError, Global};
@@ -224,7 +225,7 @@ impl Goroutines {
         let mut count = 0;
         while let Some(next) = self.table.next_to_wake(wake) {
             self.table.requeue(next.g, next.woke);
-            self.channels.withdraw(next.g);
+            withdraw_all(&mut self.channels, next.g);
             count += 1;
         }
         count

@@ -11,7 +11,7 @@ use gmp_chan::Channels;
 use gmp_seq::{Deal, Kind, Offer, Offers, Transfer};
 
 /// What a case offers once it waits: nothing on nil.
-fn offer_of(i: u8, case: Case) -> Option<Offer>
+pub fn offer_of(i: u8, case: Case) -> Option<Offer>
     ensures { option_to_list result ≡ offers_from i (case ∷ []) }
 {
     let (channel, deal) = match case {

@@ -11,8 +11,8 @@ ghost use Rattle.gmp_book.specs.Served.{plain_reply, served_answer, with_served}
 
 use crate::goroutines::Goroutines;
 use gmp_base::{CNo, Case, Fault, GNo, MNo, Woke};
-use gmp_select::complete;
-use gmp_seq::{Deal, Kind, Offer, Offers, Relay, Reply, Taken, Transfer, Waiter};
+use gmp_select::{complete, offer_of};
+use gmp_seq::{Kind, Offers, Relay, Reply, Taken, Transfer, Waiter};
 use gmp_table::StatusTable;
 
 /// The channel that a case names.
@@ -29,17 +29,9 @@ pub(super) fn channel_of(case: Case) -> Option<CNo>
 fn one_offer(case: Case) -> Offers
     ensures { result ≡ offers_of (case ∷ []) }
 {
-    let deal = match case {
-        Case::Send(_, v) => Deal::Send(v),
-        Case::Recv(_) => Deal::Receive,
-    };
     let mut offers = Offers::new();
-    if let Some(channel) = channel_of(case) {
-        offers.push(Offer {
-            case: 0,
-            channel,
-            deal,
-        });
+    if let Some(offer) = offer_of(0, case) {
+        offers.push(offer);
     }
     offers
 }

@@ -21,6 +21,6 @@ invariant_of-self-2 c =
     let there = subst (λ (l : List Waiter). Proceeds i.channels.channels l c.args.case how after) c.self.invariant.0.same proceeds in
     let table = c.serve.ensures.table ∙ with_served_is i.table.table i.channels.channels after i.channels.waiters c.args.case how proceeds in (
       rw (c.in_ok-how.ensures.waiters, c.in_ok-how.ensures.bodies)
-      (proceeds_tied i.table.table i.channels.waiters i.channels.bodies c.self.invariant.0 i.channels.channels after c.args.case how c.serve.new.table.table proceeds table),
+          (proceeds_tied i.table.table i.channels.waiters i.channels.bodies c.self.invariant.0 i.channels.channels after c.args.case how c.serve.new.table.table proceeds table),
       proceeds_runners i.table.table (length i.runners) i.runners c.self.invariant.1 i.channels.channels after c.args.case how c.serve.new.table.table there table,
     )

@@ -40,13 +40,13 @@ loop-next-preserved c =
         woken.0 ++ next.g ∷ [],
         next_more c.args.wake c.self.inside.table i.table c.requeue.new.self woken.0 c.loop-next.count next woken.1 first c.requeue.ensures.table c.requeue.ensures.last,
       );
-      tied = rw (c.requeue.ensures.table, c.withdraw.ensures) (tied_ready i.table.table next.g _ _ i.channels.waiters i.channels.bodies c.loop-next.invariant.tied);
+      tied = rw (c.requeue.ensures.table, c.withdraw_all.ensures.rest) (tied_ready i.table.table next.g _ _ i.channels.waiters i.channels.bodies c.loop-next.invariant.tied);
       runners =
           other_ready_runners i.table.table (length i.runners) i.runners c.loop-next.invariant.runners next.g first.0.status Shelf next.woke c.requeue.new.self.table
           (ap (option_map (λ (x : Goroutine). x.status)) first.1) (answered_idle c.args.wake first.0.status next.woke first.2) c.requeue.ensures.table;
       same = c.loop-next.invariant.same;
-      channels = ap (λ v. v.channels) c.withdraw.ensures ∙ c.loop-next.invariant.channels;
-      limit = ap (λ v. v.limit) c.withdraw.ensures ∙ c.loop-next.invariant.limit;
+      channels = ap (λ v. v.channels) c.withdraw_all.ensures.rest ∙ c.loop-next.invariant.channels;
+      limit = ap (λ v. v.limit) c.withdraw_all.ensures.rest ∙ c.loop-next.invariant.limit;
     }
 
 pub returns-clause-table : goal.returns-clause-table
