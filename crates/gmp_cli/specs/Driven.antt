@@ -57,6 +57,7 @@ call_of (ask.Recv c) = call.Recv c
 call_of (ask.Close c) = call.Close c
 call_of (ask.Len c) = call.Len c
 call_of (ask.Cap c) = call.Cap c
+call_of (ask.Select cases has_default until) = call.Select cases has_default until
 call_of _ = call.Exit
 
 -- the report tells a run that was opened so: its history is legal, and its outcome is that of the state that the history leads to
