@@ -41,31 +41,6 @@ fn options_are_read(rt: HostRuntime) -> Result<(), Fail> {
 }
 
 #[test]
-fn words_are_drawn_as_given(rt: HostRuntime) -> Result<(), Fail> {
-    for (line, want) in [
-        ("gmp step", 0),
-        ("gmp step --word 1", 1),
-        ("gmp step --word=1", 1),
-        ("gmp step --word 007 --entries 16", 7),
-        (
-            "gmp step --word 18446744073709551615",
-            18_446_744_073_709_551_615,
-        ),
-        (
-            "gmp step --word=18446744073709551615",
-            18_446_744_073_709_551_615,
-        ),
-        ("gmp step --word 00000000000000000000000002", 2),
-    ] {
-        match read(rt.alloc(), line)? {
-            Ok(s) => assert_eq!(rt; s.word, want, "{line}"),
-            Err(e) => panic!(rt; "{line}: {e:?}"),
-        }
-    }
-    Ok(())
-}
-
-#[test]
 fn bad_lines_are_refused(rt: HostRuntime) -> Result<(), Fail> {
     for (line, status) in [
         ("gmp step --procs 33", 64),
