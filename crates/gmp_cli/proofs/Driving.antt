@@ -28,7 +28,7 @@ use Rattle.gmp_seq.specs.declared.call.Taken.{Taken}
 use Rattle.gmp_seq.specs.declared.call.Taken.TheVariants as taken
 use Rattle.gmp_seq.specs.declared.status.Direction.TheVariants.{Sending, Receiving}
 use Rattle.gmp_seq.specs.declared.status.Goroutine.{Goroutine}
-use Rattle.gmp_seq.specs.declared.status.Kind.TheVariants as kind
+use Rattle.gmp_seq.specs.declared.status.Kind.{Kind}
 use Rattle.gmp_seq.specs.declared.status.Mode.{Mode}
 use Rattle.gmp_seq.specs.declared.status.Mode.TheVariants.{Awake}
 use Rattle.gmp_seq.specs.declared.status.Offer.{Offer}
@@ -42,7 +42,7 @@ use Rattle.gmp_seq.specs.Fits.{AreLimits}
 use Rattle.gmp_seq.specs.Machines.{Machines, Holds, Pokes, has_processor, set_holder, spins, is_held_by}
 use Rattle.gmp_seq.specs.Needs.{Needs}
 use Rattle.gmp_seq.specs.State.{dormant, first_goroutine}
-use Rattle.gmp_seq.specs.Step.{Closes, Communicates, Deals, Makes, Step, Tells, served_by, told_of}
+use Rattle.gmp_seq.specs.Step.{Closes, Communicates, Deals, Makes, Selects, Step, Tells, served_by, told_of}
 use Rattle.gmp_seq.specs.Table.{Table, IsAsleep, IsRunning, RunsNothing, all_woken, due_answer, epoch_at, next_of, set_status, made_ready, made_wait, status_at, is_out, is_running_on}
 use Rattle.gmp_seq.specs.Waits.{Proceeds, close_answer, waiters}
 use Rattle.gmp_seq.proofs.Epochs.{at_set}
@@ -285,6 +285,16 @@ dealt_driven old new p g h c (reply.Fault fault.NoSuchChannel) queue capacity n 
 dealt_driven old new p g h c reply.Waits queue capacity n deals goes kept = absurd (false≢true (sym goes))
 dealt_driven old new p g h c _ queue capacity n deals goes kept = absurd deals
 
+-- a select goes on
+pub selected_driven : (old new : Log) (p : PNo) (g h : GNo) (cases : List Case) (has_default : Bool) (until : Option ℕ) (answer : Reply) (queue : List Readiness) (capacity n : ℕ)
+    → Selects h cases has_default until answer old.state new.state → is_wait answer ≡ false → IsDriven old queue capacity (running_one p g) n
+    → IsDriven new (pushed capacity queue (ticket_in answer)) capacity (running_one p g) n
+selected_driven old new p g h cases has_default until (reply.Chose i told) queue capacity n (made, c, at, does) goes kept = communicates_driven old new p g c told queue capacity n does kept
+selected_driven old new p g h cases has_default until reply.Default queue capacity n (made, none, default, same) goes kept = going old new queue capacity n p g kept same.0 same.2
+selected_driven old new p g h cases has_default until (reply.Fault fault.NoSuchChannel) queue capacity n (missing, same) goes kept = going old new queue capacity n p g kept same.0 same.2
+selected_driven old new p g h cases has_default until reply.Waits queue capacity n selects goes kept = absurd (false≢true (sym goes))
+selected_driven old new p g h cases has_default until _ queue capacity n selects goes kept = absurd selects
+
 close_wakes : (c : CNo) → WakesWaiting (close_answer c)
 close_wakes c (status.Waiting w) told e = refl
 close_wakes c _ told e = cc
@@ -364,11 +374,11 @@ pub exited_driven : (old new : Log) (p : PNo) (g : GNo) (e : Exited) (queue : Li
 exited_driven old new p g e queue capacity n step is kept =
     parted old new p g _ queue capacity n (rows_are new.state.table (set_status old.state.table g status.Dead) is) refl refl refl step.1.2.2 kept
 
-pub waited_driven : (old new : Log) (p : PNo) (g : GNo) (offers : List Offer) (queue : List Readiness) (capacity n : ℕ)
-    → new.state.table ≡ made_wait old.state.table g kind.Plain offers None → new.state.machines ≡ old.state.machines → IsDriven old queue capacity (running_one p g) n
+pub waited_driven : (old new : Log) (p : PNo) (g : GNo) (why : Kind) (offers : List Offer) (queue : List Readiness) (capacity n : ℕ)
+    → new.state.table ≡ made_wait old.state.table g why offers None → new.state.machines ≡ old.state.machines → IsDriven old queue capacity (running_one p g) n
     → IsDriven new queue capacity (looking p) n
-waited_driven old new p g offers queue capacity n is machines kept =
-    parted old new p g _ queue capacity n (rows_are new.state.table (made_wait old.state.table g kind.Plain offers None) is) refl refl refl machines kept
+waited_driven old new p g why offers queue capacity n is machines kept =
+    parted old new p g _ queue capacity n (rows_are new.state.table (made_wait old.state.table g why offers None) is) refl refl refl machines kept
 
 -- The opening
 

@@ -1,10 +1,11 @@
 -- What the machine holds is the book's, call by call.
-use Rattle.std.proofs.Common.{◌≡◌, ℕ, zero, suc, ◌+◌, ◌<◌, ◌≤◌, true, false, List, [], ◌∷◌, Option, Some, None, length, length-set, map, replicate, set, slice_get, slice_index, is_some, refl, sym, ◌∙◌, ap, subst, arith}
+use Rattle.std.proofs.Common.{◌≡◌, ℕ, zero, suc, ◌+◌, ◌<◌, ◌≤◌, Bool, true, false, List, [], ◌∷◌, Option, Some, None, length, length-set, map, replicate, set, slice_get, slice_index, is_some, refl, sym, ◌∙◌, ap, subst, arith}
 use Rattle.std.proofs.lemmas.Bool.{and_parts}
 use Rattle.std.proofs.lemmas.Grind.{common_steps}
 use Rattle.std.proofs.lemmas.List.{get_or-set_same, length-map, length-replicate}
 use Rattle.std.specs.Option.{option_map}
 use Rattle.std.specs.Prelude.{◌↔◌, IfSome, MatchOption}
+use Rattle.gmp_base.specs.declared.cases.Case.{Case}
 use Rattle.gmp_base.specs.declared.cases.Case.TheVariants as case
 use Rattle.gmp_base.specs.declared.number.CNo.{CNo}
 use Rattle.gmp_base.specs.declared.ask.Woke.TheVariants as woke
@@ -37,6 +38,7 @@ use Rattle.gmp_seq.specs.declared.call.Limits.{Limits}
 use Rattle.gmp_seq.specs.declared.call.Outcome.TheVariants as outcome
 use Rattle.gmp_seq.specs.declared.call.Reply.{Reply}
 use Rattle.gmp_seq.specs.declared.call.Reply.TheVariants as reply
+use Rattle.gmp_seq.specs.declared.status.Kind.{Kind}
 use Rattle.gmp_seq.specs.declared.status.Kind.TheVariants as kind
 use Rattle.gmp_seq.specs.declared.status.Offer.{Offer}
 use Rattle.gmp_seq.specs.declared.status.Place.TheVariants.{Shelf}
@@ -50,7 +52,7 @@ use Rattle.gmp_cli.specs.declared.machine.Hand.{Hand}
 use Rattle.gmp_cli.specs.declared.machine.Hand.TheVariants.{Start, Look, Claim, Drop, Park, Poke, Run}
 use Rattle.gmp_cli.specs.Driven.{Drives, GoesOn, IsDriven, IsLatest, LacksOne, machine, looking, pushed, running_one}
 use Rattle.gmp_cli.specs.Script.{Commands}
-use Rattle.gmp_cli.proofs.Driving.{opening_driven, started_driven, taken_driven, none_driven, claimed_driven, poked_driven, poked_on, declared_driven, declare_needs, park_asleep, parked_driven, ticked_driven, gone_driven, made_driven, dealt_driven, closed_driven, len_driven, cap_driven, waited_driven, yielded_driven, exited_driven, claim_needs}
+use Rattle.gmp_cli.proofs.Driving.{opening_driven, started_driven, taken_driven, none_driven, claimed_driven, poked_driven, poked_on, declared_driven, declare_needs, park_asleep, parked_driven, ticked_driven, gone_driven, made_driven, dealt_driven, closed_driven, selected_driven, len_driven, cap_driven, waited_driven, yielded_driven, exited_driven, claim_needs}
 use Rattle.gmp_cli.proofs.Tickets.{first_out}
 
 -- Slots
@@ -398,23 +400,47 @@ module _ (old new : Contents Commands Unit) (before after : Pass) (queue : List 
       went_drives proc held w (call.Recv c) went.answer went.records moves.1 values
       (dealt_driven old.log new.log proc.p held.g step.1.0 (case.Recv c) went.answer queue capacity (length old.bodies) step.1.2 moves.0 kept.driven) kept
 
+  -- what a select says of itself, without the word
+  by_some_choice : (held : Held Commands) (cases : List Case) (has_default : Bool) (word : ℕ) (moved : Moved Commands)
+      → by.ProceedsByChoice old.log before cases has_default word held new.log after moved → by.ProceedsOrWaits old.log before (call.Select cases has_default None) held new.log after moved
+  by_some_choice held cases has_default word moved went = record { answer = went.answer; records = went.records; moves = went.moves }
+
+  pub select_drives : (proc : Proc Unit) (held : Held Commands) (moved : Moved Commands) (w : Went Commands) (cases : List Case) (has_default : Bool) (word : ℕ) → moved ≡ On w
+      → by.ProceedsByChoice old.log before cases has_default word held new.log after moved → by.MovesBody old new held moved → Drives old before queue capacity (Run proc held)
+      → Drives new after (pushed capacity queue (option_map readiness_of w.push)) capacity (Run proc w.held)
+  select_drives proc held moved w cases has_default word is went same kept =
+      let moves = subst (λ (m : Moved Commands). by.Moves went.answer held m) is went.moves in
+      let values = subst (λ (m : Moved Commands). by.MovesBody old new held m) is same in
+      let asked = call.Select cases has_default None in
+      let step = at_machine asked went.answer (Run proc held) went.records kept in
+      let selects = step.1.1 in
+      went_drives proc held w asked went.answer went.records moves.1 values
+      (selected_driven old.log new.log proc.p held.g selects.0 cases has_default None went.answer queue capacity (length old.bodies) selects.2 moves.0 kept.driven) kept
+
   -- a wait leaves the machines
-  pub wait_drives : (proc : Proc Unit) (held : Held Commands) (moved : Moved Commands) (asked : Call) (offers : List Offer) → moved ≡ Waits
+  pub wait_drives : (proc : Proc Unit) (held : Held Commands) (moved : Moved Commands) (asked : Call) (why : Kind) (offers : List Offer) → moved ≡ Waits
       → by.ProceedsOrWaits old.log before asked held new.log after moved → by.MovesBody old new held moved
-      → (moved ≡ Waits → new.log.state.table ≡ made_wait old.log.state.table held.g kind.Plain offers None) → Drives old before queue capacity (Run proc held)
+      → (moved ≡ Waits → new.log.state.table ≡ made_wait old.log.state.table held.g why offers None) → Drives old before queue capacity (Run proc held)
       → Drives new after queue capacity (Look proc)
-  wait_drives proc held moved asked offers is went same waits kept =
+  wait_drives proc held moved asked why offers is went same waits kept =
       let answer : went.answer ≡ reply.Waits = subst (λ (m : Moved Commands). by.Moves went.answer held m) is went.moves in
       let back : TakesBack old new held = subst (λ (m : Moved Commands). by.MovesBody old new held m) is same in
       let records = subst (λ (r : Reply). Records old.log before asked r new.log after) answer went.records in
       let machines = waits_machines old.log.limits before.m asked old.log.state new.log.state records.step.1 in
       record {
-        driven = rw (back.bodies, length-set old.bodies held.g.0 (Some held.body)) (waited_driven old.log new.log proc.p held.g offers queue capacity (length old.bodies) (waits is) machines kept.driven);
+        driven = rw (back.bodies, length-set old.bodies held.g.0 (Some held.body)) (waited_driven old.log new.log proc.p held.g why offers queue capacity (length old.bodies) (waits is) machines kept.driven);
         latest = latest_on old.log new.log before after asked reply.Waits records kept.latest;
         run = same_run asked reply.Waits records proc.run kept.run.0;
         bodies = rw back.bodies (kept.bodies.rest held.body);
         owners = rw back.owners kept.owners;
       }
+
+  pub select_wait_drives : (proc : Proc Unit) (held : Held Commands) (moved : Moved Commands) (cases : List Case) (has_default : Bool) (word : ℕ) (offers : List Offer) → moved ≡ Waits
+      → by.ProceedsByChoice old.log before cases has_default word held new.log after moved → by.MovesBody old new held moved
+      → (moved ≡ Waits → new.log.state.table ≡ made_wait old.log.state.table held.g kind.Select offers None) → Drives old before queue capacity (Run proc held)
+      → Drives new after queue capacity (Look proc)
+  select_wait_drives proc held moved cases has_default word offers is went same waits kept =
+      wait_drives proc held moved (call.Select cases has_default None) kind.Select offers is (by_some_choice held cases has_default word moved went) same waits kept
 
 -- The opening
 

@@ -1,5 +1,6 @@
 pub mod Parts
 pub mod Scripts
+pub mod Selects
 pub mod Tickets
 pub mod Driving
 pub mod Handing

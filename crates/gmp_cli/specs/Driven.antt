@@ -3,6 +3,7 @@ use Rattle.std.specs.Prelude.{◌≡◌, ℕ, ◌+◌, ◌≤◌, ◌<◌, ◌==
 use Rattle.circular_buffer.specs.Buffer.{keep_last}
 use Rattle.gmp_base.specs.declared.ask.Ask.{Ask}
 use Rattle.gmp_base.specs.declared.ask.Ask.TheVariants as ask
+use Rattle.gmp_base.specs.declared.cases.Case.{Case}
 use Rattle.gmp_base.specs.declared.number.GNo.{GNo}
 use Rattle.gmp_base.specs.declared.number.MNo.{MNo}
 use Rattle.gmp_base.specs.declared.number.PNo.{PNo}
@@ -11,6 +12,7 @@ use Rattle.gmp_base.specs.declared.pass.Pass.{Pass}
 use Rattle.gmp_base.specs.Values.{readiness_of}
 use Rattle.gmp_book.specs.declared.report.Report.{Report}
 use Rattle.gmp_book.specs.Book.{Contents}
+use Rattle.gmp_book.specs.Choice.{IsChoice}
 use Rattle.gmp_book.specs.Log.{Log, calls_of}
 use Rattle.gmp_seq.specs.declared.call.Call.{Call}
 use Rattle.gmp_seq.specs.declared.call.Call.TheVariants as call
@@ -47,6 +49,12 @@ pub record GoesOnBy (call : Call) (old new : Log) : Type 0 where
   pub last : new.history ≡ old.history ++ entry ∷ []
   pub made : entry.call ≡ call
 
+-- the run goes on by a select, and where that takes a case, it is the one that the word chooses
+pub record GoesOnByChoice (cases : List Case) (word : ℕ) (old new : Log) : Type 0 where
+  pub entry : Entry
+  pub last : new.history ≡ old.history ++ entry ∷ []
+  pub choice : IsChoice old.state cases word entry.reply
+
 -- the call that a script's ask makes
 abbrev pub call_of : Ask → Call
 call_of ask.Yield = call.Yield
@@ -57,6 +65,7 @@ call_of (ask.Recv c) = call.Recv c
 call_of (ask.Close c) = call.Close c
 call_of (ask.Len c) = call.Len c
 call_of (ask.Cap c) = call.Cap c
+call_of (ask.Select cases has_default until) = call.Select cases has_default until
 call_of _ = call.Exit
 
 -- the report tells a run that was opened so: its history is legal, and its outcome is that of the state that the history leads to

@@ -1,11 +1,11 @@
 //! What a script says.
 
-use gmp_base::{Ask, Body, CNo, GNo, Woke};
+use gmp_base::{Ask, Body, CNo, Cases, GNo, Woke};
 use std::alloc::{AllocError, Global};
 use std::marker::Model;
 
 /// A command of a script's body: what it asks next. `None` for a channel is nil.
-#[derive(Clone, Copy, Debug, PartialEq, Eq)]
+#[derive(Debug, Drop)]
 pub enum Command {
     Yield,
     Go(GNo),
@@ -15,6 +15,8 @@ pub enum Command {
     Close(Option<CNo>),
     Len(Option<CNo>),
     Cap(Option<CNo>),
+    /// The cases, and whether there is a default.
+    Select(Cases, bool),
     Exit,
     /// No ask: goes on with the body's first command.
     Again,
@@ -34,18 +36,19 @@ impl Command {
     ghost use Rattle.gmp_cli.specs.Script.{ask_of};
 
     /// What the command asks. No body asks by its `Again`.
-    fn ask(self) -> Ask
-        ensures { result ≡ ask_of (Some self) }
+    fn ask(&self) -> Ask
+        ensures { result ≡ ask_of (Some self.now) }
     {
         match self {
             Command::Yield => Ask::Yield,
-            Command::Go(g) => Ask::Go(g),
-            Command::Make(capacity) => Ask::Make(capacity),
-            Command::Send(c, value) => Ask::Send(c, value),
-            Command::Recv(c) => Ask::Recv(c),
-            Command::Close(c) => Ask::Close(c),
-            Command::Len(c) => Ask::Len(c),
-            Command::Cap(c) => Ask::Cap(c),
+            Command::Go(g) => Ask::Go(*g),
+            Command::Make(capacity) => Ask::Make(*capacity),
+            Command::Send(c, value) => Ask::Send(*c, *value),
+            Command::Recv(c) => Ask::Recv(*c),
+            Command::Close(c) => Ask::Close(*c),
+            Command::Len(c) => Ask::Len(*c),
+            Command::Cap(c) => Ask::Cap(*c),
+            Command::Select(cases, has_default) => Ask::Select(cases.copied(), *has_default, None),
             Command::Exit | Command::Again => Ask::Exit,
         }
     }
@@ -85,10 +88,10 @@ impl ScriptBody {
     }
 
     /// Whether the command may come next: `Again` may not come first.
-    pub fn accepts(&self, command: Command) -> bool
-        ensures { IsTrue result ↔ (begins_again (self.now.commands ++ command ∷ []) ≡ false) }
+    pub fn accepts(&self, command: &Command) -> bool
+        ensures { IsTrue result ↔ (begins_again (self.now.commands ++ command.now ∷ []) ≡ false) }
     {
-        command != Command::Again || !self.commands.is_empty()
+        !matches!(command, Command::Again) || !self.commands.is_empty()
     }
 
     /// Adds a command at the end.

@@ -1,15 +1,18 @@
 //! Reads a line of a script.
 
 ghost use Rattle.std.specs.Prelude.{◌≡◌, IfOk, map};
-ghost use Rattle.gmp_cli.specs.Lines.{words, value, below, goroutine, capacity, channel, said_alone, said_with, said_with_two, said_by_words, said_by};
+ghost use Rattle.gmp_cli.specs.Lines.{words, value, below, goroutine, capacity, channel, said_alone, said_with, said_with_two, said_by_few, said_by_words, said_by};
+
+mod selects;
 
 use crate::commands::Command;
 use crate::digits::number;
+use crate::lines::selects::selected;
 use gmp_base::{CNo, GNo};
 use std::alloc::{AllocError, Global};
 
 /// What a line says.
-#[derive(Clone, Copy, Debug, PartialEq, Eq)]
+#[derive(Debug, Drop)]
 pub enum Line {
     /// It is empty, or a comment.
     Nothing,
@@ -119,9 +122,9 @@ fn with_two(word: &[u8], c: &[u8], v: &[u8]) -> Option<Line>
     }
 }
 
-/// What a line of these words says, if it is no comment.
-fn by_words(words: &[&[u8]]) -> Option<Line>
-    ensures { result ≡ said_by_words (map (λ word. word.now) words.now) }
+/// What a line of up to three words says.
+fn by_few(words: &[&[u8]]) -> Option<Line>
+    ensures { result ≡ said_by_few (map (λ word. word.now) words.now) }
 {
     match words {
         [] => Some(Line::Nothing),
@@ -132,14 +135,23 @@ fn by_words(words: &[&[u8]]) -> Option<Line>
     }
 }
 
+/// What a line of these words says, if it is no comment.
+fn by_words(alloc: Global, words: &[&[u8]]) -> Result<Option<Line>, AllocError>
+    ensures { IfOk result (λ said. said ≡ said_by_words (map (λ word. word.now) words.now)) }
+{
+    match words {
+        [first, offers @ ..] if *first == b"select".as_slice() => selected(alloc, offers),
+        words => Ok(by_few(words)),
+    }
+}
+
 /// What a line says, or none where it is bad.
 pub fn line_of(alloc: Global, line: &[u8]) -> Result<Option<Line>, AllocError>
     ensures { IfOk result (λ said. said ≡ said_by line.now) }
 {
     let words = words(alloc, line)?;
-    let said = match words.as_slice() {
-        [first, ..] if first.starts_with(b"#") => Some(Line::Nothing),
-        words => by_words(words),
-    };
-    Ok(said)
+    match words.as_slice() {
+        [first, ..] if first.starts_with(b"#") => Ok(Some(Line::Nothing)),
+        words => by_words(alloc, words),
+    }
 }

@@ -54,6 +54,8 @@ pub(crate) struct Machine {
     turns: u8,
     /// A tick woke somebody, and no other machine was told yet. No goroutine of a script waits with a deadline yet, so it stays false.
     fresh: bool,
+    /// The word that each select draws.
+    word: u64,
 }
 
 /// Gives a body back once the run is over.
@@ -105,11 +107,13 @@ impl Machine {
         limits: Limits,
         capacities: &[u32],
         bodies: Vec<ScriptBody>,
+        word: u64,
     ) -> Result<Self, Refusal>
         requires { limits.machines ≡ 1 }
         ensures within { IfOk result (λ _. AreLimits limits (length bodies.items) capacities.now) }
         ensures log { IfOk result (λ m. m.book.log ≡ opening_log RUN limits (length bodies.items) capacities.now) }
         ensures drives { IfOk result (λ m. Driving m Hand.Start) }
+        ensures word { IfOk result (λ m. m.word ≡ word) }
         ensures why { IfErr result (λ why. (why ≡ BadLimits) ⊎ (why ≡ OutOfMemory)) }
         ensures limits { IfErr result (λ why. why ≡ BadLimits → ¬ (AreLimits limits (length bodies.items) capacities.now)) }
     {
@@ -138,6 +142,7 @@ impl Machine {
                     queue,
                     turns: 0,
                     fresh: false,
+                    word,
                 })
             }
         }
@@ -170,6 +175,7 @@ impl Machine {
             queue: _,
             turns: _,
             fresh: _,
+            word: _,
         } = self;
         pass.open();
     }
@@ -186,6 +192,7 @@ impl Machine {
             queue: _,
             turns: _,
             fresh: _,
+            word: _,
         } = self;
         pass.open();
         match hand {

@@ -14,6 +14,7 @@ pub struct Numeric {
     pub id: &'static str,
     /// The option as it is written.
     pub option: &'static str,
+    pub help: &'static str,
     pub least: u64,
     pub most: u64,
     /// The number where the option is not given.
@@ -33,6 +34,7 @@ impl Numeric {
             .long(self.id)
             .action(ArgAction::Set)
             .value_parser(parser(self.least, self.most))
+            .help(self.help)
     }
 
     /// The number that the words give, or the default where they don't give the option.

@@ -21,6 +21,8 @@ pub struct Settings {
     pub channels: u16,
     /// The most entries that a history may have: 16 to 1,000,000.
     pub entries: u32,
+    /// The word that every choice draws.
+    pub word: u64,
     pub ghost procs_in_range: { (1 ≤ procs) × (procs ≤ 32) },
     pub ghost machines_in_range: { (1 ≤ machines) × (machines ≤ 64) },
     pub ghost channels_in_range: { channels ≤ 1024 },

@@ -38,7 +38,7 @@ fn add(alloc: Global, script: &mut Script, line: &[u8]) -> Result<bool, AllocErr
             let Some(body) = script.bodies.last_mut() else {
                 return Ok(false);
             };
-            if !body.accepts(command) {
+            if !body.accepts(&command) {
                 return Ok(false);
             }
             body.push(command)?;

@@ -30,8 +30,8 @@ fn limits_of(settings: &Settings) -> Limits
     }
 }
 
-/// Runs the script on one machine with one processor.
-fn run(alloc: Global, limits: Limits, script: Script) -> Result<Trace, Ended>
+/// Runs the script on one machine with one processor, each choice drawing this word.
+fn run(alloc: Global, limits: Limits, script: Script, word: u64) -> Result<Trace, Ended>
     ensures ok { IfOk result (λ x. IsTraceOf limits (content x)) }
     ensures stock { IfOk result (λ x. x.bodies ≡ length script.bodies.items) }
     ensures channels { IfOk result (λ x. x.capacities.items ≡ script.capacities.items) }
@@ -44,7 +44,7 @@ fn run(alloc: Global, limits: Limits, script: Script) -> Result<Trace, Ended>
         return Err(Ended::bad_limits());
     }
     let Script { capacities, bodies } = script;
-    let machine = match Machine::open(alloc, limits, &capacities, bodies) {
+    let machine = match Machine::open(alloc, limits, &capacities, bodies, word) {
         Ok(machine) => machine,
         Err(Refusal::BadLimits) => return Err(Ended::bad_limits()),
         Err(_) => return Err(Ended::out_of_memory()),
@@ -81,7 +81,7 @@ pub(crate) fn traced<R: Read>(
         → IfSome (R.remaining reader.old) (λ all. IsOutOfLimits (limits_of settings.now) all)) }
 {
     match script(alloc, reader) {
-        Ok(script) => run(alloc, limits_of(settings), script),
+        Ok(script) => run(alloc, limits_of(settings), script, settings.word),
         Err(ended) => Err(ended),
     }
 }

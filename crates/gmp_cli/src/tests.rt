@@ -52,7 +52,14 @@ fn bad_lines_are_refused(rt: HostRuntime) -> Result<(), Fail> {
         ("gmp step --procs 1 --procs 1", 64),
         ("gmp step --procs +1", 64),
         ("gmp step --procs", 64),
-        ("gmp step --word 1", 64),
+        ("gmp step --word 18446744073709551616", 64),
+        ("gmp step --word=18446744073709551616", 64),
+        ("gmp step --word -1", 64),
+        ("gmp step --word=+1", 64),
+        ("gmp step --word", 64),
+        ("gmp step --word=", 64),
+        ("gmp step --word 1 --word 2", 64),
+        ("gmp step --words 1", 64),
         ("gmp step extra", 64),
         ("gmp run", 64),
         ("gmp", 64),
@@ -159,7 +166,7 @@ fn input_has_a_limit(rt: HostRuntime) -> Result<(), Fail> {
 }
 
 /// The capacities and the bodies of the script that a text is, or its first bad line.
-fn scripted(rt: &impl Abort, alloc: Global, text: &str) -> Result<String, Fail> {
+pub(crate) fn scripted(rt: &impl Abort, alloc: Global, text: &str) -> Result<String, Fail> {
     match script(alloc, &mut text.as_bytes()) {
         Ok(Script { capacities, bodies }) => {
             let mut commands = Vec::new(alloc);
@@ -207,7 +214,6 @@ fn scripts_are_read(rt: HostRuntime) -> Result<(), Fail> {
         ("clock 1\nbody", "line 1"),
         ("body\npark\nsleep 1", "line 2"),
         ("body\nready 1", "line 2"),
-        ("body\nselect recv:0", "line 2"),
         ("body\nblock 1", "line 2"),
         ("Body", "line 1"),
     ] {

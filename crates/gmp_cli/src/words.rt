@@ -16,6 +16,7 @@ use std::alloc::{AllocError, Global};
 const PROCS: Numeric = Numeric {
     id: "procs",
     option: "--procs",
+    help: "Processors",
     least: 1,
     most: 32,
     default: 1,
@@ -24,6 +25,7 @@ const PROCS: Numeric = Numeric {
 const MACHINES: Numeric = Numeric {
     id: "machines",
     option: "--machines",
+    help: "Machines",
     least: 1,
     most: 64,
     default: 1,
@@ -32,6 +34,7 @@ const MACHINES: Numeric = Numeric {
 const CHANNELS: Numeric = Numeric {
     id: "channels",
     option: "--channels",
+    help: "The most channels",
     least: 0,
     most: 1024,
     default: 16,
@@ -40,9 +43,19 @@ const CHANNELS: Numeric = Numeric {
 const ENTRIES: Numeric = Numeric {
     id: "entries",
     option: "--entries",
+    help: "The most entries",
     least: 16,
     most: 1_000_000,
     default: 10_000,
+};
+
+const WORD: Numeric = Numeric {
+    id: "word",
+    option: "--word",
+    help: "The word that every choice draws",
+    least: 0,
+    most: u64::MAX,
+    default: 0,
 };
 
 fn command<'a>(alloc: Global) -> Result<Command<'a>, AllocError> {
@@ -51,7 +64,8 @@ fn command<'a>(alloc: Global) -> Result<Command<'a>, AllocError> {
         .arg(PROCS.arg(alloc))?
         .arg(MACHINES.arg(alloc))?
         .arg(CHANNELS.arg(alloc))?
-        .arg(ENTRIES.arg(alloc))?;
+        .arg(ENTRIES.arg(alloc))?
+        .arg(WORD.arg(alloc))?;
     Command::new(alloc, "gmp")
         .subcommand_required(true)
         .subcommand(step)
@@ -88,6 +102,7 @@ pub fn settings<'a>(alloc: Global, words: &'a [String]) -> Result<Settings, Ende
     ensures machines_given { IfOk result (λ s. number_given string_bytes words.now (codes "--machines") 1 ≡ Some s.machines) }
     ensures channels_given { IfOk result (λ s. number_given string_bytes words.now (codes "--channels") 16 ≡ Some s.channels) }
     ensures entries_given { IfOk result (λ s. number_given string_bytes words.now (codes "--entries") 10000 ≡ Some s.entries) }
+    ensures word_given { IfOk result (λ s. number_given string_bytes words.now (codes "--word") 0 ≡ Some s.word) }
 
     ensures err { IfErr result (λ e. is_of_words e.said ≡ true) }
 {
@@ -95,11 +110,12 @@ pub fn settings<'a>(alloc: Global, words: &'a [String]) -> Result<Settings, Ende
     if let Err(error) = command.try_get_matches_from_mut(words) {
         return Err(refused(alloc, &error));
     }
-    let (Some(procs), Some(machines), Some(channels), Some(entries)) = (
+    let (Some(procs), Some(machines), Some(channels), Some(entries), Some(word)) = (
         PROCS.read(words),
         MACHINES.read(words),
         CHANNELS.read(words),
         ENTRIES.read(words),
+        WORD.read(words),
     ) else {
         let error = command.error(
             ErrorKind::InvalidValue,
@@ -113,5 +129,6 @@ pub fn settings<'a>(alloc: Global, words: &'a [String]) -> Result<Settings, Ende
         machines: machines as u8,
         channels: channels as u16,
         entries: entries as u32,
+        word,
     })
 }

@@ -4,14 +4,14 @@ ghost use Rattle.gmp_base.specs.Values.{readiness_of};
 
 use crate::commands::ScriptBody;
 use crate::machine::{Hand, Machine};
-use gmp_base::{Ask, Body, CNo, GNo, Held, Proc};
+use gmp_base::{Ask, Body, CNo, Cases, GNo, Held, Proc};
 use gmp_book::{Moved, Went};
 use std::alloc::{AllocError, Global};
 
 impl Machine {
-    ghost use Rattle.gmp_cli.specs.Driven.{Driving, Drives, GoesOn, GoesOnBy, call_of, is_poke, pushed};
+    ghost use Rattle.gmp_cli.specs.Driven.{Driving, Drives, GoesOn, GoesOnBy, GoesOnByChoice, call_of, is_poke, pushed};
     ghost use Rattle.gmp_cli.specs.Script.{next_ask};
-    ghost use Rattle.gmp_seq.specs.declared.call.Call.TheVariants.{Cap, Close, Exit, Go, Len, Make, Recv, Send, Yield};
+    ghost use Rattle.gmp_seq.specs.declared.call.Call.TheVariants.{Cap, Close, Exit, Go, Len, Make, Recv, Select, Send, Yield};
 
     /// Resumes the body, and makes the call that it asks for.
     pub(super) fn resume(
@@ -39,6 +39,9 @@ impl Machine {
             Ask::Close(c) => Ok(self.close_channel(proc, held, c)),
             Ask::Len(c) => Ok(self.len(proc, held, c)),
             Ask::Cap(c) => Ok(self.cap(proc, held, c)),
+            Ask::Select(cases, has_default, None) => {
+                Ok(self.select(proc, held, &cases, has_default))
+            }
             // A body of a script asks nothing else.
             _ => unreachable!(),
         }
@@ -161,6 +164,33 @@ impl Machine {
         ensures call { GoesOnBy (Recv c) self.old.book.log self.new.book.log }
     {
         match self.book.recv(&mut self.pass, held, c) {
+            Ok(moved) => match moved {
+                Moved::On(went) => self.settle(proc, went, 0),
+                Moved::Waits => Hand::Look(proc),
+            },
+            Err(_) => unreachable!(),
+        }
+    }
+
+    /// Takes, of the cases that can proceed, the one that the word chooses; where none can, the default, or waits for any.
+    fn select(
+        &mut self,
+        proc: Proc<()>,
+        held: Held<ScriptBody>,
+        cases: &Cases,
+        has_default: bool,
+    ) -> Hand
+        requires ongoing { self.old.book.log.state.outcome ≡ None }
+        requires drives { Driving self.old (Hand.Run proc held) }
+        ensures drives { Driving self.new result }
+        ensures goes { GoesOn self.old.book.log self.new.book.log }
+        ensures call { GoesOnBy (Select cases.now has_default None) self.old.book.log self.new.book.log }
+        ensures choice { GoesOnByChoice cases.now self.old.word self.old.book.log self.new.book.log }
+    {
+        match self
+            .book
+            .select(&mut self.pass, held, cases, has_default, self.word)
+        {
             Ok(moved) => match moved {
                 Moved::On(went) => self.settle(proc, went, 0),
                 Moved::Waits => Hand::Look(proc),
