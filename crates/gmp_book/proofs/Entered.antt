@@ -1,5 +1,5 @@
 -- A book is kept by an accepted call.
-use Rattle.std.proofs.Common.{◌≡◌, ℕ, Option, ◌+◌, ◌<◌, ◌≤◌, ◌^◌, List, [], ◌∷◌, ◌++◌, Some, None, length, sum, slice_get, slice_set, slice_index, refl, sym, ap, ◌∙◌, subst, arith}
+use Rattle.std.proofs.Common.{◌≡◌, ℕ, Bool, Option, ◌+◌, ◌<◌, ◌≤◌, ◌^◌, List, [], ◌∷◌, ◌++◌, Some, None, length, sum, slice_get, slice_set, slice_index, refl, sym, ap, ◌∙◌, subst, arith}
 use Rattle.std.specs.Prelude.{IfNone}
 use Rattle.std.proofs.lemmas.Option.{slice_get_within, slice_get-get_or}
 use Rattle.std.proofs.lemmas.List.Sums.{get_or-le-sum_by}
@@ -20,7 +20,7 @@ use Rattle.gmp_seq.specs.Laws.{IsInOrder}
 use Rattle.gmp_seq.specs.Machines.{Machines, Holds, IsAwake}
 use Rattle.gmp_seq.specs.Run.{Run}
 use Rattle.gmp_seq.specs.State.{State, opening}
-use Rattle.gmp_seq.specs.Step.{Closes, Deals, Effect, Parks, outcome_after}
+use Rattle.gmp_seq.specs.Step.{Closes, Deals, Selects, Effect, Parks, outcome_after}
 use Rattle.gmp_seq.specs.Table.{IsRunning, epoch_at}
 use Rattle.gmp_seq.proofs.Counts.{legal_total}
 use Rattle.gmp_seq.proofs.InOrder.{legal_in_order}
@@ -144,6 +144,15 @@ deals_in g c (reply.Fault fault.SendOnClosed) p q machines counts counts' outcom
 deals_in g c reply.Waits p q machines counts counts' outcome outcome' (made, (none, table, channels, same)) = (made, (none, table, channels, refl))
 deals_in g c (reply.Fault fault.NoSuchChannel) p q machines counts counts' outcome outcome' (missing, (table, channels, same)) = (missing, (table, channels, refl))
 deals_in g c _ p q machines counts counts' outcome outcome' deals = absurd deals
+
+pub selects_in : (g : GNo) (cases : List Case) (has_default : Bool) (until : Option ℕ) (answer : Reply) (p q : Present) (machines : Machines) (counts counts' : List ℕ) (outcome outcome' : Option Outcome)
+    → Selects g cases has_default until answer (state_of p) (state_of q)
+    → Selects g cases has_default until answer (state_in p machines counts outcome) (state_in q machines counts' outcome')
+selects_in g cases has_default until (reply.Chose i said) p q machines counts counts' outcome outcome' (made, c, at, (how, proceeds, told, table, same)) = (made, c, at, (how, proceeds, told, table, refl))
+selects_in g cases has_default until reply.Default p q machines counts counts' outcome outcome' (made, default, none, (table, channels, same)) = (made, default, none, (table, channels, refl))
+selects_in g cases has_default until reply.Waits p q machines counts counts' outcome outcome' (made, default, (none, table, channels, same)) = (made, default, (none, table, channels, refl))
+selects_in g cases has_default until (reply.Fault fault.NoSuchChannel) p q machines counts counts' outcome outcome' (missing, (table, channels, same)) = (missing, (table, channels, refl))
+selects_in g cases has_default until _ p q machines counts counts' outcome outcome' selects = absurd selects
 
 pub closes_in : (c : Option CNo) (answer : Reply) (p q : Present) (machines : Machines) (counts counts' : List ℕ) (outcome outcome' : Option Outcome)
     → Closes c answer (state_of p) (state_of q) → Closes c answer (state_in p machines counts outcome) (state_in q machines counts' outcome')

@@ -11,3 +11,4 @@ pub mod Granted
 pub mod Arrivals
 pub mod Ties
 pub mod Talking
+pub mod Choices

@@ -31,7 +31,7 @@ use Rattle.gmp_seq.specs.declared.status.Status.TheVariants as status
 use Rattle.gmp_seq.specs.declared.status.Transfer.TheVariants.{Handed, Relayed}
 use Rattle.gmp_seq.specs.Machines.{Machines}
 use Rattle.gmp_seq.specs.State.{State, SameTable, SameMachines}
-use Rattle.gmp_seq.specs.Step.{Effect, Communicates, Deals, Closes, Parks}
+use Rattle.gmp_seq.specs.Step.{Effect, Communicates, Deals, Selects, Closes, Parks}
 use Rattle.gmp_seq.specs.Table.{Table, status_at, made_ready, made_wait, all_woken, woken_with, due_answer}
 use Rattle.gmp_seq.specs.Waits.{close_answer}
 use Rattle.gmp_seq.proofs.OneEach.{row_at}
@@ -110,6 +110,14 @@ deals_unmoved g c reply.Waits old new goes h = absurd (goes refl)
 deals_unmoved g c (reply.Fault fault.NoSuchChannel) old new goes (made, (is, rest, machines)) = unmoved old new is machines
 deals_unmoved g c _ old new goes h = absurd h
 
+selects_unmoved : (g : GNo) (cases : List Case) (has_default : Bool) (until : Option ℕ) (answer : Reply) (old new : State) → (answer ≡ reply.Waits → ⊥)
+    → Selects g cases has_default until answer old new → Unmoved old new
+selects_unmoved g cases has_default until (reply.Chose i told) old new goes (made, c, at, h) = communicates_unmoved c told old new h
+selects_unmoved g cases has_default until reply.Default old new goes (made, default, none, (is, rest, machines)) = unmoved old new is machines
+selects_unmoved g cases has_default until reply.Waits old new goes h = absurd (goes refl)
+selects_unmoved g cases has_default until (reply.Fault fault.NoSuchChannel) old new goes (missing, (is, rest, machines)) = unmoved old new is machines
+selects_unmoved g cases has_default until _ old new goes h = absurd h
+
 closes_unmoved : (c : Option CNo) (answer : Reply) (old new : State) → Closes c answer old new → Unmoved old new
 closes_unmoved (Some c) (reply.Closed n) old new (made, open_, channels, is, count, machines) =
     (same_in (all_woken (close_answer c) old.table) new.table is ∙ woken_rows (close_answer c) (close_free c) old.table.goroutines, machines)
@@ -181,6 +189,12 @@ module _ {T Q : Type 0} (old now : Log) (bodies : List (Option T)) (owners : Lis
   pub receives_placed : (c : Option CNo) (answer : Reply) (before after : Pass) → (answer ≡ reply.Waits → ⊥) → Records old before (call.Recv c) answer now after → Placed now bodies owners
   receives_placed c answer before after goes records =
       unmoved_placed records.opened records.step.0 (deals_unmoved records.step.1.0 (case.Recv c) answer old.state now.state goes records.step.1.2)
+
+  pub selects_placed : (cases : List Case) (has_default : Bool) (until : Option ℕ) (answer : Reply) (before after : Pass) → (answer ≡ reply.Waits → ⊥)
+      → Records old before (call.Select cases has_default until) answer now after → Placed now bodies owners
+  selects_placed cases has_default until answer before after goes records =
+      let by = records.step.1.1 in
+      unmoved_placed records.opened records.step.0 (selects_unmoved by.0 cases has_default until answer old.state now.state goes by.2)
 
   pub closes_placed : (c : Option CNo) (answer : Reply) (before after : Pass) → Records old before (call.Close c) answer now after → Placed now bodies owners
   closes_placed c answer before after records =
@@ -269,3 +283,15 @@ module _ {T Q : Type 0} (old now : Log) (bodies : List (Option T)) (owners : Lis
           let e = wait_is answer is in
           waits_placed (call.Recv c) held.g held.body kind.Plain offers None before after (subst (λ (r : Reply). Records old before (call.Recv c) r now after) e records) (waits e)
       by_wait false is = receives_placed c answer before after (no_wait answer is) records
+
+  pub select_placed : (cases : List Case) (has_default : Bool) (answer : Reply) (held : Held T) (offers : List Offer) (before after : Pass)
+      → Records old before (call.Select cases has_default None) answer now after
+      → (answer ≡ reply.Waits → now.state.table ≡ made_wait old.state.table held.g kind.Select offers None) → Placed now (bodies_by answer held bodies) owners
+  select_placed cases has_default answer held offers before after records waits = by_wait (is_wait answer) refl
+    where
+      by_wait : (b : Bool) → is_wait answer ≡ b → Placed now (if b then set bodies held.g.0 (Some held.body) else bodies) owners
+      by_wait true is =
+          let e = wait_is answer is in
+          waits_placed (call.Select cases has_default None) held.g held.body kind.Select offers None before after
+          (subst (λ (r : Reply). Records old before (call.Select cases has_default None) r now after) e records) (waits e)
+      by_wait false is = selects_placed cases has_default None answer before after (no_wait answer is) records

@@ -9,3 +9,5 @@ pub mod Went
 pub mod Laws
 pub mod Tied
 pub mod Present
+pub mod Choice
+pub mod Served

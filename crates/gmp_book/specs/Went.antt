@@ -8,7 +8,9 @@ use Rattle.gmp_base.specs.declared.refusal.Refusal.{Refusal}
 use Rattle.gmp_base.specs.declared.refusal.Refusal.TheVariants.{OutOfMemory}
 use Rattle.gmp_base.specs.declared.value.Held.{Held}
 use Rattle.gmp_base.specs.declared.value.Ticket.{Ticket}
+use Rattle.gmp_base.specs.declared.cases.Case.{Case}
 use Rattle.gmp_seq.specs.declared.call.Call.{Call}
+use Rattle.gmp_seq.specs.declared.call.Call.TheVariants as call
 use Rattle.gmp_seq.specs.declared.call.Relay.{Relay}
 use Rattle.gmp_seq.specs.declared.call.Reply.{Reply}
 use Rattle.gmp_seq.specs.declared.call.Reply.TheVariants as reply
@@ -19,6 +21,7 @@ use Rattle.gmp_book.specs.declared.went.Moved.{Moved}
 use Rattle.gmp_book.specs.declared.went.Moved.TheVariants.{On, Waits}
 use Rattle.gmp_book.specs.declared.went.Went.{Went}
 use Rattle.gmp_book.specs.Book.{Contents, SameValues, TakesBack}
+use Rattle.gmp_book.specs.Choice.{IsChoice}
 use Rattle.gmp_book.specs.Log.{Log, Records}
 
 -- What a reply says to the goroutine that asked
@@ -72,6 +75,13 @@ pub record ProceedsOrWaits {T : Type 0} (old : Log) (before : Pass) (call : Call
   pub answer : Reply
   pub records : Records old before call answer now after
   pub moves : Moves answer held moved
+
+-- The same of a select: the case that is taken is the one that the word chooses.
+pub record ProceedsByChoice {T : Type 0} (old : Log) (before : Pass) (cases : List Case) (has_default : Bool) (word : ℕ) (held : Held T) (now : Log) (after : Pass) (moved : Moved T) : Type 0 where
+  pub answer : Reply
+  pub records : Records old before (call.Select cases has_default None) answer now after
+  pub moves : Moves answer held moved
+  pub choice : IsChoice old.state cases word answer
 
 -- The same of a close, which counts those whom it woke.
 pub record ProceedsBy {T : Type 0} (old : Log) (before : Pass) (call : Call) (held : Held T) (now : Log) (after : Pass) (w : Went T) (count : ℕ) : Type 0 where

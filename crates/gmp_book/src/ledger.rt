@@ -17,6 +17,7 @@ mod communicating;
 mod passing;
 mod refusing;
 mod resting;
+mod selecting;
 
 use crate::goroutines::Goroutines;
 use crate::journal::Journal;

@@ -31,7 +31,7 @@ fn proceed(rt: &impl Abort, chans: &mut Channels, case: Case) -> Transfer {
     };
     assert!(rt; made);
     assert!(rt; chans.can(case));
-    complete(chans, case)
+    complete(chans, case).expect(rt, "it can proceed")
 }
 
 fn close(rt: &impl Abort, chans: &mut Channels, c: u16) {

@@ -11,12 +11,12 @@ ghost use Rattle.gmp_book.specs.Refusals.{MayWant, refusal_of, why_refused, by_h
 use crate::book::Book;
 use crate::replies::closed_in;
 use crate::went::{Moved, Went, handed_back};
-use gmp_base::{CNo, Held, Pass, Refused};
+use gmp_base::{CNo, Cases, Held, Pass, Refused};
 use std::alloc::Global;
 
 impl<T, Q> Book<T, Q> {
     ghost use Rattle.gmp_book.specs.Book.{SameValues};
-    ghost use Rattle.gmp_book.specs.Went.{Proceeds, ProceedsBy, ProceedsOrWaits, MovesBody, handed_back};
+    ghost use Rattle.gmp_book.specs.Went.{Proceeds, ProceedsBy, ProceedsByChoice, ProceedsOrWaits, MovesBody, handed_back};
 
     /// Makes a channel with room for so many values, 4,096 at most. The goroutine is told its number, or the fault.
     ///
@@ -84,6 +84,35 @@ impl<T, Q> Book<T, Q> {
         ensures body { IfOk result (MovesBody self.old self.new held) }
     {
         match self.ledger.try_recv(pass, held.run, held.g, c) {
+            Err(why) => Err(Refused { why, back: held }),
+            Ok(reply) => Ok(Moved::by(&mut self.bodies, held, reply)),
+        }
+    }
+
+    /// Takes one of the cases that can proceed, or else the default, where there is one, or else waits for any of the cases. With no case
+    /// and no default it waits for ever.
+    ///
+    /// Of the r cases that can proceed, in order, number `word mod r` is taken. A case that names a channel that was not made is a fault,
+    /// whatever the others could do.
+    pub fn select(
+        &mut self,
+        pass: &mut Pass,
+        held: Held<T>,
+        cases: &Cases,
+        has_default: bool,
+        word: u64,
+    ) -> Result<Moved<T>, Refused<Held<T>>>
+        ensures refused { why_refused result ≡ refusal_of self.old.log pass.old (Call.Select cases.now has_default None) (by_held held) }
+        ensures back { IfErr result (λ r. r.back ≡ held) }
+        ensures err { OnErr result ((self.new ≡ self.old) × (pass.new ≡ pass.old)) }
+        ensures entry { IfOk result (λ moved. ProceedsByChoice self.old.log pass.old cases.now has_default word held self.new.log pass.new moved) }
+        ensures waits { IfOk result (λ moved. moved ≡ Moved.Waits → self.new.log.state.table ≡ made_wait self.old.log.state.table held.g Kind.Select (offers_of cases.now) None) }
+        ensures body { IfOk result (MovesBody self.old self.new held) }
+    {
+        match self
+            .ledger
+            .try_select(pass, held.run, held.g, cases, has_default, word)
+        {
             Err(why) => Err(Refused { why, back: held }),
             Ok(reply) => Ok(Moved::by(&mut self.bodies, held, reply)),
         }
