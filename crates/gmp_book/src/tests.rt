@@ -21,6 +21,8 @@ mod refusals;
 mod refusals_of_channels;
 mod rows;
 mod runs;
+mod scripts;
+mod select_rows;
 
 /// One processor and one machine.
 const SMALL: Limits = Limits {
