@@ -7,7 +7,7 @@ use Rattle.gmp_seq.specs.declared.status.Waiter.{Waiter}
 use Rattle.gmp_seq.specs.Channels.{Channel}
 use Rattle.gmp_seq.specs.Waits.{can}
 use Rattle.gmp_select.specs.Choosing.{case_can, is_set, pick}
-use Rattle.gmp_select.proofs.Choosing.{none_picked, pick_same, picked}
+use Rattle.gmp_select.proofs.Picking.{none_picked, pick_same, picked}
 
 -- of the bits that tell who can proceed, the word picks the case
 pub picks : (bits word : ℕ) (channels : List Channel) (all those : List Waiter) (cases : List Case) → all ≡ those

@@ -248,6 +248,19 @@ relayed_waits t old new records None v w same h = absurd h
 relayed_waits t old new records (Some c) v w same h =
     (first_waits t c Sending w (subst (λ (l : List Waiter). first_on l c Sending ≡ Some w) same h.1)).0
 
+-- the same of any case
+
+pub handed_by : (t : Table) (old new : List Channel) (records : List Waiter) (c : Case) (w : Waiter) → records ≡ waiters t → Proceeds old records c (Handed w) new → IsWaiter t w
+handed_by t old new records (case.Send c v) w same h = handed_waits t old new records c v w same h
+handed_by t old new records (case.Recv None) w same h = absurd h
+handed_by t old new records (case.Recv (Some c)) w same h = absurd h
+
+pub relayed_by : (t : Table) (old new : List Channel) (records : List Waiter) (c : Case) (v : ℕ) (w : Waiter) → records ≡ waiters t → Proceeds old records c (Relayed v w) new
+    → IsWaiter t w
+relayed_by t old new records (case.Recv c) v w same h = relayed_waits t old new records c v w same h
+relayed_by t old new records (case.Send None x) v w same h = absurd h
+relayed_by t old new records (case.Send (Some c) x) v w same h = absurd h
+
 pub waiter_off : (t : Table) (w : Waiter) → IsWaiter t w → IsOffShelf t w.g
 waiter_off t w is = rw is.status refl
 

@@ -8,4 +8,3 @@ mod waiting;
 
 pub use choosing::{choose, ready_cases};
 pub use waiting::{complete, register, withdraw_all};
-

@@ -1,8 +1,8 @@
 //! Who waits for any of its cases, and the case that proceeds.
-ghost use Rattle.std.specs.Prelude.{◌≡◌, ◌<◌, ◌++◌, Some, true, count_by};
+ghost use Rattle.std.specs.Prelude.{◌≡◌, ◌<◌, [], ◌∷◌, ◌++◌, Some, true, count_by, option_to_list};
 ghost use Rattle.gmp_seq.specs.declared.status.Kind.{Kind};
 ghost use Rattle.gmp_seq.specs.declared.status.Waiter.{Waiter};
-ghost use Rattle.gmp_seq.specs.Waits.{Proceeds, as_waiters, can, channel_of, names_no_missing, offers_of};
+ghost use Rattle.gmp_seq.specs.Waits.{Proceeds, as_waiters, can, channel_of, names_no_missing, offers_from, offers_of};
 ghost use Rattle.gmp_chan.specs.Contents.{is_of, without, without_served};
 ghost use Rattle.gmp_select.specs.Waiting.{served};
 
@@ -11,7 +11,9 @@ use gmp_chan::Channels;
 use gmp_seq::{Deal, Kind, Offer, Offers, Transfer};
 
 /// What a case offers once it waits: nothing on nil.
-fn offer_of(i: u8, case: Case) -> Option<Offer> {
+fn offer_of(i: u8, case: Case) -> Option<Offer>
+    ensures { option_to_list result ≡ offers_from i (case ∷ []) }
+{
     let (channel, deal) = match case {
         Case::Send(c, v) => (c?, Deal::Send(v)),
         Case::Recv(c) => (c?, Deal::Receive),

@@ -1,0 +1,45 @@
+-- Who has no offer left, and what a select offers.
+use Rattle.std.proofs.Common.{◌≡◌, ℕ, ◌+◌, Bool, true, false, not, cond, Some, List, [], ◌∷◌, ◌++◌, count_by, refl, ap, ◌∙◌, zero-add}
+use Rattle.std.proofs.lemmas.List.Sums.{sum_by-cons}
+use Rattle.gmp_base.specs.declared.cases.Case.{Case}
+use Rattle.gmp_base.specs.declared.cases.Case.TheVariants as case
+use Rattle.gmp_base.specs.declared.number.GNo.{GNo}
+use Rattle.std.specs.Prelude.{None}
+use Rattle.gmp_seq.specs.declared.status.Transfer.{Transfer}
+use Rattle.gmp_seq.specs.declared.status.Transfer.TheVariants.{Failed, Handed, Stored, First, Relayed, Drained}
+use Rattle.gmp_seq.specs.declared.status.Waiter.{Waiter}
+use Rattle.gmp_seq.specs.Waits.{offers_from}
+use Rattle.gmp_chan.specs.Contents.{is_of, without, without_served}
+use Rattle.gmp_select.specs.Waiting.{served}
+
+-- who is withdrawn has no offer
+pub none_left : (g : GNo) (all : List Waiter) → count_by (is_of g) (without g all) ≡ 0
+none_left g [] = refl
+none_left g (w ∷ all) = by_test (is_of g w) refl (none_left g all)
+  where
+    by_test : (b : Bool) → is_of g w ≡ b → count_by (is_of g) (without g all) ≡ 0
+        → count_by (is_of g) (cond (not b) (w ∷ without g all) (without g all)) ≡ 0
+    by_test true is rest = rest
+    by_test false is rest =
+        sum_by-cons (λ (z : Waiter). cond (is_of g z) 1 0) w (without g all)
+        ∙ (ap (λ (b : Bool). cond b 1 0 + count_by (is_of g) (without g all)) is ∙ (zero-add (count_by (is_of g) (without g all)) ∙ rest))
+
+-- who is served has no offer
+pub served_gone : (how : Transfer) (w : Waiter) (all : List Waiter) → served how ≡ Some w → count_by (is_of w.g) (without_served how all) ≡ 0
+served_gone (Handed v) w all e =
+    let same : v ≡ w = cc in
+    rw same (none_left w.g all)
+served_gone (Relayed x v) w all e =
+    let same : v ≡ w = cc in
+    rw same (none_left w.g all)
+served_gone Failed w all e = absurd cc
+served_gone Stored w all e = absurd cc
+served_gone (First x) w all e = absurd cc
+served_gone Drained w all e = absurd cc
+
+-- the first case's offer, and then those of the others
+pub offers_cons : (i : ℕ) (c : Case) (cases : List Case) → offers_from i (c ∷ cases) ≡ offers_from i (c ∷ []) ++ offers_from (i + 1) cases
+offers_cons i (case.Send None v) cases = refl
+offers_cons i (case.Send (Some c) v) cases = refl
+offers_cons i (case.Recv None) cases = refl
+offers_cons i (case.Recv (Some c)) cases = refl
