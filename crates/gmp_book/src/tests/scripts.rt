@@ -3,7 +3,7 @@
 use super::answers::at;
 use super::*;
 use gmp_base::{Case, Cases, Readiness};
-use gmp_seq::Reply;
+use gmp_seq::{Call, Reply};
 
 /// What a body asks.
 #[derive(Clone, Copy, Debug)]
@@ -267,12 +267,27 @@ pub(super) fn heard(rt: &impl Abort, report: &Report<Player, u32>, g: usize, wan
     }
 }
 
-/// That these are the replies, from main's first ask on.
-pub(super) fn replied(rt: &impl Abort, report: &Report<Player, u32>, want: &[Reply]) {
-    let history = report.history.as_slice();
-    assert!(rt; history.len() >= 3);
-    assert_eq!(rt; history.len() - 3, want.len());
-    for (entry, reply) in history[3..].iter().zip(want.iter()) {
-        assert_eq!(rt; entry.reply, *reply);
+/// That these are the replies to sends, receives, closes and selects.
+pub(super) fn dealt(rt: &impl Abort, report: &Report<Player, u32>, want: &[Reply]) {
+    let mut want = want.iter();
+    for entry in report.history.as_slice() {
+        if matches!(
+            entry.call,
+            Call::Send(_, _) | Call::Recv(_) | Call::Close(_) | Call::Select(_, _, _)
+        ) {
+            assert_eq!(rt; Some(&entry.reply), want.next());
+        }
     }
+    assert_eq!(rt; want.next(), None);
+}
+
+/// That these are the entries, from main's first ask on.
+pub(super) fn entered(
+    rt: &impl Abort,
+    alloc: Global,
+    report: &Report<Player, u32>,
+    want: &[&str],
+) -> Result<(), Fail> {
+    assert_eq!(rt; report.history.len(), want.len().wrapping_add(3));
+    ends_with(rt, alloc, &report.history, want)
 }
