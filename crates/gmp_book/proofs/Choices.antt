@@ -1,12 +1,19 @@
 -- The case that a select takes.
-use Rattle.std.proofs.Common.{◌≡◌, ◌∙◌, ℕ, ◌≤◌, Bool, true, false, Option, None, Some, List, length, slice_get, sym, ap}
+use Rattle.std.proofs.Common.{◌≡◌, ◌∙◌, ℕ, ◌≤◌, true, false, Option, None, Some, List, length, slice_get, sym, ap}
 use Rattle.std.specs.List.{list_any}
 use Rattle.std.specs.Prelude.{IfNone, IfSome}
 use Rattle.gmp_base.specs.declared.cases.Case.{Case}
 use Rattle.gmp_seq.specs.declared.status.Waiter.{Waiter}
 use Rattle.gmp_seq.specs.Channels.{Channel}
 use Rattle.gmp_seq.specs.Waits.{can}
+use Rattle.gmp_seq.specs.declared.call.Outcome.{Outcome}
+use Rattle.gmp_seq.specs.declared.call.Reply.{Reply}
+use Rattle.gmp_seq.specs.declared.call.Reply.TheVariants as reply
+use Rattle.gmp_seq.specs.Machines.{Machines}
 use Rattle.gmp_select.specs.Choosing.{case_can, is_set, pick}
+use Rattle.gmp_book.specs.Choice.{IsChoice}
+use Rattle.gmp_book.specs.Present.{Present, state_of}
+use Rattle.gmp_book.proofs.Entered.{state_in}
 use Rattle.gmp_select.proofs.Picking.{none_picked, pick_same, picked}
 
 -- of the bits that tell who can proceed, the word picks the case
@@ -26,3 +33,9 @@ pub no_case : (channels : List Channel) (all : List Waiter) (cases : List Case) 
     → IfNone result (list_any (can channels all) cases ≡ false)
 no_case channels all cases word (Some i) few is = tt
 no_case channels all cases word None few is = none_picked channels all cases word few (sym is)
+
+-- what is chosen among goroutines and channels is chosen in any state that has them
+pub choice_in : (cases : List Case) (word : ℕ) (answer : Reply) (p : Present) (machines : Machines) (counts : List ℕ) (outcome : Option Outcome)
+    → IsChoice (state_of p) cases word answer → IsChoice (state_in p machines counts outcome) cases word answer
+choice_in cases word (reply.Chose i told) p machines counts outcome chosen = chosen
+choice_in cases word _ p machines counts outcome chosen = tt

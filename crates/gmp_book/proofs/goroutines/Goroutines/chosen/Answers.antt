@@ -22,3 +22,6 @@ pub returns-clause-none : goal.returns-clause-none
 returns-clause-none c =
     let now = c.args.self.now in
     no_case now.channels (waiters now.table) c.args.cases.now c.args.word c.choose.result c.requires (told c)
+
+pub returns-clause-number : goal.returns-clause-number
+returns-clause-number c = told c

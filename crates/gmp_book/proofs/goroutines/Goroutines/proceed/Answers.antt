@@ -16,7 +16,7 @@ invariant_of-self-in-Handed c =
     let w = c.in-Handed.w in
     let waits = handed_by i.table.table _ _ i.channels.waiters c.args.case w c.self.invariant.0.same c.in-Handed.ensures.proceeds in (
       rw (c.in-Handed.ensures.waiters, c.in-Handed.ensures.bodies)
-      (served_tied i.table.table i.channels.waiters i.channels.bodies c.self.invariant.0 w.g Out _ c.ready-to.new.self.table c.ready-to.ensures.table),
+          (served_tied i.table.table i.channels.waiters i.channels.bodies c.self.invariant.0 w.g Out _ c.ready-to.new.self.table c.ready-to.ensures.table),
       served_runners i.table.table (length i.runners) i.runners c.self.invariant.1 w.g waits.wait Out _ c.ready-to.new.self.table waits.status c.ready-to.ensures.table,
     )
 
@@ -32,6 +32,6 @@ invariant_of-self-in-Relayed c =
     let w = c.in-Relayed.w in
     let waits = relayed_by i.table.table _ _ i.channels.waiters c.args.case c.in-Relayed.v w c.self.invariant.0.same c.in-Relayed.ensures.proceeds in (
       rw (c.in-Relayed.ensures.waiters, c.in-Relayed.ensures.bodies)
-      (served_tied i.table.table i.channels.waiters i.channels.bodies c.self.invariant.0 w.g Out _ c.ready-sender.new.self.table c.ready-sender.ensures.table),
+          (served_tied i.table.table i.channels.waiters i.channels.bodies c.self.invariant.0 w.g Out _ c.ready-sender.new.self.table c.ready-sender.ensures.table),
       served_runners i.table.table (length i.runners) i.runners c.self.invariant.1 w.g waits.wait Out _ c.ready-sender.new.self.table waits.status c.ready-sender.ensures.table,
     )
