@@ -24,6 +24,7 @@ mod runs;
 mod scripts;
 mod select_choices;
 mod select_recording;
+mod select_refused;
 mod select_rows;
 mod select_waits;
 

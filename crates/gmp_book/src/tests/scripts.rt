@@ -244,16 +244,16 @@ pub(super) fn played<'a>(
         bodies.push(Player::new(script))?;
     }
     let (book, passes) = opened_with(rt, alloc, 7, LONE, capacities, bodies)?;
-    let mut passes = passes;
-    let pass = last_pass(rt, &mut passes);
+    let (mut book, mut passes) = (book, passes);
+    let mut pass = last_pass(rt, &mut passes);
     close(rt, passes);
+    let proc = there(rt, made(rt, book.acquire(&mut pass)));
     let mut play = Play {
         book,
         pass,
         queue: [None; 4],
         word,
     };
-    let proc = there(rt, made(rt, play.book.acquire(&mut play.pass)));
     play.turns(rt);
     Ok(play.end(rt, alloc, proc))
 }
