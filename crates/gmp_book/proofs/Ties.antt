@@ -36,6 +36,8 @@ use Rattle.gmp_seq.specs.State.{dormant, first_goroutine}
 use Rattle.gmp_seq.specs.Step.{Takes, Puts, Claims, Starts, Ticks, served_by}
 use Rattle.gmp_seq.specs.Table.{Table, IsOffShelf, IsRunning, status_at, epoch_at, is_waiting, set_status, made_ready, made_wait}
 use Rattle.gmp_seq.specs.Waits.{Channel, Proceeds, first_on, as_waiters, first_waiters, waiters}
+use Rattle.gmp_book.specs.Served.{with_served}
+use Rattle.gmp_select.specs.Waiting.{served}
 use Rattle.gmp_book.specs.Tied.{IsTied}
 use Rattle.gmp_book.proofs.Arrivals.{ready_waiters, turned_waiters, wait_waiters}
 
@@ -269,3 +271,27 @@ running_off t g m runs = rw runs refl
 
 pub running_within : (t : Table) (g : GNo) (m : MNo) → IsRunning t g m → g.0 < length t.goroutines
 running_within t g m running = let r = row_at t g (Running m) running in slice_get_within t.goroutines g.0 r.0 r.1
+
+-- who is served is not on the shelf
+pub served_off : (t : Table) (old new : List Channel) (records : List Waiter) (c : Case) (how : Transfer) (w : Waiter) → records ≡ waiters t → Proceeds old records c how new
+    → served how ≡ Some w → IsOffShelf t w.g
+served_off t old new records c (Handed u) w same h e =
+    let is : w ≡ u = cc in
+    rw is (waiter_off t u (handed_by t old new records c u same h))
+served_off t old new records c (Relayed v u) w same h e =
+    let is : w ≡ u = cc in
+    rw is (waiter_off t u (relayed_by t old new records c v u same h))
+served_off t old new records c Failed w same h e = absurd cc
+served_off t old new records c Stored w same h e = absurd cc
+served_off t old new records c (First v) w same h e = absurd cc
+served_off t old new records c Drained w same h e = absurd cc
+
+-- who was served is as the definitions have it
+pub with_served_is : (t : Table) (old new : List Channel) (records : List Waiter) (c : Case) (how : Transfer) → Proceeds old records c how new → with_served t c how ≡ served_by t c how
+with_served_is t old new records (case.Send (Some c) v) (Handed w) h = refl
+with_served_is t old new records (case.Recv (Some c)) (Relayed v w) h = refl
+with_served_is t old new records (case.Send (Some c) v) Failed h = refl
+with_served_is t old new records (case.Send (Some c) v) Stored h = refl
+with_served_is t old new records (case.Recv (Some c)) (First v) h = refl
+with_served_is t old new records (case.Recv (Some c)) Drained h = refl
+with_served_is t old new records _ how h = absurd h

@@ -10,3 +10,4 @@ pub mod Laws
 pub mod Tied
 pub mod Present
 pub mod Choice
+pub mod Served

@@ -12,6 +12,7 @@ ghost use Rattle.gmp_book.specs.Replies.{taken, started};
 
 mod communicating;
 mod selecting;
+mod serving;
 
 use crate::runners::Runners;
 use gmp_base::{Fault, GNo, MNo, Readiness, Woke};

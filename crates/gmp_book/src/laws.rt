@@ -1,10 +1,11 @@
 //! Laws of the book's refusals. Each is the contract of a function that does nothing.
-ghost use Rattle.std.specs.Prelude.{◌≡◌, ℕ, false, Option, [], ◌∷◌};
+ghost use Rattle.std.specs.Prelude.{◌≡◌, ℕ, Bool, false, Option, List, [], ◌∷◌};
+ghost use Rattle.gmp_base.specs.declared.cases.Case.{Case};
 ghost use Rattle.gmp_base.specs.declared.number.CNo.{CNo};
 ghost use Rattle.gmp_base.specs.declared.number.GNo.{GNo};
 ghost use Rattle.gmp_base.specs.declared.number.PNo.{PNo};
 ghost use Rattle.gmp_base.specs.declared.number.Readiness.{Readiness};
-ghost use Rattle.gmp_seq.specs.declared.call.Call.TheVariants.{Acquire, Take, Put, Claim, Go, Yield, Exit, Make, Send, Recv, Close, Len, Cap, Enter, Leave, Spin, Unspin, Declare, Bare, Park, Poke, Tick};
+ghost use Rattle.gmp_seq.specs.declared.call.Call.TheVariants.{Acquire, Take, Put, Claim, Go, Yield, Exit, Make, Send, Recv, Select, Close, Len, Cap, Enter, Leave, Spin, Unspin, Declare, Bare, Park, Poke, Tick};
 ghost use Rattle.gmp_seq.specs.Needs.{Needs};
 ghost use Rattle.gmp_seq.specs.Machines.{Holds, spins};
 ghost use Rattle.gmp_seq.specs.Table.{IsRunning, IsCalling, RunsNothing};
@@ -26,6 +27,7 @@ pub fn granted_where_needed()
     ensures make { (g : GNo) (capacity : ℕ) → GrantedWhere (Make capacity) (λ run. Held run g ∷ []) (λ s m. IsRunning s.table g m) }
     ensures send { (g : GNo) (c : Option CNo) (v : ℕ) → GrantedWhere (Send c v) (λ run. Held run g ∷ []) (λ s m. IsRunning s.table g m) }
     ensures recv { (g : GNo) (c : Option CNo) → GrantedWhere (Recv c) (λ run. Held run g ∷ []) (λ s m. IsRunning s.table g m) }
+    ensures select { (g : GNo) (cases : List Case) (has_default : Bool) (until : Option ℕ) → GrantedWhere (Select cases has_default until) (λ run. Held run g ∷ []) (λ s m. IsRunning s.table g m) }
     ensures close { (g : GNo) (c : Option CNo) → GrantedWhere (Close c) (λ run. Held run g ∷ []) (λ s m. IsRunning s.table g m) }
     ensures len { (g : GNo) (c : Option CNo) → GrantedWhere (Len c) (λ run. Held run g ∷ []) (λ s m. IsRunning s.table g m) }
     ensures cap { (g : GNo) (c : Option CNo) → GrantedWhere (Cap c) (λ run. Held run g ∷ []) (λ s m. IsRunning s.table g m) }

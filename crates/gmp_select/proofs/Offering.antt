@@ -1,5 +1,5 @@
 -- Who has no offer left, and what a select offers.
-use Rattle.std.proofs.Common.{◌≡◌, ℕ, ◌+◌, Bool, true, false, not, cond, Some, List, [], ◌∷◌, ◌++◌, count_by, refl, ap, ◌∙◌, zero-add}
+use Rattle.std.proofs.Common.{IfSome, Option, ◌≡◌, ℕ, ◌+◌, Bool, true, false, not, cond, Some, List, [], ◌∷◌, ◌++◌, count_by, refl, ap, ◌∙◌, zero-add}
 use Rattle.std.proofs.lemmas.List.Sums.{sum_by-cons}
 use Rattle.gmp_base.specs.declared.cases.Case.{Case}
 use Rattle.gmp_base.specs.declared.cases.Case.TheVariants as case
@@ -36,6 +36,11 @@ served_gone Failed w all e = absurd cc
 served_gone Stored w all e = absurd cc
 served_gone (First x) w all e = absurd cc
 served_gone Drained w all e = absurd cc
+
+pub all_gone : (result : Option Transfer) (old new : List Waiter) → IfSome result (λ how. new ≡ without_served how old)
+    → IfSome result (λ how. (w : Waiter) → served how ≡ Some w → count_by (is_of w.g) new ≡ 0)
+all_gone None old new left = tt
+all_gone (Some how) old new left = λ w is. rw left (served_gone how w old is)
 
 -- the first case's offer, and then those of the others
 pub offers_cons : (i : ℕ) (c : Case) (cases : List Case) → offers_from i (c ∷ cases) ≡ offers_from i (c ∷ []) ++ offers_from (i + 1) cases

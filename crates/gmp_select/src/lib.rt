@@ -8,3 +8,6 @@ mod waiting;
 
 pub use choosing::{choose, ready_cases};
 pub use waiting::{complete, register, withdraw_all};
+
+#[cfg(test)]
+mod tests;

@@ -1,5 +1,5 @@
 //! Who waits for any of its cases, and the case that proceeds.
-ghost use Rattle.std.specs.Prelude.{◌≡◌, ◌<◌, [], ◌∷◌, ◌++◌, Some, true, count_by, option_to_list};
+ghost use Rattle.std.specs.Prelude.{◌≡◌, ◌<◌, [], ◌∷◌, ◌++◌, Some, true, count_by, is_some, option_to_list, IfNone, IfSome};
 ghost use Rattle.gmp_seq.specs.declared.status.Kind.{Kind};
 ghost use Rattle.gmp_seq.specs.declared.status.Waiter.{Waiter};
 ghost use Rattle.gmp_seq.specs.Waits.{Proceeds, as_waiters, can, channel_of, names_no_missing, offers_from, offers_of};
@@ -60,22 +60,19 @@ pub fn withdraw_all(channels: &mut Channels, g: GNo)
     channels.withdraw(g);
 }
 
-/// A case that can proceed does so. Who is served by it waits no more, for none of its cases.
-pub fn complete(channels: &mut Channels, case: Case) -> Transfer
-    requires made { names_no_missing channels.old.channels (channel_of case) ≡ true }
-    requires able { can channels.old.channels channels.old.waiters case ≡ true }
-    ensures proceeds { Proceeds channels.old.channels channels.old.waiters case result channels.new.channels }
-    ensures waiters { channels.new.waiters ≡ without_served result channels.old.waiters }
-    ensures gone { (w : Waiter) → served result ≡ Some w → count_by (is_of w.g) channels.new.waiters ≡ 0 }
+/// A case does its send or receive, if it can proceed. Who is served by it waits no more, for none of its cases.
+pub fn complete(channels: &mut Channels, case: Case) -> Option<Transfer>
+    requires { names_no_missing channels.old.channels (channel_of case) ≡ true }
+    ensures exact { is_some result ≡ can channels.old.channels channels.old.waiters case }
+    ensures proceeds { IfSome result (λ how. Proceeds channels.old.channels channels.old.waiters case how channels.new.channels) }
+    ensures waiters { IfSome result (λ how. channels.new.waiters ≡ without_served how channels.old.waiters) }
+    ensures gone { IfSome result (λ how. (w : Waiter) → served how ≡ Some w → count_by (is_of w.g) channels.new.waiters ≡ 0) }
+    ensures none { IfNone result (channels.new ≡ channels.old) }
     ensures limit { channels.new.limit ≡ channels.old.limit }
     ensures bodies { channels.new.bodies ≡ channels.old.bodies }
 {
-    let how = match case {
+    match case {
         Case::Send(c, v) => channels.try_send(c, v),
         Case::Recv(c) => channels.try_recv(c),
-    };
-    match how {
-        Some(how) => how,
-        None => unreachable!(),
     }
 }

@@ -1,42 +1,24 @@
 //! What a running goroutine does with channels.
-ghost use Rattle.std.specs.Prelude.{◌≡◌, ◌∷◌, [], ◌<◌, ◌≤◌, ◌^◌, ◌++◌, ℕ, Some, List, IfOk, OnOk, OnErr, length};
-ghost use Rattle.gmp_base.specs.declared.cases.Case.{Case};
+ghost use Rattle.std.specs.Prelude.{◌≡◌, ◌<◌, ◌≤◌, ◌^◌, ◌++◌, ℕ, Some, List, IfOk, OnOk, OnErr, length};
 ghost use Rattle.gmp_base.specs.declared.number.GNo.{GNo};
 ghost use Rattle.gmp_base.specs.declared.number.CNo.{CNo};
 ghost use Rattle.gmp_seq.specs.declared.call.Limits.{Limits};
 ghost use Rattle.gmp_seq.specs.declared.call.Reply.{Reply};
 ghost use Rattle.gmp_seq.specs.Channels.{capacity_at, items_at};
-ghost use Rattle.gmp_seq.specs.Step.{Closes, Deals, Makes, Tells};
-ghost use Rattle.gmp_seq.specs.Table.{IsRunning, epoch_at};
-ghost use Rattle.gmp_seq.specs.Waits.{offers_of};
+ghost use Rattle.gmp_seq.specs.Step.{Closes, Makes, Tells};
+ghost use Rattle.gmp_seq.specs.Table.{epoch_at};
 ghost use Rattle.gmp_table.specs.declared.wake.Wake.{Wake};
 ghost use Rattle.gmp_table.specs.Waking.{IsWakeOrder};
 ghost use Rattle.gmp_book.specs.Present.{SameSizes, state_of};
 
 use crate::goroutines::Goroutines;
-use gmp_base::{CNo, Fault, GNo, MNo};
-use gmp_seq::{Deal, Kind, Offer, Offers, Relay, Reply, Transfer};
+use gmp_base::{CNo, Fault};
+use gmp_seq::Reply;
 use gmp_table::Wake;
 use std::alloc::{AllocError, Global};
 
 /// A channel has room for at most so many values.
 const MOST_ROOM: u32 = 4096;
-
-/// The offer of one send or receive, if it isn't on nil.
-fn one_offer(c: Option<CNo>, deal: Deal) -> Offers
-    ensures send { (v : ℕ) → deal ≡ Deal.Send v → result ≡ offers_of (Case.Send c v ∷ []) }
-    ensures receive { deal ≡ Deal.Receive → result ≡ offers_of (Case.Recv c ∷ []) }
-{
-    let mut offers = Offers::new();
-    if let Some(channel) = c {
-        offers.push(Offer {
-            case: 0,
-            channel,
-            deal,
-        });
-    }
-    offers
-}
 
 impl Goroutines {
     /// Makes an open, empty channel with this capacity, by the next number, or answers the fault. Only a channel takes memory.
@@ -54,65 +36,6 @@ impl Goroutines {
         }
         let c = self.channels.make(alloc, capacity)?;
         Ok(Reply::Channel(c))
-    }
-
-    /// g, which m runs, sends v, or waits until it can.
-    pub(crate) fn send(&mut self, m: MNo, g: GNo, c: Option<CNo>, v: u64) -> Reply
-        requires runs { IsRunning self.old.table g m }
-        requires young { (h : GNo) → epoch_at self.old.table h < 2 ^ 63 }
-        requires few { self.old.table.arrivals < 2 ^ 63 }
-        requires there { m.0 < self.old.machines }
-        ensures deals { Deals g (Case.Send c v) result (state_of self.old) (state_of self.new) }
-        ensures sizes { SameSizes self.old self.new }
-    {
-        if !self.channels.has(c) {
-            return Reply::Fault(Fault::NoSuchChannel);
-        }
-        match self.channels.try_send(c, v) {
-            Some(how) => match how {
-                Transfer::Handed(w) => {
-                    let to = self
-                        .table
-                        .ready(w.g, w.offer.receiver_answer(w.kind, v, true));
-                    Reply::Sent(Some(to))
-                }
-                Transfer::Failed => Reply::Fault(Fault::SendOnClosed),
-                _ => Reply::Sent(None),
-            },
-            None => {
-                self.wait(m, g, Kind::Plain, one_offer(c, Deal::Send(v)), None);
-                Reply::Waits
-            }
-        }
-    }
-
-    /// g, which m runs, receives a value, or waits until it can.
-    pub(crate) fn recv(&mut self, m: MNo, g: GNo, c: Option<CNo>) -> Reply
-        requires runs { IsRunning self.old.table g m }
-        requires young { (h : GNo) → epoch_at self.old.table h < 2 ^ 63 }
-        requires few { self.old.table.arrivals < 2 ^ 63 }
-        requires there { m.0 < self.old.machines }
-        ensures deals { Deals g (Case.Recv c) result (state_of self.old) (state_of self.new) }
-        ensures sizes { SameSizes self.old self.new }
-    {
-        if !self.channels.has(c) {
-            return Reply::Fault(Fault::NoSuchChannel);
-        }
-        match self.channels.try_recv(c) {
-            Some(how) => match how {
-                Transfer::Relayed(v, w) => {
-                    let sender = self.table.ready(w.g, w.sender_answer());
-                    let value = w.offered();
-                    Reply::Got(v, true, Some(Relay { sender, value }))
-                }
-                Transfer::First(v) => Reply::Got(v, true, None),
-                _ => Reply::Got(0, false, None),
-            },
-            None => {
-                self.wait(m, g, Kind::Plain, one_offer(c, Deal::Receive), None);
-                Reply::Waits
-            }
-        }
     }
 
     /// Closes a channel. All that wait on it go onto the shelf, by their arrivals; the answer counts them.

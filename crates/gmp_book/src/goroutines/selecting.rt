@@ -3,38 +3,18 @@ ghost use Rattle.std.specs.Prelude.{◌≡◌, ◌<◌, ◌^◌, ◌≤◌, ℕ,
 ghost use Rattle.gmp_base.specs.declared.cases.Case.{Case};
 ghost use Rattle.gmp_base.specs.declared.number.GNo.{GNo};
 ghost use Rattle.gmp_seq.specs.declared.call.Reply.{Reply};
-ghost use Rattle.gmp_seq.specs.declared.call.Taken.{Taken};
 ghost use Rattle.gmp_seq.specs.declared.status.Kind.{Kind};
-ghost use Rattle.gmp_seq.specs.Step.{Communicates, Selects, none_missing, some_can};
+ghost use Rattle.gmp_seq.specs.Step.{Selects, none_missing, some_can};
 ghost use Rattle.gmp_seq.specs.Table.{IsRunning, epoch_at, made_wait};
-ghost use Rattle.gmp_seq.specs.Waits.{can, channel_of, names_no_missing, offers_of, waiters};
-ghost use Rattle.gmp_book.specs.Choice.{IsChoice, choice, served_answer};
+ghost use Rattle.gmp_seq.specs.Waits.{can, offers_of, waiters};
+ghost use Rattle.gmp_book.specs.Choice.{IsChoice, choice};
 ghost use Rattle.gmp_book.specs.Present.{OnlyTable, SameSizes, state_of};
 
 use crate::goroutines::Goroutines;
-use gmp_base::{CNo, Case, Cases, Fault, GNo, MNo, Woke};
-use gmp_select::{choose, complete, ready_cases, register};
-use gmp_seq::{Kind, Relay, Reply, Taken, Transfer, Waiter};
-
-/// The channel that a case names.
-fn channel_of(case: Case) -> Option<CNo>
-    ensures { result ≡ channel_of case }
-{
-    match case {
-        Case::Send(c, _) => c,
-        Case::Recv(c) => c,
-    }
-}
-
-/// What a waiter is told that is served by this case.
-fn served_answer(case: Case, w: Waiter) -> Woke
-    ensures { result ≡ served_answer case w }
-{
-    match case {
-        Case::Send(_, v) => w.offer.receiver_answer(w.kind, v, true),
-        Case::Recv(_) => w.sender_answer(),
-    }
-}
+use crate::goroutines::serving::channel_of;
+use gmp_base::{Cases, Fault, GNo, MNo};
+use gmp_select::{choose, ready_cases, register};
+use gmp_seq::{Kind, Reply};
 
 impl Goroutines {
     /// Whether each case names nil or a channel that was made.
@@ -56,31 +36,6 @@ impl Goroutines {
         ensures none { IfNone result (some_can (state_of self.now) cases.now ≡ false) }
     {
         choose(ready_cases(&self.channels, cases), word)
-    }
-
-    /// A case that can proceed does so. Who is served is made ready.
-    fn proceed(&mut self, case: Case) -> Taken
-        requires made { names_no_missing self.old.channels (channel_of case) ≡ true }
-        requires able { can self.old.channels (waiters self.old.table) case ≡ true }
-        requires young { (h : GNo) → epoch_at self.old.table h < 2 ^ 63 }
-        ensures communicates { Communicates case result (state_of self.old) (state_of self.new) }
-        ensures sizes { SameSizes self.old self.new }
-    {
-        match complete(&mut self.channels, case) {
-            Transfer::Failed => Taken::Failed,
-            Transfer::Handed(w) => {
-                let to = self.table.ready(w.g, served_answer(case, w));
-                Taken::Sent(Some(to))
-            }
-            Transfer::Stored => Taken::Sent(None),
-            Transfer::First(v) => Taken::Got(v, true, None),
-            Transfer::Relayed(v, w) => {
-                let sender = self.table.ready(w.g, served_answer(case, w));
-                let value = w.offered();
-                Taken::Got(v, true, Some(Relay { sender, value }))
-            }
-            Transfer::Drained => Taken::Got(0, false, None),
-        }
     }
 
     /// g, which m runs, begins to wait for any of these cases.
@@ -119,7 +74,10 @@ impl Goroutines {
             return Reply::Fault(Fault::NoSuchChannel);
         }
         match self.chosen(cases, word) {
-            Some(i) => Reply::Chose(i, self.proceed(cases.as_slice()[i as usize])),
+            Some(i) => match self.proceed(cases.as_slice()[i as usize]) {
+                Some(taken) => Reply::Chose(i, taken),
+                None => unreachable!(),
+            },
             None if has_default => Reply::Default,
             None => {
                 self.wait_for_any(m, g, cases);

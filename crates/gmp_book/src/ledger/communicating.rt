@@ -10,7 +10,7 @@ ghost use Rattle.gmp_book.specs.Refusals.{MayWant, refusal_of, refusal_in};
 
 use crate::handed::Handed;
 use crate::ledger::{Ledger, enter};
-use gmp_base::{CNo, GNo, MNo, Pass, Refusal};
+use gmp_base::{CNo, Case, GNo, MNo, Pass, Refusal};
 use gmp_seq::{Call, Reply};
 use std::alloc::{AllocError, Global};
 
@@ -48,7 +48,7 @@ impl Ledger {
         ensures records { Enters self.old m (Call.Send c v) result self.new }
         ensures waits { result ≡ Reply.Waits → self.new.state.table ≡ made_wait self.old.state.table g Kind.Plain (offers_of (Case.Send c v ∷ [])) None }
     {
-        let reply = self.goroutines.send(m, g, c, v);
+        let reply = self.goroutines.deal(m, g, Case::Send(c, v));
         enter(
             &mut self.journal,
             &mut self.outcome,
@@ -67,7 +67,7 @@ impl Ledger {
         ensures records { Enters self.old m (Call.Recv c) result self.new }
         ensures waits { result ≡ Reply.Waits → self.new.state.table ≡ made_wait self.old.state.table g Kind.Plain (offers_of (Case.Recv c ∷ [])) None }
     {
-        let reply = self.goroutines.recv(m, g, c);
+        let reply = self.goroutines.deal(m, g, Case::Recv(c));
         enter(
             &mut self.journal,
             &mut self.outcome,

@@ -65,6 +65,12 @@ returns-clause-recv c = λ g ch log pass run current. (
   λ needs. held_granted log pass run current (call.Recv ch) g refl refl needs,
 )
 
+pub returns-clause-select : goal.returns-clause-select
+returns-clause-select c = λ g cases has_default until log pass run current. (
+  λ e. held_runs log pass log.run g (allowed log pass run current (call.Select cases has_default until) (handed.Held log.run g ∷ []) e).own,
+  λ needs. held_granted log pass run current (call.Select cases has_default until) g refl refl needs,
+)
+
 pub returns-clause-close : goal.returns-clause-close
 returns-clause-close c = λ g ch log pass run current. (
   λ e. held_runs log pass log.run g (allowed log pass run current (call.Close ch) (handed.Held log.run g ∷ []) e).own,

@@ -1,10 +1,8 @@
-use Rattle.std.proofs.Common.{◌≡◌, rules}
-use Rattle.gmp_chan.specs.Contents.{without_served}
-use Rattle.gmp_select.proofs.Offering.{served_gone}
+use Rattle.gmp_select.proofs.Offering.{all_gone}
 use Rattle.gmp_select.proofs.waiting.complete.Goals as goal
 
-pub returns-clause-gone : goal.returns-clause-gone
-returns-clause-gone c = λ w is.
-    let all = c.args.channels.now.waiters in
-    let left : c.match-case.channels.waiters ≡ without_served c.in-Some.how all = search rules in
-    rw left (served_gone c.in-Some.how w all is)
+pub returns-in-Send-clause-gone : goal.returns-in-Send-clause-gone
+returns-in-Send-clause-gone c = all_gone c.try_send.result c.args.channels.now.waiters c.try_send.new.self.waiters c.try_send.ensures.waiters
+
+pub returns-in-Recv-clause-gone : goal.returns-in-Recv-clause-gone
+returns-in-Recv-clause-gone c = all_gone c.try_recv.result c.args.channels.now.waiters c.try_recv.new.self.waiters c.try_recv.ensures.waiters

@@ -9,18 +9,18 @@ use Rattle.gmp_seq.specs.declared.status.Kind.TheVariants as kind
 use Rattle.gmp_seq.specs.Waits.{offers_of}
 use Rattle.gmp_book.proofs.ledger.Ledger.recv.Goals as goal
 
-pub recv-reply-requires-clause-young : goal.recv-reply-requires-clause-young
-recv-reply-requires-clause-young c =
+pub deal-reply-requires-clause-young : goal.deal-reply-requires-clause-young
+deal-reply-requires-clause-young c =
     let i = c.self.inside in
     λ h. young (log_of i) c.args.self.now i.journal.room h c.self.view_is c.self.invariant.0
 
-pub recv-reply-requires-clause-few : goal.recv-reply-requires-clause-few
-recv-reply-requires-clause-few c =
+pub deal-reply-requires-clause-few : goal.deal-reply-requires-clause-few
+deal-reply-requires-clause-few c =
     let i = c.self.inside in
     few_waits (log_of i) c.args.self.now i.journal.room c.self.view_is c.self.invariant.0
 
-pub recv-reply-requires-clause-there : goal.recv-reply-requires-clause-there
-recv-reply-requires-clause-there c =
+pub deal-reply-requires-clause-there : goal.deal-reply-requires-clause-there
+deal-reply-requires-clause-there c =
     let i = c.self.inside in
     awake_there (log_of i) c.args.self.now i.journal.room i.goroutines c.args.m c.self.view_is c.self.invariant.0 c.self.invariant.1 (runner_wakes (log_of i) c.args.self.now i.journal.room c.args.m c.args.g c.self.view_is c.self.invariant.0 c.requires.runs)
 
@@ -33,13 +33,13 @@ pub invariant_of-self : goal.invariant_of-self
 invariant_of-self c =
     let i = c.self.inside in
     let runs = subst (λ (l : Log). IsRunning l.state.table c.args.g c.args.m) (sym c.self.view_is) c.requires.runs in (
-      kept_on (log_of i) c.args.self.now i.journal.room c.enter.new.journal.room c.args.m (call.Recv c.args.c) (c.recv-reply.result) c.enter.new.journal.entries
-          (record (log_of i).state { table = c.recv-reply.new.self.table; channels = c.recv-reply.new.self.channels; counts = c.enter.new.journal.counts; outcome = c.enter.new.outcome }) c.self.view_is c.self.invariant.0 c.requires.ongoing (runner_wakes (log_of i) c.args.self.now i.journal.room c.args.m c.args.g c.self.view_is c.self.invariant.0 c.requires.runs)
-          (c.args.g, runs, deals_in c.args.g (case.Recv c.args.c) c.recv-reply.result i.goroutines c.recv-reply.new.self i.machines _ _ _ _ c.recv-reply.ensures.deals) c.enter.ensures.entries c.enter.ensures.counts c.enter.ensures.outcome c.enter.ensures.room,
-      sized_on i.limits i.goroutines c.recv-reply.new.self c.self.invariant.1 c.recv-reply.ensures.sizes,
+      kept_on (log_of i) c.args.self.now i.journal.room c.enter.new.journal.room c.args.m (call.Recv c.args.c) (c.deal-reply.result) c.enter.new.journal.entries
+          (record (log_of i).state { table = c.deal-reply.new.self.table; channels = c.deal-reply.new.self.channels; counts = c.enter.new.journal.counts; outcome = c.enter.new.outcome }) c.self.view_is c.self.invariant.0 c.requires.ongoing (runner_wakes (log_of i) c.args.self.now i.journal.room c.args.m c.args.g c.self.view_is c.self.invariant.0 c.requires.runs)
+          (c.args.g, runs, deals_in c.args.g (case.Recv c.args.c) c.deal-reply.result i.goroutines c.deal-reply.new.self i.machines _ _ _ _ c.deal-reply.ensures.deals) c.enter.ensures.entries c.enter.ensures.counts c.enter.ensures.outcome c.enter.ensures.room,
+      sized_on i.limits i.goroutines c.deal-reply.new.self c.self.invariant.1 c.deal-reply.ensures.sizes,
     )
 
 pub returns-clause-waits : goal.returns-clause-waits
 returns-clause-waits c = λ waits.
-    let deals = rw waits at c.recv-reply.ensures.deals in
+    let deals = rw waits at c.deal-reply.ensures.deals in
     deals.1.1 ∙ ap (λ (l : Log). made_wait l.state.table c.args.g kind.Plain (offers_of ((case.Recv c.args.c) ∷ [])) None) c.self.view_is
