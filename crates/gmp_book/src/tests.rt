@@ -21,6 +21,12 @@ mod refusals;
 mod refusals_of_channels;
 mod rows;
 mod runs;
+mod scripts;
+mod select_choices;
+mod select_recording;
+mod select_refused;
+mod select_rows;
+mod select_waits;
 
 /// One processor and one machine.
 const SMALL: Limits = Limits {
