@@ -6,11 +6,13 @@ use gmp_base::{CNo, Fault, GNo, Held, MNo, PNo, Pass, Proc, Refusal, Refused, Ti
 use gmp_check::ReplayError;
 use gmp_seq::{Entry, Limits, Outcome};
 use std::alloc::Global;
+use std::fmt::Debug;
 use std::process::Abort;
 use std::test::Fail;
 
 mod answers;
 mod arrivals;
+mod calls;
 mod capacities;
 mod memory;
 mod opening;
@@ -144,6 +146,16 @@ fn close(rt: &impl Abort, passes: Vec<Pass>) {
     passes.destroy_empty();
 }
 
+/// That the two are equal. Each `assert_eq!` takes a proof as long as three calls of this.
+fn same<T: Copy + PartialEq + Debug>(rt: &impl Abort, got: T, want: T) {
+    assert_eq!(rt; got, want);
+}
+
+/// The same of two lists.
+fn lists(rt: &impl Abort, got: &[u32], want: &[u32]) {
+    assert_eq!(rt; got, want);
+}
+
 /// The answer of a call that must not be refused.
 fn made<A>(rt: &impl Abort, answer: Result<A, Refusal>) -> A {
     match answer {
@@ -222,7 +234,7 @@ fn ends_with(rt: &impl Abort, alloc: Global, history: &[Entry], last: &[&str]) -
 
 /// That these are all entries.
 fn is_told(rt: &impl Abort, alloc: Global, history: &[Entry], all: &[&str]) -> Result<(), Fail> {
-    assert_eq!(rt; history.len(), all.len());
+    same(rt, history.len(), all.len());
     ends_with(rt, alloc, history, all)
 }
 
@@ -238,7 +250,7 @@ fn is_legal(
 ) {
     let judged = gmp_check::outcome_of(alloc, limits, bodies, capacities, history);
     if judged != Err(ReplayError::OutOfMemory) {
-        assert_eq!(rt; judged, Ok(outcome));
+        same(rt, judged, Ok(outcome));
     }
 }
 

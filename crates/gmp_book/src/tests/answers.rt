@@ -19,7 +19,7 @@ fn without(rt: &impl Abort, push: Option<Ticket>) {
 /// That the ticket of this readiness was given out.
 fn with(rt: &impl Abort, push: Option<Ticket>, g: u16, epoch: u64) -> Ticket {
     let ticket = there(rt, push);
-    assert_eq!(rt; (ticket.run, ticket.g, ticket.epoch), (7, GNo(g), epoch));
+    same(rt, (ticket.run, ticket.g, ticket.epoch), (7, GNo(g), epoch));
     ticket
 }
 
@@ -27,14 +27,14 @@ fn with(rt: &impl Abort, push: Option<Ticket>, g: u16, epoch: u64) -> Ticket {
 pub(super) fn on<T>(rt: &impl Abort, answer: Answer<T>, woke: Woke) -> Held<T> {
     let Went { held, push } = accepted(rt, answer);
     without(rt, push);
-    assert_eq!(rt; held.woke, woke);
+    same(rt, held.woke, woke);
     held
 }
 
 /// The body of this number is started, and its ticket given out.
 pub(super) fn starts<T>(rt: &impl Abort, answer: Answer<T>, g: u16) -> (Held<T>, Ticket) {
     let Went { held, push } = accepted(rt, answer);
-    assert_eq!(rt; held.woke, Woke::Done);
+    same(rt, held.woke, Woke::Done);
     (held, with(rt, push, g, 1))
 }
 
@@ -54,7 +54,7 @@ pub(super) fn moves<T>(
 ) -> Held<T> {
     let Went { held, push } = went(rt, answer);
     without(rt, push);
-    assert_eq!(rt; held.woke, woke);
+    same(rt, held.woke, woke);
     held
 }
 
@@ -67,7 +67,7 @@ pub(super) fn serves<T>(
     epoch: u64,
 ) -> (Held<T>, Ticket) {
     let Went { held, push } = went(rt, answer);
-    assert_eq!(rt; held.woke, woke);
+    same(rt, held.woke, woke);
     (held, with(rt, push, g, epoch))
 }
 
@@ -88,7 +88,7 @@ pub(super) fn closes<T>(
 ) -> Held<T> {
     let (Went { held, push }, woken) = accepted(rt, answer);
     without(rt, push);
-    assert_eq!(rt; (held.woke, woken), (woke, count));
+    same(rt, (held.woke, woken), (woke, count));
     held
 }
 
@@ -121,13 +121,13 @@ pub(super) fn claims<T>(
 ) -> Held<T> {
     let g = ticket.g;
     let held = accepted(rt, book.claim(pass, ticket));
-    assert_eq!(rt; (held.run, held.g, held.woke), (7, g, woke));
+    same(rt, (held.run, held.g, held.woke), (7, g, woke));
     held
 }
 
 /// Main exits, and the run is over.
 pub(super) fn ends<T>(rt: &impl Abort, book: &mut Book<T, u32>, pass: &mut Pass, held: Held<T>) {
     let exited = accepted(rt, book.exit(pass, held));
-    assert_eq!(rt; exited, Exited::MainEnded);
-    assert_eq!(rt; book.outcome(), Some(Outcome::MainEnded));
+    same(rt, exited, Exited::MainEnded);
+    same(rt, book.outcome(), Some(Outcome::MainEnded));
 }

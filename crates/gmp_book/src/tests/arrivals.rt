@@ -1,12 +1,45 @@
 //! Who comes first is served first.
-use super::answers::{at, claims, closes, ends, moves, resumes, serves, starts, waits};
+use super::answers::{at, claims, ends, resumes};
+use super::calls::{
+    brings_back, dies, gives_back_ticket, goes, is_over, puts, receives, recv_serves, recv_waits,
+    send_serves, send_waits, sends, shuts, yields,
+};
 use super::*;
 
 /// Main starts the body of this number and yields; that body is held.
 fn begins(rt: &impl Abort, book: &mut Desk, pass: &mut Pass, held: Held<u32>, g: u16) -> Held<u32> {
-    let (held, ticket) = starts(rt, book.go(pass, held, GNo(g)), g);
-    accepted(rt, book.yield_to(pass, held));
+    let (held, ticket) = goes(rt, book, pass, held, g);
+    yields(rt, book, pass, held);
     claims(rt, book, pass, ticket, Woke::First)
+}
+
+/// That body begins, and waits to send; main goes on.
+fn sender_waits(
+    rt: &impl Abort,
+    book: &mut Desk,
+    pass: &mut Pass,
+    main: Held<u32>,
+    g: u16,
+    (c, v): (Option<CNo>, u64),
+    epoch: u64,
+) -> Held<u32> {
+    let held = begins(rt, book, pass, main, g);
+    send_waits(rt, book, pass, held, c, v);
+    resumes(rt, book, pass, 0, epoch, Woke::Done)
+}
+
+/// That body begins, and waits to receive; main goes on.
+fn receiver_waits(
+    rt: &impl Abort,
+    book: &mut Desk,
+    pass: &mut Pass,
+    main: Held<u32>,
+    g: u16,
+    epoch: u64,
+) -> Held<u32> {
+    let held = begins(rt, book, pass, main, g);
+    recv_waits(rt, book, pass, held, at(0));
+    resumes(rt, book, pass, 0, epoch, Woke::Done)
 }
 
 /// A goroutine that was served exits, and main goes on.
@@ -19,9 +52,9 @@ fn served(
     woke: Woke,
     epoch: u64,
 ) -> Held<u32> {
-    accepted(rt, book.yield_to(pass, main));
+    yields(rt, book, pass, main);
     let held = claims(rt, book, pass, ticket, woke);
-    assert_eq!(rt; accepted(rt, book.exit(pass, held)), Exited::Dead);
+    dies(rt, book, pass, held);
     resumes(rt, book, pass, 0, epoch, Woke::Done)
 }
 
@@ -31,21 +64,16 @@ fn senders(rt: HostRuntime) -> Result<(), Fail> {
     let alloc = rt.alloc();
     let (mut book, mut pass) = desk(&rt, alloc, LONE, &[0], 3)?;
     let (proc, held) = begin(&rt, &mut book, &mut pass);
-    let second = begins(&rt, &mut book, &mut pass, held, 2);
-    waits(&rt, book.send(&mut pass, second, at(0), 20));
-    let held = resumes(&rt, &mut book, &mut pass, 0, 2, Woke::Done);
-    let first = begins(&rt, &mut book, &mut pass, held, 1);
-    waits(&rt, book.send(&mut pass, first, at(0), 10));
-    let held = resumes(&rt, &mut book, &mut pass, 0, 3, Woke::Done);
+    let held = sender_waits(&rt, &mut book, &mut pass, held, 2, (at(0), 20), 2);
+    let held = sender_waits(&rt, &mut book, &mut pass, held, 1, (at(0), 10), 3);
     let got = Woke::Got(20, true);
-    let (held, ticket) = serves(&rt, book.recv(&mut pass, held, at(0)), got, 2, 2);
+    let (held, ticket) = recv_serves(&rt, &mut book, &mut pass, held, got, (2, 2));
     let held = served(&rt, &mut book, &mut pass, held, ticket, Woke::Done, 4);
     let got = Woke::Got(10, true);
-    let (held, ticket) = serves(&rt, book.recv(&mut pass, held, at(0)), got, 1, 2);
+    let (held, ticket) = recv_serves(&rt, &mut book, &mut pass, held, got, (1, 2));
     let held = served(&rt, &mut book, &mut pass, held, ticket, Woke::Done, 5);
     ends(&rt, &mut book, &mut pass, held);
-    let report = report_of(&rt, alloc, book, pass, proc);
-    assert_eq!(rt; report.bodies.as_slice(), [70, 71, 72].as_slice());
+    brings_back(&rt, alloc, book, pass, proc, &[70, 71, 72]);
     Ok(())
 }
 
@@ -55,24 +83,18 @@ fn receivers(rt: HostRuntime) -> Result<(), Fail> {
     let alloc = rt.alloc();
     let (mut book, mut pass) = desk(&rt, alloc, LONE, &[3], 3)?;
     let (proc, held) = begin(&rt, &mut book, &mut pass);
-    let second = begins(&rt, &mut book, &mut pass, held, 2);
-    waits(&rt, book.recv(&mut pass, second, at(0)));
-    let held = resumes(&rt, &mut book, &mut pass, 0, 2, Woke::Done);
-    let first = begins(&rt, &mut book, &mut pass, held, 1);
-    waits(&rt, book.recv(&mut pass, first, at(0)));
-    let held = resumes(&rt, &mut book, &mut pass, 0, 3, Woke::Done);
-    let sent = book.send(&mut pass, held, at(0), 30);
-    let (held, ticket) = serves(&rt, sent, Woke::Done, 2, 2);
+    let held = receiver_waits(&rt, &mut book, &mut pass, held, 2, 2);
+    let held = receiver_waits(&rt, &mut book, &mut pass, held, 1, 3);
+    let (held, ticket) = send_serves(&rt, &mut book, &mut pass, held, 30, (2, 2));
     let got = Woke::Got(30, true);
     let held = served(&rt, &mut book, &mut pass, held, ticket, got, 4);
-    let sent = book.send(&mut pass, held, at(0), 31);
-    let (held, ticket) = serves(&rt, sent, Woke::Done, 1, 2);
+    let (held, ticket) = send_serves(&rt, &mut book, &mut pass, held, 31, (1, 2));
     let got = Woke::Got(31, true);
     let held = served(&rt, &mut book, &mut pass, held, ticket, got, 5);
     // Nobody waits any more, so that the value is kept.
-    let held = moves(&rt, book.send(&mut pass, held, at(0), 32), Woke::Done);
+    let held = sends(&rt, &mut book, &mut pass, held, 0, 32);
     ends(&rt, &mut book, &mut pass, held);
-    report_of(&rt, alloc, book, pass, proc);
+    is_over(&rt, alloc, book, pass, proc);
     Ok(())
 }
 
@@ -82,25 +104,48 @@ fn senders_beside_a_full_buffer(rt: HostRuntime) -> Result<(), Fail> {
     let alloc = rt.alloc();
     let (mut book, mut pass) = desk(&rt, alloc, LONE, &[2], 3)?;
     let (proc, held) = begin(&rt, &mut book, &mut pass);
-    let held = moves(&rt, book.send(&mut pass, held, at(0), 1), Woke::Done);
-    let held = moves(&rt, book.send(&mut pass, held, at(0), 2), Woke::Done);
-    let second = begins(&rt, &mut book, &mut pass, held, 2);
-    waits(&rt, book.send(&mut pass, second, at(0), 3));
-    let held = resumes(&rt, &mut book, &mut pass, 0, 2, Woke::Done);
-    let first = begins(&rt, &mut book, &mut pass, held, 1);
-    waits(&rt, book.send(&mut pass, first, at(0), 4));
-    let held = resumes(&rt, &mut book, &mut pass, 0, 3, Woke::Done);
+    let held = sends(&rt, &mut book, &mut pass, held, 0, 1);
+    let held = sends(&rt, &mut book, &mut pass, held, 0, 2);
+    let held = sender_waits(&rt, &mut book, &mut pass, held, 2, (at(0), 3), 2);
+    let held = sender_waits(&rt, &mut book, &mut pass, held, 1, (at(0), 4), 3);
     let got = Woke::Got(1, true);
-    let (held, third) = serves(&rt, book.recv(&mut pass, held, at(0)), got, 2, 2);
+    let (held, third) = recv_serves(&rt, &mut book, &mut pass, held, got, (2, 2));
     let got = Woke::Got(2, true);
-    let (held, fourth) = serves(&rt, book.recv(&mut pass, held, at(0)), got, 1, 2);
-    let held = moves(&rt, book.recv(&mut pass, held, at(0)), Woke::Got(3, true));
-    let held = moves(&rt, book.recv(&mut pass, held, at(0)), Woke::Got(4, true));
+    let (held, fourth) = recv_serves(&rt, &mut book, &mut pass, held, got, (1, 2));
+    let held = receives(&rt, &mut book, &mut pass, held, 0, Woke::Got(3, true));
+    let held = receives(&rt, &mut book, &mut pass, held, 0, Woke::Got(4, true));
     ends(&rt, &mut book, &mut pass, held);
-    accepted(&rt, book.surrender_ticket(third));
-    accepted(&rt, book.surrender_ticket(fourth));
-    report_of(&rt, alloc, book, pass, proc);
+    gives_back_ticket(&rt, &mut book, third);
+    gives_back_ticket(&rt, &mut book, fourth);
+    is_over(&rt, alloc, book, pass, proc);
     Ok(())
+}
+
+/// Bodies 3, 1 and 2 wait to receive, in this order.
+fn three_wait(rt: &impl Abort, book: &mut Desk, pass: &mut Pass, main: Held<u32>) -> Held<u32> {
+    let main = receiver_waits(rt, book, pass, main, 3, 2);
+    let main = receiver_waits(rt, book, pass, main, 1, 3);
+    receiver_waits(rt, book, pass, main, 2, 4)
+}
+
+/// The oldest ticket is of this readiness; its goroutine is told this, and exits.
+fn told_and_dead(
+    rt: &impl Abort,
+    book: &mut Desk,
+    pass: &mut Pass,
+    (g, epoch): (u16, u64),
+    woke: Woke,
+) {
+    let held = resumes(rt, book, pass, g, epoch, woke);
+    dies(rt, book, pass, held);
+}
+
+/// Body 4 first, and then they are told of the close.
+fn all_told(rt: &impl Abort, book: &mut Desk, pass: &mut Pass) {
+    told_and_dead(rt, book, pass, (4, 1), Woke::First);
+    for g in [3, 1, 2] {
+        told_and_dead(rt, book, pass, (g, 2), Woke::Got(0, false));
+    }
 }
 
 // A close puts all who wait onto the shelf, by arrival, and behind those who stand there.
@@ -109,30 +154,15 @@ fn closed(rt: HostRuntime) -> Result<(), Fail> {
     let alloc = rt.alloc();
     let (mut book, mut pass) = desk(&rt, alloc, LONE, &[0], 5)?;
     let (proc, held) = begin(&rt, &mut book, &mut pass);
-    let mut main = held;
-    for (g, epoch) in [(3, 2), (1, 3), (2, 4)] {
-        let held = begins(&rt, &mut book, &mut pass, main, g);
-        waits(&rt, book.recv(&mut pass, held, at(0)));
-        main = resumes(&rt, &mut book, &mut pass, 0, epoch, Woke::Done);
-    }
-    let (held, ticket) = starts(&rt, book.go(&mut pass, main, GNo(4)), 4);
-    accepted(&rt, book.put(&mut pass, ticket));
-    let held = closes(&rt, book.close(&mut pass, held, at(0)), Woke::Done, 3);
-    accepted(&rt, book.yield_to(&mut pass, held));
-    let zero = Woke::Got(0, false);
-    for (g, epoch, woke) in [
-        (4, 1, Woke::First),
-        (3, 2, zero),
-        (1, 2, zero),
-        (2, 2, zero),
-    ] {
-        let held = resumes(&rt, &mut book, &mut pass, g, epoch, woke);
-        assert_eq!(rt; accepted(&rt, book.exit(&mut pass, held)), Exited::Dead);
-    }
+    let main = three_wait(&rt, &mut book, &mut pass, held);
+    let (held, ticket) = goes(&rt, &mut book, &mut pass, main, 4);
+    puts(&rt, &mut book, &mut pass, ticket);
+    let held = shuts(&rt, &mut book, &mut pass, held, at(0), Woke::Done, 3);
+    yields(&rt, &mut book, &mut pass, held);
+    all_told(&rt, &mut book, &mut pass);
     let held = resumes(&rt, &mut book, &mut pass, 0, 5, Woke::Done);
     ends(&rt, &mut book, &mut pass, held);
-    let report = report_of(&rt, alloc, book, pass, proc);
-    assert_eq!(rt; report.bodies.as_slice(), [70, 71, 72, 73, 74].as_slice());
+    brings_back(&rt, alloc, book, pass, proc, &[70, 71, 72, 73, 74]);
     Ok(())
 }
 
@@ -142,19 +172,16 @@ fn closed_beside_others(rt: HostRuntime) -> Result<(), Fail> {
     let alloc = rt.alloc();
     let (mut book, mut pass) = desk(&rt, alloc, LONE, &[0, 0], 4)?;
     let (proc, held) = begin(&rt, &mut book, &mut pass);
-    let mut main = held;
-    for (g, c, epoch) in [(3, at(1), 2), (1, None, 3), (2, at(0), 4)] {
-        let held = begins(&rt, &mut book, &mut pass, main, g);
-        waits(&rt, book.send(&mut pass, held, c, 9));
-        main = resumes(&rt, &mut book, &mut pass, 0, epoch, Woke::Done);
-    }
-    let held = closes(&rt, book.close(&mut pass, main, at(0)), Woke::Done, 1);
-    accepted(&rt, book.yield_to(&mut pass, held));
+    let main = sender_waits(&rt, &mut book, &mut pass, held, 3, (at(1), 9), 2);
+    let main = sender_waits(&rt, &mut book, &mut pass, main, 1, (None, 9), 3);
+    let main = sender_waits(&rt, &mut book, &mut pass, main, 2, (at(0), 9), 4);
+    let held = shuts(&rt, &mut book, &mut pass, main, at(0), Woke::Done, 1);
+    yields(&rt, &mut book, &mut pass, held);
     let closed = Woke::Fault(Fault::SendOnClosed);
     let held = resumes(&rt, &mut book, &mut pass, 2, 2, closed);
-    waits(&rt, book.recv(&mut pass, held, None));
+    recv_waits(&rt, &mut book, &mut pass, held, None);
     let held = resumes(&rt, &mut book, &mut pass, 0, 5, Woke::Done);
     ends(&rt, &mut book, &mut pass, held);
-    report_of(&rt, alloc, book, pass, proc);
+    is_over(&rt, alloc, book, pass, proc);
     Ok(())
 }

@@ -1,5 +1,6 @@
 //! Want of memory. Run with each allocation refused in turn.
-use super::answers::{at, ends, moves, on};
+use super::answers::{ends, on};
+use super::calls::{history_is, makes, receives, sends};
 use super::*;
 
 /// A book without channels and with one body, 70, and its pass, if there is memory.
@@ -15,16 +16,33 @@ fn desk_or_not(rt: &impl Abort, alloc: Global) -> Option<(Desk, Pass)> {
             Some((book, pass))
         }
         Err(unopened) => {
-            assert_eq!(rt; unopened.why, Refusal::OutOfMemory);
-            assert_eq!(rt; unopened.bodies.as_slice(), [70].as_slice());
-            assert_eq!(rt; unopened.owners.as_slice(), [80].as_slice());
+            same(rt, unopened.why, Refusal::OutOfMemory);
+            lists(rt, &unopened.bodies, &[70]);
+            lists(rt, &unopened.owners, &[80]);
             None
         }
     }
 }
 
+/// That a make is refused memory, and nothing has changed: the goroutine, which is told so.
+fn unchanged(
+    rt: &impl Abort,
+    book: &Desk,
+    pass: &Pass,
+    refused: Refused<Held<u32>>,
+    before: (u64, u64),
+) -> Held<u32> {
+    let (why, held) = refused.open();
+    same(rt, (why, why.number()), (Refusal::OutOfMemory, 28));
+    same(rt, parts(&held), (7, GNo(0), Woke::NoMemory, 70));
+    same(rt, (pass.calls, pass.seen), before);
+    same(rt, book.history().len() as u64, before.1);
+    same(rt, book.outcome(), None);
+    held
+}
+
 /// The channel of this number is made, with room for so many values, at once or at the second time.
-fn makes(
+fn makes_or_again(
     rt: &impl Abort,
     alloc: Global,
     book: &mut Desk,
@@ -37,14 +55,8 @@ fn makes(
     match book.make(alloc, pass, held, capacity) {
         Ok(went) => on(rt, Ok(went), Woke::Made(CNo(c))),
         Err(refused) => {
-            let (why, held) = refused.open();
-            assert_eq!(rt; (why, why.number()), (Refusal::OutOfMemory, 28));
-            assert_eq!(rt; parts(&held), (7, GNo(0), Woke::NoMemory, 70));
-            assert_eq!(rt; (pass.calls, pass.seen), (calls, seen));
-            assert_eq!(rt; book.history().len() as u64, seen);
-            assert_eq!(rt; book.outcome(), None);
-            let made = book.make(alloc, pass, held, capacity);
-            on(rt, made, Woke::Made(CNo(c)))
+            let held = unchanged(rt, book, pass, refused, (calls, seen));
+            makes(rt, alloc, book, pass, held, capacity, Woke::Made(CNo(c)))
         }
     }
 }
@@ -57,15 +69,15 @@ fn a_make_that_is_refused_memory_can_be_made_again(rt: HostRuntime) -> Result<()
         return Ok(());
     };
     let (proc, held) = begin(&rt, &mut book, &mut pass);
-    let held = makes(&rt, alloc, &mut book, &mut pass, held, 0, 2);
-    let held = makes(&rt, alloc, &mut book, &mut pass, held, 1, 4096);
-    let held = moves(&rt, book.send(&mut pass, held, at(0), 5), Woke::Done);
-    let held = makes(&rt, alloc, &mut book, &mut pass, held, 2, 0);
+    let held = makes_or_again(&rt, alloc, &mut book, &mut pass, held, 0, 2);
+    let held = makes_or_again(&rt, alloc, &mut book, &mut pass, held, 1, 4096);
+    let held = sends(&rt, &mut book, &mut pass, held, 0, 5);
+    let held = makes_or_again(&rt, alloc, &mut book, &mut pass, held, 2, 0);
     let large = Woke::Fault(Fault::BadCapacity);
-    let held = on(&rt, book.make(alloc, &mut pass, held, 4097), large);
-    let held = moves(&rt, book.recv(&mut pass, held, at(0)), Woke::Got(5, true));
+    let held = makes(&rt, alloc, &mut book, &mut pass, held, 4097, large);
+    let held = receives(&rt, &mut book, &mut pass, held, 0, Woke::Got(5, true));
     ends(&rt, &mut book, &mut pass, held);
-    let want = [
+    let want = &[
         "0.0 Acquire -> Proc(PNo(0))",
         "0.1 Take -> Ticket(Readiness { g: GNo(0), epoch: 1 })",
         "0.2 Claim(Readiness { g: GNo(0), epoch: 1 }) -> Held",
@@ -78,5 +90,5 @@ fn a_make_that_is_refused_memory_can_be_made_again(rt: HostRuntime) -> Result<()
         "0.9 Exit -> MainEnded",
     ];
     let report = report_of(&rt, alloc, book, pass, proc);
-    is_told(&rt, alloc, &report.history, &want)
+    history_is(&rt, alloc, report, want)
 }

@@ -9,13 +9,35 @@ fn each_machine_has_its_pass(rt: HostRuntime) -> Result<(), Fail> {
     };
     let (book, passes) = opened(&rt, rt.alloc(), 7, limits)?;
     assert!(rt; book.history().is_empty());
-    assert_eq!(rt; book.outcome(), None);
+    same(&rt, book.outcome(), None);
     let mut passes = passes;
     for m in [2, 1, 0] {
         let pass = last_pass(&rt, &mut passes);
-        assert_eq!(rt; pass.open(), (7, MNo(m), 0, 0));
+        same(&rt, pass.open(), (7, MNo(m), 0, 0));
     }
     close(&rt, passes);
+    drop(book);
+    Ok(())
+}
+
+/// That a book is not opened so, and bodies and owners come back.
+fn limits_refused(
+    rt: &impl Abort,
+    alloc: Global,
+    limits: Limits,
+    capacities: &[u32],
+    bodies: u8,
+    owners: u8,
+) -> Result<(), Fail> {
+    let given = in_order(alloc, 70, bodies)?;
+    let owned = in_order(alloc, 80, owners)?;
+    let opened = Book::open(alloc, 7, limits, capacities, given, owned);
+    let Err(unopened) = opened else {
+        panic!(rt; "opened");
+    };
+    same(rt, unopened.why.number(), 29);
+    lists(rt, &unopened.bodies, &in_order(alloc, 70, bodies)?);
+    lists(rt, &unopened.owners, &in_order(alloc, 80, owners)?);
     Ok(())
 }
 
@@ -23,38 +45,22 @@ fn each_machine_has_its_pass(rt: HostRuntime) -> Result<(), Fail> {
 #[test]
 fn bad_limits_are_refused(rt: HostRuntime) -> Result<(), Fail> {
     let alloc = rt.alloc();
+    let none = Limits { procs: 0, ..SMALL };
+    let one = Limits {
+        channels: 1,
+        ..SMALL
+    };
     let two = Limits {
         procs: 2,
         machines: 2,
         ..SMALL
     };
-    for (limits, capacities, bodies, owners) in [
-        (Limits { procs: 0, ..SMALL }, [0; 2], 2, 0),
-        (
-            Limits {
-                channels: 1,
-                ..SMALL
-            },
-            [0; 2],
-            2,
-            1,
-        ),
-        (SMALL, [0, 4097], 2, 1),
-        (SMALL, [0; 2], 0, 1),
-        (SMALL, [0; 2], 2, 2),
-        (two, [0; 2], 3, 1),
-    ] {
-        let given = in_order(alloc, 70, bodies)?;
-        let owned = in_order(alloc, 80, owners)?;
-        let opened = Book::open(alloc, 7, limits, &capacities, given, owned);
-        let Err(unopened) = opened else {
-            panic!(rt; "opened");
-        };
-        assert_eq!(rt; unopened.why.number(), 29);
-        assert_eq!(rt; unopened.bodies, in_order(alloc, 70, bodies)?);
-        assert_eq!(rt; unopened.owners, in_order(alloc, 80, owners)?);
-    }
-    Ok(())
+    limits_refused(&rt, alloc, none, &[0, 0], 2, 0)?;
+    limits_refused(&rt, alloc, one, &[0, 0], 2, 1)?;
+    limits_refused(&rt, alloc, SMALL, &[0, 4097], 2, 1)?;
+    limits_refused(&rt, alloc, SMALL, &[0, 0], 0, 1)?;
+    limits_refused(&rt, alloc, SMALL, &[0, 0], 2, 2)?;
+    limits_refused(&rt, alloc, two, &[0, 0], 3, 1)
 }
 
 // Run with each allocation refused in turn: what was handed in comes back, and else the book opens.
@@ -69,14 +75,14 @@ fn want_of_memory_gives_back_what_was_handed_in(rt: HostRuntime) {
             assert!(rt; book.history().is_empty());
             let mut passes = passes;
             let pass = last_pass(&rt, &mut passes);
-            assert_eq!(rt; pass.open(), (7, MNo(0), 0, 0));
+            same(&rt, pass.open(), (7, MNo(0), 0, 0));
             close(&rt, passes);
         }
         Err(unopened) => {
-            assert_eq!(rt; unopened.why, Refusal::OutOfMemory);
-            assert_eq!(rt; unopened.why.number(), 28);
-            assert_eq!(rt; unopened.bodies.as_slice(), [70, 71].as_slice());
-            assert_eq!(rt; unopened.owners.as_slice(), [80].as_slice());
+            same(&rt, unopened.why, Refusal::OutOfMemory);
+            same(&rt, unopened.why.number(), 28);
+            lists(&rt, &unopened.bodies, &[70, 71]);
+            lists(&rt, &unopened.owners, &[80]);
         }
     }
 }

@@ -1,4 +1,6 @@
 //! Which refusal comes first where several hold.
+use super::answers::ends;
+use super::calls::{pokes, unreported, yields};
 use super::*;
 
 /// A claim of the ticket of main's first epoch, or of one that never was.
@@ -8,27 +10,51 @@ fn claimed(rt: &impl Abort, book: &mut Desk, pass: &mut Pass, run: u64, epoch: u
     why.number()
 }
 
+/// A claim by a pass with these marks, of a ticket of this run, is refused with this number.
+fn claim_numbered(
+    rt: &impl Abort,
+    book: &mut Desk,
+    (run, calls, seen): (u64, u64, u64),
+    ticket: u64,
+    why: u8,
+) {
+    let mut pass = Pass::of(run, MNo(0), calls, seen);
+    same(rt, claimed(rt, book, &mut pass, ticket, 5), why);
+    same(rt, pass.open(), (run, MNo(0), calls, seen));
+}
+
 // Another run, then out of turn, then behind, then what the state forbids.
 #[test]
 fn turns_come_first(rt: HostRuntime) -> Result<(), Fail> {
     let (mut book, mut pass) = small(&rt, rt.alloc(), 7)?;
-    for (run, calls, seen, ticket, why) in [
-        (8, 3, 3, 7, 21),
-        (7, 3, 3, 8, 21),
-        (7, 0, 3, 8, 21),
-        (7, 0, 0, 8, 21),
-        (7, 3, 3, 7, 22),
-        (7, 0, 3, 7, 23),
-        (7, 0, 0, 7, 25),
+    for (marks, ticket, why) in [
+        ((8, 3, 3), 7, 21),
+        ((7, 3, 3), 8, 21),
+        ((7, 0, 3), 8, 21),
+        ((7, 0, 0), 8, 21),
+        ((7, 3, 3), 7, 22),
+        ((7, 0, 3), 7, 23),
+        ((7, 0, 0), 7, 25),
     ] {
-        let mut pass = Pass::of(run, MNo(0), calls, seen);
-        assert_eq!(rt; claimed(&rt, &mut book, &mut pass, ticket, 5), why);
-        assert_eq!(rt; pass.open(), (run, MNo(0), calls, seen));
+        claim_numbered(&rt, &mut book, marks, ticket, why);
     }
-    assert_eq!(rt; made(&rt, book.poke(&mut pass)), None);
+    pokes(&rt, &mut book, &mut pass, None);
     is_checked(&rt, rt.alloc(), SMALL, &book);
     pass.open();
+    drop(book);
     Ok(())
+}
+
+/// The same of an acquire.
+fn acquire_numbered(
+    rt: &impl Abort,
+    book: &mut Desk,
+    (run, calls, seen): (u64, u64, u64),
+    why: u8,
+) {
+    let mut pass = Pass::of(run, MNo(0), calls, seen);
+    same(rt, why_not(rt, book.acquire(&mut pass)).number(), why);
+    pass.open();
 }
 
 // The end comes after the turn, and before what the state forbids.
@@ -36,20 +62,20 @@ fn turns_come_first(rt: HostRuntime) -> Result<(), Fail> {
 fn then_the_end(rt: HostRuntime) -> Result<(), Fail> {
     let (mut book, mut pass) = small(&rt, rt.alloc(), 7)?;
     let (proc, held) = begin(&rt, &mut book, &mut pass);
-    accepted(&rt, book.exit(&mut pass, held));
-    for (run, calls, seen, why) in [
-        (8, 5, 9, 21),
-        (7, 5, 9, 22),
-        (7, 3, 4, 22),
-        (7, 4, 5, 23),
-        (7, 4, 4, 20),
+    ends(&rt, &mut book, &mut pass, held);
+    for (marks, why) in [
+        ((8, 5, 9), 21),
+        ((7, 5, 9), 22),
+        ((7, 3, 4), 22),
+        ((7, 4, 5), 23),
+        ((7, 4, 4), 20),
     ] {
-        let mut pass = Pass::of(run, MNo(0), calls, seen);
-        assert_eq!(rt; why_not(&rt, book.acquire(&mut pass)).number(), why);
-        pass.open();
+        acquire_numbered(&rt, &mut book, marks, why);
     }
     is_checked(&rt, rt.alloc(), SMALL, &book);
-    (pass.open(), proc.open());
+    pass.open();
+    proc.open();
+    drop(book);
     Ok(())
 }
 
@@ -58,13 +84,16 @@ fn then_the_end(rt: HostRuntime) -> Result<(), Fail> {
 fn then_the_state(rt: HostRuntime) -> Result<(), Fail> {
     let (mut book, mut first, mut second) = pair(&rt, rt.alloc(), 1)?;
     let (proc, held) = begin(&rt, &mut book, &mut first);
-    assert_eq!(rt; claimed(&rt, &mut book, &mut first, 7, 1), 26);
-    assert_eq!(rt; claimed(&rt, &mut book, &mut second, 7, 1), 25);
-    accepted(&rt, book.yield_to(&mut first, held));
-    assert_eq!(rt; claimed(&rt, &mut book, &mut first, 7, 1), 24);
-    assert_eq!(rt; claimed(&rt, &mut book, &mut second, 7, 1), 25);
+    same(&rt, claimed(&rt, &mut book, &mut first, 7, 1), 26);
+    same(&rt, claimed(&rt, &mut book, &mut second, 7, 1), 25);
+    yields(&rt, &mut book, &mut first, held);
+    same(&rt, claimed(&rt, &mut book, &mut first, 7, 1), 24);
+    same(&rt, claimed(&rt, &mut book, &mut second, 7, 1), 25);
     is_checked(&rt, rt.alloc(), two(1), &book);
-    (first.open(), second.open(), proc.open());
+    first.open();
+    second.open();
+    proc.open();
+    drop(book);
     Ok(())
 }
 
@@ -73,13 +102,11 @@ fn then_the_state(rt: HostRuntime) -> Result<(), Fail> {
 fn reports(rt: HostRuntime) -> Result<(), Fail> {
     let (mut book, mut pass) = small(&rt, rt.alloc(), 7)?;
     let (proc, held) = begin(&rt, &mut book, &mut pass);
-    let (why, book) = refused(&rt, book.into_report());
-    assert_eq!(rt; why.number(), 30);
-    let mut book = book;
-    accepted(&rt, book.exit(&mut pass, held));
-    let (why, book) = refused(&rt, book.into_report());
-    assert_eq!(rt; why.number(), 26);
+    let mut book = unreported(&rt, book, 30);
+    ends(&rt, &mut book, &mut pass, held);
+    let book = unreported(&rt, book, 26);
     is_checked(&rt, rt.alloc(), SMALL, &book);
-    (pass.open(), proc.open());
+    pass.open();
+    proc.open();
     Ok(())
 }

@@ -1,5 +1,9 @@
 //! What each body is told, from its first answer to its last.
-use super::answers::{at, claims, closes, moves, on, resumes, serves, starts, waits};
+use super::answers::{at, claims, ends, moves, on, resumes};
+use super::calls::{
+    cap_is, dies, goes, len_is, makes, receives, recv_serves, recv_waits, send_serves, send_waits,
+    sends, shuts, takes, yields,
+};
 use super::*;
 
 /// A body that keeps the answers that it is told, twelve at most.
@@ -62,8 +66,8 @@ fn other(
     pass: &mut Pass,
     main: Held<Recorder>,
 ) -> Held<Recorder> {
-    let (held, ticket) = starts(rt, book.go(pass, main, GNo(1)), 1);
-    accepted(rt, book.yield_to(pass, hears(held)));
+    let (held, ticket) = goes(rt, book, pass, main, 1);
+    yields(rt, book, pass, hears(held));
     hears(claims(rt, book, pass, ticket, Woke::First))
 }
 
@@ -80,14 +84,14 @@ fn tells(
     main: Held<Recorder>,
     ticket: Option<Ticket>,
 ) -> Held<Recorder> {
-    accepted(rt, book.yield_to(pass, main));
+    yields(rt, book, pass, main);
     let ticket = match ticket {
         Some(ticket) => ticket,
-        None => there(rt, made(rt, book.take(pass))),
+        None => takes(rt, book, pass),
     };
     let held = hears(accepted(rt, book.claim(pass, ticket)));
-    assert_eq!(rt; held.g, GNo(1));
-    assert_eq!(rt; accepted(rt, book.exit(pass, held)), Exited::Dead);
+    same(rt, held.g, GNo(1));
+    dies(rt, book, pass, held);
     hears(resumes(rt, book, pass, 0, 3, Woke::Done))
 }
 
@@ -102,9 +106,9 @@ fn recorded(
     all: &[&[Woke]],
 ) {
     let (mut book, mut pass) = (book, pass);
-    assert_eq!(rt; accepted(rt, book.exit(&mut pass, main)), Exited::MainEnded);
+    ends(rt, &mut book, &mut pass, main);
     let report = report_of(rt, alloc, book, pass, proc);
-    assert_eq!(rt; report.bodies.len(), all.len());
+    same(rt, report.bodies.len(), all.len());
     for (body, want) in report.bodies.iter().zip(all.iter()) {
         heard(rt, body, want);
     }
@@ -112,9 +116,9 @@ fn recorded(
 
 /// That the body was told this, and nothing else.
 fn heard(rt: &impl Abort, body: &Recorder, want: &[Woke]) {
-    assert_eq!(rt; body.count, want.len());
+    same(rt, body.count, want.len());
     for (told, woke) in body.told.iter().zip(want.iter()) {
-        assert_eq!(rt; *told, Some(*woke));
+        same(rt, *told, Some(*woke));
     }
 }
 
@@ -124,14 +128,20 @@ fn sender_served(rt: HostRuntime) -> Result<(), Fail> {
     let alloc = rt.alloc();
     let (mut book, mut pass, proc, main) = stage(&rt, alloc, LONE, &[0], 2)?;
     let held = other(&rt, &mut book, &mut pass, main);
-    waits(&rt, book.send(&mut pass, held, at(0), 5));
+    send_waits(&rt, &mut book, &mut pass, held, at(0), 5);
     let main = back(&rt, &mut book, &mut pass);
     let got = Woke::Got(5, true);
-    let (main, ticket) = serves(&rt, book.recv(&mut pass, main, at(0)), got, 1, 2);
+    let (main, ticket) = recv_serves(&rt, &mut book, &mut pass, main, got, (1, 2));
     let main = tells(&rt, &mut book, &mut pass, hears(main), Some(ticket));
-    let of_main = [Woke::First, Woke::Done, Woke::Done, got, Woke::Done];
-    let of_other = [Woke::First, Woke::Done];
-    recorded(&rt, alloc, book, pass, proc, main, &[&of_main, &of_other]);
+    let of_main: &[Woke] = &[
+        Woke::First,
+        Woke::Done,
+        Woke::Done,
+        Woke::Got(5, true),
+        Woke::Done,
+    ];
+    let of_other: &[Woke] = &[Woke::First, Woke::Done];
+    recorded(&rt, alloc, book, pass, proc, main, &[of_main, of_other]);
     Ok(())
 }
 
@@ -141,14 +151,13 @@ fn receiver_served(rt: HostRuntime) -> Result<(), Fail> {
     let alloc = rt.alloc();
     let (mut book, mut pass, proc, main) = stage(&rt, alloc, LONE, &[0], 2)?;
     let held = other(&rt, &mut book, &mut pass, main);
-    waits(&rt, book.recv(&mut pass, held, at(0)));
+    recv_waits(&rt, &mut book, &mut pass, held, at(0));
     let main = back(&rt, &mut book, &mut pass);
-    let sent = book.send(&mut pass, main, at(0), 5);
-    let (main, ticket) = serves(&rt, sent, Woke::Done, 1, 2);
+    let (main, ticket) = send_serves(&rt, &mut book, &mut pass, main, 5, (1, 2));
     let main = tells(&rt, &mut book, &mut pass, hears(main), Some(ticket));
-    let of_main = [Woke::First, Woke::Done, Woke::Done, Woke::Done, Woke::Done];
-    let of_other = [Woke::First, Woke::Got(5, true)];
-    recorded(&rt, alloc, book, pass, proc, main, &[&of_main, &of_other]);
+    let of_main: &[Woke] = &[Woke::First, Woke::Done, Woke::Done, Woke::Done, Woke::Done];
+    let of_other: &[Woke] = &[Woke::First, Woke::Got(5, true)];
+    recorded(&rt, alloc, book, pass, proc, main, &[of_main, of_other]);
     Ok(())
 }
 
@@ -158,13 +167,13 @@ fn sender_closed_upon(rt: HostRuntime) -> Result<(), Fail> {
     let alloc = rt.alloc();
     let (mut book, mut pass, proc, main) = stage(&rt, alloc, LONE, &[0], 2)?;
     let held = other(&rt, &mut book, &mut pass, main);
-    waits(&rt, book.send(&mut pass, held, at(0), 5));
+    send_waits(&rt, &mut book, &mut pass, held, at(0), 5);
     let main = back(&rt, &mut book, &mut pass);
-    let main = closes(&rt, book.close(&mut pass, main, at(0)), Woke::Done, 1);
+    let main = shuts(&rt, &mut book, &mut pass, main, at(0), Woke::Done, 1);
     let main = tells(&rt, &mut book, &mut pass, hears(main), None);
-    let of_main = [Woke::First, Woke::Done, Woke::Done, Woke::Done, Woke::Done];
-    let of_other = [Woke::First, Woke::Fault(Fault::SendOnClosed)];
-    recorded(&rt, alloc, book, pass, proc, main, &[&of_main, &of_other]);
+    let of_main: &[Woke] = &[Woke::First, Woke::Done, Woke::Done, Woke::Done, Woke::Done];
+    let of_other: &[Woke] = &[Woke::First, Woke::Fault(Fault::SendOnClosed)];
+    recorded(&rt, alloc, book, pass, proc, main, &[of_main, of_other]);
     Ok(())
 }
 
@@ -174,18 +183,18 @@ fn receiver_closed_upon(rt: HostRuntime) -> Result<(), Fail> {
     let alloc = rt.alloc();
     let (mut book, mut pass, proc, main) = stage(&rt, alloc, LONE, &[0], 2)?;
     let held = other(&rt, &mut book, &mut pass, main);
-    waits(&rt, book.recv(&mut pass, held, at(0)));
+    recv_waits(&rt, &mut book, &mut pass, held, at(0));
     let main = back(&rt, &mut book, &mut pass);
-    let main = closes(&rt, book.close(&mut pass, main, at(0)), Woke::Done, 1);
+    let main = shuts(&rt, &mut book, &mut pass, main, at(0), Woke::Done, 1);
     let main = tells(&rt, &mut book, &mut pass, hears(main), None);
-    let of_main = [Woke::First, Woke::Done, Woke::Done, Woke::Done, Woke::Done];
-    let of_other = [Woke::First, Woke::Got(0, false)];
-    recorded(&rt, alloc, book, pass, proc, main, &[&of_main, &of_other]);
+    let of_main: &[Woke] = &[Woke::First, Woke::Done, Woke::Done, Woke::Done, Woke::Done];
+    let of_other: &[Woke] = &[Woke::First, Woke::Got(0, false)];
+    recorded(&rt, alloc, book, pass, proc, main, &[of_main, of_other]);
     Ok(())
 }
 
 /// Receives the values in this order.
-fn receives(
+fn receives_all(
     rt: &impl Abort,
     book: &mut Stage,
     pass: &mut Pass,
@@ -207,25 +216,25 @@ fn relay(rt: HostRuntime) -> Result<(), Fail> {
     let (mut book, mut pass, proc, main) = stage(&rt, alloc, LONE, &[2], 2)?;
     let mut held = other(&rt, &mut book, &mut pass, main);
     for v in [11, 12] {
-        held = hears(moves(&rt, book.send(&mut pass, held, at(0), v), Woke::Done));
+        held = hears(sends(&rt, &mut book, &mut pass, held, 0, v));
     }
-    waits(&rt, book.send(&mut pass, held, at(0), 13));
+    send_waits(&rt, &mut book, &mut pass, held, at(0), 13);
     let main = back(&rt, &mut book, &mut pass);
     let first = Woke::Got(11, true);
-    let (main, ticket) = serves(&rt, book.recv(&mut pass, main, at(0)), first, 1, 2);
-    let main = receives(&rt, &mut book, &mut pass, hears(main), &[12, 13]);
+    let (main, ticket) = recv_serves(&rt, &mut book, &mut pass, main, first, (1, 2));
+    let main = receives_all(&rt, &mut book, &mut pass, hears(main), &[12, 13]);
     let main = tells(&rt, &mut book, &mut pass, main, Some(ticket));
-    let of_main = [
+    let of_main: &[Woke] = &[
         Woke::First,
         Woke::Done,
         Woke::Done,
-        first,
+        Woke::Got(11, true),
         Woke::Got(12, true),
         Woke::Got(13, true),
         Woke::Done,
     ];
-    let of_other = [Woke::First, Woke::Done, Woke::Done, Woke::Done];
-    recorded(&rt, alloc, book, pass, proc, main, &[&of_main, &of_other]);
+    let of_other: &[Woke] = &[Woke::First, Woke::Done, Woke::Done, Woke::Done];
+    recorded(&rt, alloc, book, pass, proc, main, &[of_main, of_other]);
     Ok(())
 }
 
@@ -244,9 +253,9 @@ fn makes_and_asks(
 ) -> Held<Recorder> {
     let made = book.make(alloc, pass, main, 3);
     let main = hears(on(rt, made, Woke::Made(CNo(0))));
-    let main = hears(moves(rt, book.send(pass, main, at(0), 9), Woke::Done));
-    let main = hears(on(rt, book.len(pass, main, at(0)), Woke::Number(1)));
-    hears(on(rt, book.cap(pass, main, at(0)), Woke::Number(3)))
+    let main = hears(sends(rt, book, pass, main, 0, 9));
+    let main = hears(len_is(rt, book, pass, main, at(0), Woke::Number(1)));
+    hears(cap_is(rt, book, pass, main, at(0), Woke::Number(3)))
 }
 
 // What a goroutine is told of its channel.
@@ -255,14 +264,14 @@ fn numbers(rt: HostRuntime) -> Result<(), Fail> {
     let alloc = rt.alloc();
     let (mut book, mut pass, proc, main) = stage(&rt, alloc, ONE_CHANNEL, &[], 1)?;
     let main = makes_and_asks(&rt, alloc, &mut book, &mut pass, main);
-    let want = [
+    let want: &[Woke] = &[
         Woke::First,
         Woke::Made(CNo(0)),
         Woke::Done,
         Woke::Number(1),
         Woke::Number(3),
     ];
-    recorded(&rt, alloc, book, pass, proc, main, &[&want]);
+    recorded(&rt, alloc, book, pass, proc, main, &[want]);
     Ok(())
 }
 
@@ -279,11 +288,11 @@ fn faults_first(
     let started = Woke::Fault(Fault::AlreadyStarted);
     let main = hears(on(rt, book.go(pass, main, GNo(0)), started));
     let missing = Woke::Fault(Fault::NoSuchChannel);
-    let main = hears(moves(rt, book.recv(pass, main, at(1)), missing));
+    let main = hears(receives(rt, book, pass, main, 1, missing));
     let large = Woke::Fault(Fault::BadCapacity);
-    let main = hears(on(rt, book.make(alloc, pass, main, 4097), large));
+    let main = hears(makes(rt, alloc, book, pass, main, 4097, large));
     let many = Woke::Fault(Fault::TooManyChannels);
-    hears(on(rt, book.make(alloc, pass, main, 1), many))
+    hears(makes(rt, alloc, book, pass, main, 1, many))
 }
 
 /// And of a channel that is closed.
@@ -294,12 +303,12 @@ fn faults_then(
     main: Held<Recorder>,
 ) -> Held<Recorder> {
     let nil = Woke::Fault(Fault::CloseOfNil);
-    let main = hears(closes(rt, book.close(pass, main, None), nil, 0));
-    let main = hears(closes(rt, book.close(pass, main, at(0)), Woke::Done, 0));
+    let main = hears(shuts(rt, book, pass, main, None, nil, 0));
+    let main = hears(shuts(rt, book, pass, main, at(0), Woke::Done, 0));
     let closed = Woke::Fault(Fault::SendOnClosed);
     let main = hears(moves(rt, book.send(pass, main, at(0), 1), closed));
     let again = Woke::Fault(Fault::CloseOfClosed);
-    hears(closes(rt, book.close(pass, main, at(0)), again, 0))
+    hears(shuts(rt, book, pass, main, at(0), again, 0))
 }
 
 // Every fault but that of a goroutine that isn't parked, by its number.
@@ -309,7 +318,7 @@ fn faults(rt: HostRuntime) -> Result<(), Fail> {
     let (mut book, mut pass, proc, main) = stage(&rt, alloc, ONE_CHANNEL, &[1], 1)?;
     let main = faults_first(&rt, alloc, &mut book, &mut pass, main);
     let main = faults_then(&rt, &mut book, &mut pass, main);
-    let want = [
+    let want: &[Woke] = &[
         Woke::First,
         Woke::Fault(Fault::NoSuchBody),
         Woke::Fault(Fault::AlreadyStarted),
@@ -321,7 +330,7 @@ fn faults(rt: HostRuntime) -> Result<(), Fail> {
         Woke::Fault(Fault::SendOnClosed),
         Woke::Fault(Fault::CloseOfClosed),
     ];
-    recorded(&rt, alloc, book, pass, proc, main, &[&want]);
+    recorded(&rt, alloc, book, pass, proc, main, &[want]);
     Ok(())
 }
 
@@ -334,16 +343,20 @@ fn told_of_want_of_memory(rt: HostRuntime) -> Result<(), Fail> {
     match book.make(alloc, &mut pass, main, 2) {
         Ok(went) => {
             let main = hears(on(&rt, Ok(went), made_so));
-            let want = [Woke::First, made_so];
-            recorded(&rt, alloc, book, pass, proc, main, &[&want]);
+            let want: &[Woke] = &[Woke::First, Woke::Made(CNo(0))];
+            recorded(&rt, alloc, book, pass, proc, main, &[want]);
         }
         Err(refused) => {
             let (why, main) = refused.open();
-            assert_eq!(rt; (why, main.woke), (Refusal::OutOfMemory, Woke::NoMemory));
+            same(
+                &rt,
+                (why, main.woke),
+                (Refusal::OutOfMemory, Woke::NoMemory),
+            );
             let made = book.make(alloc, &mut pass, hears(main), 2);
             let main = hears(on(&rt, made, made_so));
-            let want = [Woke::First, Woke::NoMemory, made_so];
-            recorded(&rt, alloc, book, pass, proc, main, &[&want]);
+            let want: &[Woke] = &[Woke::First, Woke::NoMemory, Woke::Made(CNo(0))];
+            recorded(&rt, alloc, book, pass, proc, main, &[want]);
         }
     }
     Ok(())

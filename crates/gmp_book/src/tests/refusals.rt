@@ -1,4 +1,8 @@
 //! Each refusal, and that the pass stays as it was.
+use super::answers::{claims, ends};
+use super::calls::{
+    acquires, gives_back, gives_back_held, goes, pokes, puts, reported, takes, unreported, yields,
+};
 use super::*;
 
 /// The ticket of main's first claim, whoever gave it out.
@@ -10,73 +14,111 @@ fn forged(run: u64) -> Ticket {
 fn claim_refused(rt: &impl Abort, book: &mut Desk, pass: &mut Pass, ticket: Ticket) -> Refusal {
     let given = (ticket.run, ticket.g, ticket.epoch);
     let (why, back) = refused(rt, book.claim(pass, ticket));
-    assert_eq!(rt; back.open(), given);
+    same(rt, back.open(), given);
     why
 }
 
 fn put_refused(rt: &impl Abort, book: &mut Desk, pass: &mut Pass, ticket: Ticket) -> Refusal {
     let given = (ticket.run, ticket.g, ticket.epoch);
     let (why, back) = refused(rt, book.put(pass, ticket));
-    assert_eq!(rt; back.open(), given);
+    same(rt, back.open(), given);
     why
 }
 
 fn yield_refused(rt: &impl Abort, book: &mut Desk, pass: &mut Pass, held: Held<u32>) -> Refusal {
     let given = parts(&held);
     let (why, back) = refused(rt, book.yield_to(pass, held));
-    assert_eq!(rt; back.open(), given);
+    same(rt, back.open(), given);
     why
 }
 
 fn exit_refused(rt: &impl Abort, book: &mut Desk, pass: &mut Pass, held: Held<u32>) -> Refusal {
     let given = parts(&held);
     let (why, back) = refused(rt, book.exit(pass, held));
-    assert_eq!(rt; back.open(), given);
+    same(rt, back.open(), given);
     why
 }
 
 fn go_refused(rt: &impl Abort, book: &mut Desk, pass: &mut Pass, held: Held<u32>) -> Refusal {
     let given = parts(&held);
     let (why, back) = refused(rt, book.go(pass, held, GNo(1)));
-    assert_eq!(rt; back.open(), given);
+    same(rt, back.open(), given);
     why
+}
+
+/// That the refusal has this number.
+fn numbered(rt: &impl Abort, why: Refusal, number: u8) {
+    same(rt, why.number(), number);
+}
+
+/// That each call of this goroutine is refused with this number.
+fn held_refused(
+    rt: &impl Abort,
+    book: &mut Desk,
+    pass: &mut Pass,
+    (run, g, woke, body): (u64, GNo, Woke, u32),
+    number: u8,
+) {
+    let held = || Held::of(run, g, woke, body);
+    numbered(rt, go_refused(rt, book, pass, held()), number);
+    numbered(rt, yield_refused(rt, book, pass, held()), number);
+    numbered(rt, exit_refused(rt, book, pass, held()), number);
+}
+
+/// What a refusal leaves as it was.
+fn marks(book: &Desk, pass: &Pass) -> (u64, u64, usize) {
+    (pass.calls, pass.seen, book.history().len())
+}
+
+/// That every call with the pass is refused so that is handed nothing.
+fn bare_refused(rt: &impl Abort, book: &mut Desk, pass: &mut Pass, why: Refusal) {
+    same(rt, why_not(rt, book.acquire(pass)), why);
+    same(rt, why_not(rt, book.take(pass)), why);
+    same(rt, why_not(rt, book.poke(pass)), why);
+    same(rt, why_not(rt, book.tick(pass, 9)), why);
+}
+
+/// That every other is, whatever it is handed of run 7.
+fn handing_refused(rt: &impl Abort, book: &mut Desk, pass: &mut Pass, why: Refusal) {
+    same(rt, put_refused(rt, book, pass, forged(7)), why);
+    same(rt, claim_refused(rt, book, pass, forged(7)), why);
+    let held = || Held::of(7, GNo(0), Woke::Late, 99);
+    same(rt, go_refused(rt, book, pass, held()), why);
+    same(rt, yield_refused(rt, book, pass, held()), why);
+    same(rt, exit_refused(rt, book, pass, held()), why);
 }
 
 /// That every call with the pass is refused so, whatever it is handed of run 7.
 fn all_refused(rt: &impl Abort, book: &mut Desk, pass: &mut Pass, why: Refusal) {
-    let before = (pass.calls, pass.seen);
-    let length = book.history().len();
-    assert_eq!(rt; why_not(rt, book.acquire(pass)), why);
-    assert_eq!(rt; why_not(rt, book.take(pass)), why);
-    assert_eq!(rt; why_not(rt, book.poke(pass)), why);
-    assert_eq!(rt; why_not(rt, book.tick(pass, 9)), why);
-    assert_eq!(rt; put_refused(rt, book, pass, forged(7)), why);
-    assert_eq!(rt; claim_refused(rt, book, pass, forged(7)), why);
-    let held = || Held::of(7, GNo(0), Woke::Late, 99);
-    assert_eq!(rt; go_refused(rt, book, pass, held()), why);
-    assert_eq!(rt; yield_refused(rt, book, pass, held()), why);
-    assert_eq!(rt; exit_refused(rt, book, pass, held()), why);
-    assert_eq!(rt; (pass.calls, pass.seen), before);
-    assert_eq!(rt; book.history().len(), length);
+    let before = marks(book, pass);
+    bare_refused(rt, book, pass, why);
+    handing_refused(rt, book, pass, why);
+    same(rt, marks(book, pass), before);
+}
+
+/// The same of a pass with these marks.
+fn pass_refused(
+    rt: &impl Abort,
+    book: &mut Desk,
+    (run, m, calls, seen): (u64, u8, u64, u64),
+    why: Refusal,
+) {
+    let mut pass = Pass::of(run, MNo(m), calls, seen);
+    all_refused(rt, book, &mut pass, why);
+    pass.open();
 }
 
 #[test]
 fn before_the_first_entry(rt: HostRuntime) -> Result<(), Fail> {
     let (mut book, mut pass) = small(&rt, rt.alloc(), 7)?;
-    assert_eq!(rt;
-        put_refused(&rt, &mut book, &mut pass, forged(7)).number(),
-        24
-    );
-    assert_eq!(rt; pass.calls, 0);
-    let ticket = there(&rt, made(&rt, book.take(&mut pass)));
-    assert_eq!(rt;
-        claim_refused(&rt, &mut book, &mut pass, ticket).number(),
-        25
-    );
-    assert_eq!(rt; pass.calls, 1);
-    let (why, book) = refused(&rt, book.into_report());
-    assert_eq!(rt; (why.number(), book.history().len()), (30, 1));
-    assert_eq!(rt; pass.open(), (7, MNo(0), 1, 1));
+    numbered(&rt, put_refused(&rt, &mut book, &mut pass, forged(7)), 24);
+    same(&rt, pass.calls, 0);
+    let ticket = takes(&rt, &mut book, &mut pass);
+    numbered(&rt, claim_refused(&rt, &mut book, &mut pass, ticket), 25);
+    same(&rt, pass.calls, 1);
+    let book = unreported(&rt, book, 30);
+    same(&rt, book.history().len(), 1);
+    same(&rt, pass.open(), (7, MNo(0), 1, 1));
     Ok(())
 }
 
@@ -84,39 +126,20 @@ fn before_the_first_entry(rt: HostRuntime) -> Result<(), Fail> {
 #[test]
 fn another_run(rt: HostRuntime) -> Result<(), Fail> {
     let (mut book, mut pass) = small(&rt, rt.alloc(), 7)?;
-    let proc = there(&rt, made(&rt, book.acquire(&mut pass)));
-    let ticket = there(&rt, made(&rt, book.take(&mut pass)));
-    assert_eq!(rt;
-        claim_refused(&rt, &mut book, &mut pass, forged(8)).number(),
-        21
-    );
-    assert_eq!(rt;
-        put_refused(&rt, &mut book, &mut pass, forged(8)).number(),
-        21
-    );
-    let held = accepted(&rt, book.claim(&mut pass, ticket));
-    let other = || Held::of(8, GNo(0), Woke::First, 70);
-    assert_eq!(rt; go_refused(&rt, &mut book, &mut pass, other()).number(), 21);
-    assert_eq!(rt;
-        yield_refused(&rt, &mut book, &mut pass, other()).number(),
-        21
-    );
-    assert_eq!(rt;
-        exit_refused(&rt, &mut book, &mut pass, other()).number(),
-        21
-    );
-    let mut foreign = Pass::of(8, MNo(0), 3, 3);
-    all_refused(&rt, &mut book, &mut foreign, Refusal::WrongRun);
-    let mut beyond = Pass::of(7, MNo(1), 0, 0);
-    all_refused(&rt, &mut book, &mut beyond, Refusal::WrongRun);
-    assert_eq!(rt; pass.calls, 3);
-    (
-        foreign.open(),
-        beyond.open(),
-        pass.open(),
-        held.open(),
-        proc.open(),
-    );
+    let proc = acquires(&rt, &mut book, &mut pass);
+    let ticket = takes(&rt, &mut book, &mut pass);
+    numbered(&rt, claim_refused(&rt, &mut book, &mut pass, forged(8)), 21);
+    numbered(&rt, put_refused(&rt, &mut book, &mut pass, forged(8)), 21);
+    let held = claims(&rt, &mut book, &mut pass, ticket, Woke::First);
+    let other = (8, GNo(0), Woke::First, 70);
+    held_refused(&rt, &mut book, &mut pass, other, 21);
+    pass_refused(&rt, &mut book, (8, 0, 3, 3), Refusal::WrongRun);
+    pass_refused(&rt, &mut book, (7, 1, 0, 0), Refusal::WrongRun);
+    same(&rt, pass.calls, 3);
+    pass.open();
+    held.open();
+    proc.open();
+    drop(book);
     Ok(())
 }
 
@@ -124,21 +147,14 @@ fn another_run(rt: HostRuntime) -> Result<(), Fail> {
 #[test]
 fn out_of_turn(rt: HostRuntime) -> Result<(), Fail> {
     let (mut book, mut pass) = small(&rt, rt.alloc(), 7)?;
-    let mut ahead = Pass::of(7, MNo(0), 3, 3);
-    all_refused(&rt, &mut book, &mut ahead, Refusal::OutOfTurn(0));
-    let mut behind = Pass::of(7, MNo(0), 0, 1);
-    all_refused(&rt, &mut book, &mut behind, Refusal::Behind(0, 1));
-    assert_eq!(rt; made(&rt, book.poke(&mut pass)), None);
-    let mut old = Pass::of(7, MNo(0), 0, 0);
-    all_refused(&rt, &mut book, &mut old, Refusal::OutOfTurn(1));
-    assert_eq!(rt;
-        (
-            Refusal::OutOfTurn(1).number(),
-            Refusal::Behind(0, 1).number()
-        ),
-        (22, 23)
-    );
-    (ahead.open(), behind.open(), old.open(), pass.open());
+    pass_refused(&rt, &mut book, (7, 0, 3, 3), Refusal::OutOfTurn(0));
+    pass_refused(&rt, &mut book, (7, 0, 0, 1), Refusal::Behind(0, 1));
+    pokes(&rt, &mut book, &mut pass, None);
+    pass_refused(&rt, &mut book, (7, 0, 0, 0), Refusal::OutOfTurn(1));
+    numbered(&rt, Refusal::OutOfTurn(1), 22);
+    numbered(&rt, Refusal::Behind(0, 1), 23);
+    pass.open();
+    drop(book);
     Ok(())
 }
 
@@ -147,29 +163,19 @@ fn out_of_turn(rt: HostRuntime) -> Result<(), Fail> {
 fn spent_tickets(rt: HostRuntime) -> Result<(), Fail> {
     let (mut book, mut pass) = small(&rt, rt.alloc(), 7)?;
     let (proc, held) = begin(&rt, &mut book, &mut pass);
-    assert_eq!(rt;
-        put_refused(&rt, &mut book, &mut pass, forged(7)).number(),
-        24
-    );
-    accepted(&rt, book.yield_to(&mut pass, held));
-    let ticket = there(&rt, made(&rt, book.take(&mut pass)));
-    assert_eq!(rt; ticket.epoch, 2);
-    assert_eq!(rt;
-        claim_refused(&rt, &mut book, &mut pass, forged(7)).number(),
-        24
-    );
-    accepted(&rt, book.put(&mut pass, ticket));
+    numbered(&rt, put_refused(&rt, &mut book, &mut pass, forged(7)), 24);
+    yields(&rt, &mut book, &mut pass, held);
+    let ticket = takes(&rt, &mut book, &mut pass);
+    same(&rt, ticket.epoch, 2);
+    numbered(&rt, claim_refused(&rt, &mut book, &mut pass, forged(7)), 24);
+    puts(&rt, &mut book, &mut pass, ticket);
     let put_back = Ticket::of(7, GNo(0), 2);
-    assert_eq!(rt;
-        claim_refused(&rt, &mut book, &mut pass, put_back).number(),
-        24
-    );
+    numbered(&rt, claim_refused(&rt, &mut book, &mut pass, put_back), 24);
     let absent = Ticket::of(7, GNo(3), 1);
-    assert_eq!(rt;
-        claim_refused(&rt, &mut book, &mut pass, absent).number(),
-        24
-    );
-    (pass.open(), proc.open());
+    numbered(&rt, claim_refused(&rt, &mut book, &mut pass, absent), 24);
+    pass.open();
+    proc.open();
+    drop(book);
     Ok(())
 }
 
@@ -177,15 +183,14 @@ fn spent_tickets(rt: HostRuntime) -> Result<(), Fail> {
 fn busy_machines(rt: HostRuntime) -> Result<(), Fail> {
     let (mut book, mut pass) = small(&rt, rt.alloc(), 7)?;
     let (proc, held) = begin(&rt, &mut book, &mut pass);
-    assert_eq!(rt; why_not(&rt, book.acquire(&mut pass)).number(), 26);
-    let Went { held, push } = accepted(&rt, book.go(&mut pass, held, GNo(1)));
-    let ticket = there(&rt, push);
-    assert_eq!(rt;
-        claim_refused(&rt, &mut book, &mut pass, ticket).number(),
-        26
-    );
-    assert_eq!(rt; pass.calls, 4);
-    (pass.open(), held.open(), proc.open());
+    numbered(&rt, why_not(&rt, book.acquire(&mut pass)), 26);
+    let (held, ticket) = goes(&rt, &mut book, &mut pass, held, 1);
+    numbered(&rt, claim_refused(&rt, &mut book, &mut pass, ticket), 26);
+    same(&rt, pass.calls, 4);
+    pass.open();
+    held.open();
+    proc.open();
+    drop(book);
     Ok(())
 }
 
@@ -196,25 +201,12 @@ fn another_machines_goroutine(rt: HostRuntime) -> Result<(), Fail> {
     let (proc, held) = begin(&rt, &mut book, &mut first);
     let (run, g, woke, body) = held.open();
     for g in [g, GNo(1), GNo(3)] {
-        let held = || Held::of(run, g, woke, body);
-        assert_eq!(rt;
-            go_refused(&rt, &mut book, &mut second, held()).number(),
-            27
-        );
-        assert_eq!(rt;
-            yield_refused(&rt, &mut book, &mut second, held()).number(),
-            27
-        );
-        assert_eq!(rt;
-            exit_refused(&rt, &mut book, &mut second, held()).number(),
-            27
-        );
+        held_refused(&rt, &mut book, &mut second, (run, g, woke, body), 27);
     }
-    assert_eq!(rt;
-        (first.open(), second.open()),
-        ((7, MNo(0), 3, 3), (7, MNo(1), 0, 0))
-    );
+    same(&rt, first.open(), (7, MNo(0), 3, 3));
+    same(&rt, second.open(), (7, MNo(1), 0, 0));
     proc.open();
+    drop(book);
     Ok(())
 }
 
@@ -223,41 +215,54 @@ fn another_machines_goroutine(rt: HostRuntime) -> Result<(), Fail> {
 fn after_the_end(rt: HostRuntime) -> Result<(), Fail> {
     let (mut book, mut first, mut second) = pair(&rt, rt.alloc(), 2)?;
     let (proc, held) = begin(&rt, &mut book, &mut first);
-    let other = there(&rt, made(&rt, book.acquire(&mut second)));
-    let Went { held, push } = accepted(&rt, book.go(&mut first, held, GNo(1)));
-    let ticket = there(&rt, push);
-    let running = accepted(&rt, book.claim(&mut second, ticket));
-    accepted(&rt, book.exit(&mut first, held));
-    assert_eq!(rt; why_not(&rt, book.take(&mut first)).number(), 20);
+    let other = acquires(&rt, &mut book, &mut second);
+    let (held, ticket) = goes(&rt, &mut book, &mut first, held, 1);
+    let running = claims(&rt, &mut book, &mut second, ticket, Woke::First);
+    ends(&rt, &mut book, &mut first, held);
+    numbered(&rt, why_not(&rt, book.take(&mut first)), 20);
     all_refused(&rt, &mut book, &mut first, Refusal::Over);
-    (first.open(), second.open());
-    let (why, book) = refused(&rt, book.into_report());
-    assert_eq!(rt; why.number(), 26);
-    let mut book = book;
-    accepted(&rt, book.surrender_proc(proc));
-    accepted(&rt, book.surrender_proc(other));
-    let (why, book) = refused(&rt, book.into_report());
-    assert_eq!(rt; why.number(), 26);
-    let mut book = book;
-    accepted(&rt, book.surrender_held(running));
-    let report = accepted(&rt, book.into_report());
-    assert_eq!(rt; report.outcome, Outcome::MainEnded);
-    assert_eq!(rt; report.bodies.as_slice(), [70, 71, 72].as_slice());
+    first.open();
+    second.open();
+    let mut book = unreported(&rt, book, 26);
+    gives_back(&rt, &mut book, proc);
+    gives_back(&rt, &mut book, other);
+    let mut book = unreported(&rt, book, 26);
+    gives_back_held(&rt, &mut book, running);
+    let report = reported(&rt, rt.alloc(), book);
+    same(&rt, report.outcome, Outcome::MainEnded);
+    lists(&rt, &report.bodies, &[70, 71, 72]);
+    drop(report);
     Ok(())
 }
 
-/// A goroutine, a ticket and a processor of this run, each forged: why their surrender is refused.
-fn surrendered(rt: &impl Abort, book: &mut Desk, run: u64) -> (u8, u8, u8) {
-    let (held, back) = refused(
-        rt,
-        book.surrender_held(Held::of(run, GNo(1), Woke::Late, 99)),
-    );
-    assert_eq!(rt; back.open(), (run, GNo(1), Woke::Late, 99));
-    let (ticket, back) = refused(rt, book.surrender_ticket(Ticket::of(run, GNo(1), 5)));
-    assert_eq!(rt; back.open(), (run, GNo(1), 5));
-    let (proc, back) = refused(rt, book.surrender_proc(Proc::of(run, PNo(0), 99)));
-    assert_eq!(rt; back.open(), (run, PNo(0), 99));
-    (held.number(), ticket.number(), proc.number())
+/// A goroutine of this run, forged: why its surrender is refused.
+fn held_surrendered(rt: &impl Abort, book: &mut Desk, run: u64) -> u8 {
+    let held = Held::of(run, GNo(1), Woke::Late, 99);
+    let (why, back) = refused(rt, book.surrender_held(held));
+    same(rt, back.open(), (run, GNo(1), Woke::Late, 99));
+    why.number()
+}
+
+/// The same of a ticket.
+fn ticket_surrendered(rt: &impl Abort, book: &mut Desk, run: u64) -> u8 {
+    let (why, back) = refused(rt, book.surrender_ticket(Ticket::of(run, GNo(1), 5)));
+    same(rt, back.open(), (run, GNo(1), 5));
+    why.number()
+}
+
+/// The same of a processor.
+fn proc_surrendered(rt: &impl Abort, book: &mut Desk, run: u64) -> u8 {
+    let (why, back) = refused(rt, book.surrender_proc(Proc::of(run, PNo(0), 99)));
+    same(rt, back.open(), (run, PNo(0), 99));
+    why.number()
+}
+
+/// That the surrenders of this run are refused with these numbers.
+fn surrendered(rt: &impl Abort, book: &mut Desk, run: u64, want: (u8, u8, u8)) {
+    let held = held_surrendered(rt, book, run);
+    let ticket = ticket_surrendered(rt, book, run);
+    let proc = proc_surrendered(rt, book, run);
+    same(rt, (held, ticket, proc), want);
 }
 
 // Surrenders before the end, of another run, and of what isn't out.
@@ -265,15 +270,16 @@ fn surrendered(rt: &impl Abort, book: &mut Desk, run: u64) -> (u8, u8, u8) {
 fn surrenders(rt: HostRuntime) -> Result<(), Fail> {
     let (mut book, mut pass) = small(&rt, rt.alloc(), 7)?;
     let (proc, held) = begin(&rt, &mut book, &mut pass);
-    assert_eq!(rt; surrendered(&rt, &mut book, 7), (30, 30, 30));
-    assert_eq!(rt; surrendered(&rt, &mut book, 8), (21, 21, 21));
-    accepted(&rt, book.exit(&mut pass, held));
-    accepted(&rt, book.surrender_proc(proc));
-    assert_eq!(rt; surrendered(&rt, &mut book, 7), (27, 24, 27));
-    assert_eq!(rt; surrendered(&rt, &mut book, 8), (21, 21, 21));
+    surrendered(&rt, &mut book, 7, (30, 30, 30));
+    surrendered(&rt, &mut book, 8, (21, 21, 21));
+    ends(&rt, &mut book, &mut pass, held);
+    gives_back(&rt, &mut book, proc);
+    surrendered(&rt, &mut book, 7, (27, 24, 27));
+    surrendered(&rt, &mut book, 8, (21, 21, 21));
     pass.open();
-    let report = accepted(&rt, book.into_report());
-    assert_eq!(rt; report.bodies.as_slice(), [70, 71, 72].as_slice());
-    assert_eq!(rt; report.owners.as_slice(), [80].as_slice());
+    let report = reported(&rt, rt.alloc(), book);
+    lists(&rt, &report.bodies, &[70, 71, 72]);
+    lists(&rt, &report.owners, &[80]);
+    drop(report);
     Ok(())
 }

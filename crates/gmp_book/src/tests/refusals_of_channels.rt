@@ -1,5 +1,6 @@
 //! Each refusal of the calls on channels, of `declare` and of `park`, and that nothing has changed then.
-use super::answers::{at, ends, starts};
+use super::answers::{at, ends};
+use super::calls::{acquires, declares, gives_back_ticket, goes, is_over};
 use super::*;
 
 /// The calls that a running goroutine makes on channels.
@@ -41,25 +42,56 @@ fn asks(
     }
 }
 
-/// That each call of this goroutine is refused so, and changes nothing.
+/// What a refusal leaves as it was.
+fn marks(book: &Desk, pass: &Pass) -> (u64, MNo, u64, u64, usize) {
+    let length = book.history().len();
+    (pass.run, pass.m, pass.calls, pass.seen, length)
+}
+
+/// That this call of this goroutine is refused so, and changes nothing.
+fn call_refused(
+    rt: &impl Abort,
+    alloc: Global,
+    book: &mut Desk,
+    pass: &mut Pass,
+    (run, g): (u64, u16),
+    asked: Asked,
+    want: Refusal,
+) {
+    let before = marks(book, pass);
+    let held = Held::of(run, GNo(g), Woke::Late, 99);
+    let (why, back) = asks(rt, alloc, book, pass, held, asked);
+    assert_eq!(rt; why, want, "{asked:?}");
+    same(rt, back.open(), (run, GNo(g), Woke::Late, 99));
+    same(rt, marks(book, pass), before);
+}
+
+/// The same of each call of this goroutine.
 fn held_refused(
     rt: &impl Abort,
     alloc: Global,
     book: &mut Desk,
     pass: &mut Pass,
-    run: u64,
-    g: u16,
+    held: (u64, u16),
     want: Refusal,
 ) {
-    let before = (pass.run, pass.m, pass.calls, pass.seen);
-    let length = book.history().len();
     for asked in ALL {
-        let held = Held::of(run, GNo(g), Woke::Late, 99);
-        let (why, back) = asks(rt, alloc, book, pass, held, asked);
-        assert_eq!(rt; why, want, "{asked:?}");
-        assert_eq!(rt; back.open(), (run, GNo(g), Woke::Late, 99));
-        assert_eq!(rt; (pass.run, pass.m, pass.calls, pass.seen), before);
-        assert_eq!(rt; book.history().len(), length);
+        call_refused(rt, alloc, book, pass, held, asked, want);
+    }
+}
+
+/// The same of each of these goroutines.
+fn all_held_refused(
+    rt: &impl Abort,
+    alloc: Global,
+    book: &mut Desk,
+    pass: &mut Pass,
+    run: u64,
+    goroutines: &[u16],
+    want: Refusal,
+) {
+    for g in goroutines {
+        held_refused(rt, alloc, book, pass, (run, *g), want);
     }
 }
 
@@ -72,33 +104,51 @@ fn declare_refused(
     p: u8,
     want: Refusal,
 ) {
-    let before = (pass.run, pass.m, pass.calls, pass.seen);
-    let length = book.history().len();
+    let before = marks(book, pass);
     let (why, back) = refused(rt, book.declare(pass, Proc::of(run, PNo(p), 99)));
-    assert_eq!(rt; why, want);
-    assert_eq!(rt; back.open(), (run, PNo(p), 99));
-    assert_eq!(rt; (pass.run, pass.m, pass.calls, pass.seen), before);
-    assert_eq!(rt; book.history().len(), length);
+    same(rt, why, want);
+    same(rt, back.open(), (run, PNo(p), 99));
+    same(rt, marks(book, pass), before);
+}
+
+/// The same of each of these processors of run 7.
+fn all_declare_refused(
+    rt: &impl Abort,
+    book: &mut Desk,
+    pass: &mut Pass,
+    processors: &[u8],
+    want: Refusal,
+) {
+    for p in processors {
+        declare_refused(rt, book, pass, 7, *p, want);
+    }
 }
 
 /// The same of `park`.
 fn park_refused(rt: &impl Abort, book: &mut Desk, pass: &mut Pass, want: Refusal) {
-    let before = (pass.run, pass.m, pass.calls, pass.seen);
-    let length = book.history().len();
-    assert_eq!(rt; why_not(rt, book.park(pass)), want);
-    assert_eq!(rt; (pass.run, pass.m, pass.calls, pass.seen), before);
-    assert_eq!(rt; book.history().len(), length);
+    let before = marks(book, pass);
+    same(rt, why_not(rt, book.park(pass)), want);
+    same(rt, marks(book, pass), before);
 }
 
 /// That all of them are refused so, whatever they are handed of run 7.
 fn all_refused(rt: &impl Abort, alloc: Global, book: &mut Desk, pass: &mut Pass, want: Refusal) {
-    for g in [0, 1, 9] {
-        held_refused(rt, alloc, book, pass, 7, g, want);
-    }
-    for p in [0, 1, 255] {
-        declare_refused(rt, book, pass, 7, p, want);
-    }
+    all_held_refused(rt, alloc, book, pass, 7, &[0, 1, 9], want);
+    all_declare_refused(rt, book, pass, &[0, 1, 255], want);
     park_refused(rt, book, pass, want);
+}
+
+/// The same of a pass with these marks.
+fn pass_refused(
+    rt: &impl Abort,
+    alloc: Global,
+    book: &mut Desk,
+    (run, m, calls, seen): (u64, u8, u64, u64),
+    want: Refusal,
+) {
+    let mut pass = Pass::of(run, MNo(m), calls, seen);
+    all_refused(rt, alloc, book, &mut pass, want);
+    pass.open();
 }
 
 // Passes of another run, of a machine that there is none of, of another turn, and of one that has seen more than there is.
@@ -107,21 +157,32 @@ fn by_the_pass(rt: HostRuntime) -> Result<(), Fail> {
     let alloc = rt.alloc();
     let (mut book, mut pass) = small(&rt, alloc, 7)?;
     let (proc, held) = begin(&rt, &mut book, &mut pass);
-    for (run, m, calls, seen, want) in [
-        (8, 0, 3, 3, Refusal::WrongRun),
-        (7, 1, 0, 0, Refusal::WrongRun),
-        (8, 0, 0, 9, Refusal::WrongRun),
-        (7, 0, 2, 3, Refusal::OutOfTurn(3)),
-        (7, 0, 4, 9, Refusal::OutOfTurn(3)),
-        (7, 0, 3, 4, Refusal::Behind(3, 4)),
-    ] {
-        let mut other = Pass::of(run, MNo(m), calls, seen);
-        all_refused(&rt, alloc, &mut book, &mut other, want);
-        other.open();
-    }
+    by_these_passes(&rt, alloc, &mut book);
     ends(&rt, &mut book, &mut pass, held);
-    report_of(&rt, alloc, book, pass, proc);
+    is_over(&rt, alloc, book, pass, proc);
     Ok(())
+}
+
+fn by_these_passes(rt: &impl Abort, alloc: Global, book: &mut Desk) {
+    for (marks, want) in [
+        ((8, 0, 3, 3), Refusal::WrongRun),
+        ((7, 1, 0, 0), Refusal::WrongRun),
+        ((8, 0, 0, 9), Refusal::WrongRun),
+        ((7, 0, 2, 3), Refusal::OutOfTurn(3)),
+        ((7, 0, 4, 9), Refusal::OutOfTurn(3)),
+        ((7, 0, 3, 4), Refusal::Behind(3, 4)),
+    ] {
+        pass_refused(rt, alloc, book, marks, want);
+    }
+}
+
+/// That values of another run are refused by a pass of run 7 with these marks.
+fn values_refused(rt: &impl Abort, alloc: Global, book: &mut Desk, calls: u64, seen: u64) {
+    let mut pass = Pass::of(7, MNo(0), calls, seen);
+    let want = Refusal::WrongRun;
+    all_held_refused(rt, alloc, book, &mut pass, 8, &[0, 1, 9], want);
+    declare_refused(rt, book, &mut pass, 8, 0, want);
+    pass.open();
 }
 
 // Values of another run, whatever else holds.
@@ -131,16 +192,10 @@ fn by_the_run(rt: HostRuntime) -> Result<(), Fail> {
     let (mut book, mut pass) = small(&rt, alloc, 7)?;
     let (proc, held) = begin(&rt, &mut book, &mut pass);
     for (calls, seen) in [(3, 3), (2, 3), (3, 4)] {
-        let mut other = Pass::of(7, MNo(0), calls, seen);
-        for g in [0, 1, 9] {
-            let want = Refusal::WrongRun;
-            held_refused(&rt, alloc, &mut book, &mut other, 8, g, want);
-        }
-        declare_refused(&rt, &mut book, &mut other, 8, 0, Refusal::WrongRun);
-        other.open();
+        values_refused(&rt, alloc, &mut book, calls, seen);
     }
     ends(&rt, &mut book, &mut pass, held);
-    report_of(&rt, alloc, book, pass, proc);
+    is_over(&rt, alloc, book, pass, proc);
     Ok(())
 }
 
@@ -152,7 +207,7 @@ fn by_the_end(rt: HostRuntime) -> Result<(), Fail> {
     let (proc, held) = begin(&rt, &mut book, &mut pass);
     ends(&rt, &mut book, &mut pass, held);
     all_refused(&rt, alloc, &mut book, &mut pass, Refusal::Over);
-    report_of(&rt, alloc, book, pass, proc);
+    is_over(&rt, alloc, book, pass, proc);
     Ok(())
 }
 
@@ -162,19 +217,17 @@ fn by_another_machine(rt: HostRuntime) -> Result<(), Fail> {
     let alloc = rt.alloc();
     let (mut book, mut first, mut second) = pair(&rt, alloc, 2)?;
     let want = Refusal::NotHeld;
-    held_refused(&rt, alloc, &mut book, &mut first, 7, 0, want);
+    held_refused(&rt, alloc, &mut book, &mut first, (7, 0), want);
     let (proc, held) = begin(&rt, &mut book, &mut first);
-    let (held, ticket) = starts(&rt, book.go(&mut first, held, GNo(1)), 1);
-    for g in [0, 1, 2, 3, 65535] {
-        held_refused(&rt, alloc, &mut book, &mut second, 7, g, want);
-    }
-    for g in [1, 2, 3] {
-        held_refused(&rt, alloc, &mut book, &mut first, 7, g, want);
-    }
+    let (held, ticket) = goes(&rt, &mut book, &mut first, held, 1);
+    let all = [0, 1, 2, 3, 65535];
+    all_held_refused(&rt, alloc, &mut book, &mut second, 7, &all, want);
+    let others = [1, 2, 3];
+    all_held_refused(&rt, alloc, &mut book, &mut first, 7, &others, want);
     ends(&rt, &mut book, &mut first, held);
-    accepted(&rt, book.surrender_ticket(ticket));
+    gives_back_ticket(&rt, &mut book, ticket);
     second.open();
-    report_of(&rt, alloc, book, first, proc);
+    is_over(&rt, alloc, book, first, proc);
     Ok(())
 }
 
@@ -183,25 +236,23 @@ fn by_another_machine(rt: HostRuntime) -> Result<(), Fail> {
 fn by_the_processor(rt: HostRuntime) -> Result<(), Fail> {
     let alloc = rt.alloc();
     let (mut book, mut first, mut second) = pair(&rt, alloc, 2)?;
-    for p in [0, 1, 2, 255] {
-        declare_refused(&rt, &mut book, &mut first, 7, p, Refusal::NotHeld);
-    }
-    let proc = there(&rt, made(&rt, book.acquire(&mut first)));
+    all_declare_refused(
+        &rt,
+        &mut book,
+        &mut first,
+        &[0, 1, 2, 255],
+        Refusal::NotHeld,
+    );
+    let proc = acquires(&rt, &mut book, &mut first);
     park_refused(&rt, &mut book, &mut first, Refusal::Busy);
-    for p in [1, 2] {
-        declare_refused(&rt, &mut book, &mut first, 7, p, Refusal::NotHeld);
-    }
-    for p in [0, 1, 2] {
-        declare_refused(&rt, &mut book, &mut second, 7, p, Refusal::NotHeld);
-    }
+    all_declare_refused(&rt, &mut book, &mut first, &[1, 2], Refusal::NotHeld);
+    all_declare_refused(&rt, &mut book, &mut second, &[0, 1, 2], Refusal::NotHeld);
     let held = next(&rt, &mut book, &mut first);
     park_refused(&rt, &mut book, &mut first, Refusal::Busy);
-    for p in [0, 1, 2] {
-        declare_refused(&rt, &mut book, &mut first, 7, p, Refusal::Busy);
-    }
+    all_declare_refused(&rt, &mut book, &mut first, &[0, 1, 2], Refusal::Busy);
     ends(&rt, &mut book, &mut first, held);
     second.open();
-    report_of(&rt, alloc, book, first, proc);
+    is_over(&rt, alloc, book, first, proc);
     Ok(())
 }
 
@@ -210,11 +261,11 @@ fn by_the_processor(rt: HostRuntime) -> Result<(), Fail> {
 fn declared_twice(rt: HostRuntime) -> Result<(), Fail> {
     let alloc = rt.alloc();
     let (mut book, mut pass) = small(&rt, alloc, 7)?;
-    let proc = there(&rt, made(&rt, book.acquire(&mut pass)));
-    accepted(&rt, book.declare(&mut pass, proc));
+    let proc = acquires(&rt, &mut book, &mut pass);
+    declares(&rt, &mut book, &mut pass, proc);
     declare_refused(&rt, &mut book, &mut pass, 7, 0, Refusal::NotHeld);
     let (proc, held) = begin(&rt, &mut book, &mut pass);
     ends(&rt, &mut book, &mut pass, held);
-    report_of(&rt, alloc, book, pass, proc);
+    is_over(&rt, alloc, book, pass, proc);
     Ok(())
 }

@@ -1,8 +1,52 @@
 //! Runs of one machine with channels, entry by entry.
-use super::answers::{
-    at, claims, closes, ends, finds_none, moves, on, resumes, serves, starts, waits,
+use super::answers::{at, claims, ends, finds_none, moves, resumes};
+use super::calls::{
+    cap_is, declares, dies, gives_back_ticket, goes, history_ends, history_is, len_is, makes,
+    parks, pokes, receives, recv_serves, recv_waits, reported, send_waits, sends, shuts,
+    unreported, yields,
 };
 use super::*;
+
+/// Main makes the one channel that it may, and asks for its numbers.
+fn makes_one(
+    rt: &impl Abort,
+    alloc: Global,
+    book: &mut Desk,
+    pass: &mut Pass,
+    held: Held<u32>,
+) -> Held<u32> {
+    let held = makes(rt, alloc, book, pass, held, 2, Woke::Made(CNo(0)));
+    let large = Woke::Fault(Fault::BadCapacity);
+    let held = makes(rt, alloc, book, pass, held, 4097, large);
+    let many = Woke::Fault(Fault::TooManyChannels);
+    let held = makes(rt, alloc, book, pass, held, 0, many);
+    let held = len_is(rt, book, pass, held, None, Woke::Number(0));
+    cap_is(rt, book, pass, held, at(0), Woke::Number(2))
+}
+
+/// A send is told this fault.
+fn send_faults(
+    rt: &impl Abort,
+    book: &mut Desk,
+    pass: &mut Pass,
+    held: Held<u32>,
+    c: u16,
+    fault: Fault,
+) -> Held<u32> {
+    moves(rt, book.send(pass, held, at(c), 5), Woke::Fault(fault))
+}
+
+/// Main closes it, and sends and receives all the same.
+fn closes_it(rt: &impl Abort, book: &mut Desk, pass: &mut Pass, held: Held<u32>) -> Held<u32> {
+    let held = send_faults(rt, book, pass, held, 1, Fault::NoSuchChannel);
+    let nil = Woke::Fault(Fault::CloseOfNil);
+    let held = shuts(rt, book, pass, held, None, nil, 0);
+    let held = shuts(rt, book, pass, held, at(0), Woke::Done, 0);
+    let again = Woke::Fault(Fault::CloseOfClosed);
+    let held = shuts(rt, book, pass, held, at(0), again, 0);
+    let held = send_faults(rt, book, pass, held, 0, Fault::SendOnClosed);
+    receives(rt, book, pass, held, 0, Woke::Got(0, false))
+}
 
 // Channels are made up to the limit, told of and closed.
 #[test]
@@ -14,37 +58,12 @@ fn up_to_the_limit(rt: HostRuntime) -> Result<(), Fail> {
     };
     let (mut book, mut pass) = desk(&rt, alloc, limits, &[], 1)?;
     let (proc, held) = begin(&rt, &mut book, &mut pass);
-    let held = on(
-        &rt,
-        book.make(alloc, &mut pass, held, 2),
-        Woke::Made(CNo(0)),
-    );
-    let held = on(
-        &rt,
-        book.make(alloc, &mut pass, held, 4097),
-        Woke::Fault(Fault::BadCapacity),
-    );
-    let held = on(
-        &rt,
-        book.make(alloc, &mut pass, held, 0),
-        Woke::Fault(Fault::TooManyChannels),
-    );
-    let held = on(&rt, book.len(&mut pass, held, None), Woke::Number(0));
-    let held = on(&rt, book.cap(&mut pass, held, at(0)), Woke::Number(2));
-    let missing = Woke::Fault(Fault::NoSuchChannel);
-    let held = moves(&rt, book.send(&mut pass, held, at(1), 5), missing);
-    let nil = Woke::Fault(Fault::CloseOfNil);
-    let held = closes(&rt, book.close(&mut pass, held, None), nil, 0);
-    let held = closes(&rt, book.close(&mut pass, held, at(0)), Woke::Done, 0);
-    let again = Woke::Fault(Fault::CloseOfClosed);
-    let held = closes(&rt, book.close(&mut pass, held, at(0)), again, 0);
-    let closed = Woke::Fault(Fault::SendOnClosed);
-    let held = moves(&rt, book.send(&mut pass, held, at(0), 5), closed);
-    let held = moves(&rt, book.recv(&mut pass, held, at(0)), Woke::Got(0, false));
+    let held = makes_one(&rt, alloc, &mut book, &mut pass, held);
+    let held = closes_it(&rt, &mut book, &mut pass, held);
     ends(&rt, &mut book, &mut pass, held);
     let report = report_of(&rt, alloc, book, pass, proc);
-    assert_eq!(rt; report.bodies.as_slice(), [70].as_slice());
-    let want = [
+    lists(&rt, &report.bodies, &[70]);
+    let want = &[
         "0.0 Acquire -> Proc(PNo(0))",
         "0.1 Take -> Ticket(Readiness { g: GNo(0), epoch: 1 })",
         "0.2 Claim(Readiness { g: GNo(0), epoch: 1 }) -> Held",
@@ -61,41 +80,45 @@ fn up_to_the_limit(rt: HostRuntime) -> Result<(), Fail> {
         "0.13 Recv(Some(CNo(0))) -> Got(0, false, None)",
         "0.14 Exit -> MainEnded",
     ];
-    is_told(&rt, alloc, &report.history, &want)
+    history_is(&rt, alloc, report, want)
 }
 
-// Main receives, nobody sends, and all are asleep.
+/// Main receives, nobody sends, and all are asleep.
+fn falls_asleep(rt: &impl Abort, book: Desk, pass: Pass) -> Desk {
+    let (mut book, mut pass) = (book, pass);
+    let (proc, held) = begin(rt, &mut book, &mut pass);
+    recv_waits(rt, &mut book, &mut pass, held, at(0));
+    finds_none(rt, &mut book, &mut pass);
+    declares(rt, &mut book, &mut pass, proc);
+    same(rt, book.outcome(), None);
+    let mut book = unreported(rt, book, 30);
+    parks(rt, &mut book, &mut pass, Parking::AllAsleep);
+    same(rt, book.outcome(), Some(Outcome::AllAsleep));
+    same(rt, pass.open(), (7, MNo(0), 7, 7));
+    book
+}
+
+/// That nothing is taken back, since nothing is out.
+fn nothing_is_out(rt: &impl Abort, book: &mut Desk) {
+    let (why, back) = refused(rt, book.surrender_proc(Proc::of(7, PNo(0), 99)));
+    same(rt, (why.number(), back.open()), (27, (7, PNo(0), 99)));
+    let held = Held::of(7, GNo(0), Woke::Done, 99);
+    let (why, back) = refused(rt, book.surrender_held(held));
+    let given = (7, GNo(0), Woke::Done, 99);
+    same(rt, (why.number(), back.open()), (27, given));
+}
+
 #[test]
 fn all_asleep(rt: HostRuntime) -> Result<(), Fail> {
     let alloc = rt.alloc();
-    let (mut book, mut pass) = desk(&rt, alloc, LONE, &[0], 1)?;
-    let (proc, held) = begin(&rt, &mut book, &mut pass);
-    waits(&rt, book.recv(&mut pass, held, at(0)));
-    finds_none(&rt, &mut book, &mut pass);
-    accepted(&rt, book.declare(&mut pass, proc));
-    assert_eq!(rt; book.outcome(), None);
-    let (why, mut book) = refused(&rt, book.into_report());
-    assert_eq!(rt; why.number(), 30);
-    assert_eq!(rt; made(&rt, book.park(&mut pass)), Parking::AllAsleep);
-    assert_eq!(rt; book.outcome(), Some(Outcome::AllAsleep));
-    assert_eq!(rt; pass.open(), (7, MNo(0), 7, 7));
-    // Nothing is out, so that nothing is taken back.
-    let (why, back) = refused(&rt, book.surrender_proc(Proc::of(7, PNo(0), 99)));
-    assert_eq!(rt; (why.number(), back.open()), (27, (7, PNo(0), 99)));
-    let (why, back) = refused(
-        &rt,
-        book.surrender_held(Held::of(7, GNo(0), Woke::Done, 99)),
-    );
-    assert_eq!(rt;
-        (why.number(), back.open()),
-        (27, (7, GNo(0), Woke::Done, 99))
-    );
-    let report = accepted(&rt, book.into_report());
-    is_true(&rt, alloc, &report);
-    assert_eq!(rt; report.outcome, Outcome::AllAsleep);
-    assert_eq!(rt; report.bodies.as_slice(), [70].as_slice());
-    assert_eq!(rt; report.owners.as_slice(), [80].as_slice());
-    let want = [
+    let (book, pass) = desk(&rt, alloc, LONE, &[0], 1)?;
+    let mut book = falls_asleep(&rt, book, pass);
+    nothing_is_out(&rt, &mut book);
+    let report = reported(&rt, alloc, book);
+    same(&rt, report.outcome, Outcome::AllAsleep);
+    lists(&rt, &report.bodies, &[70]);
+    lists(&rt, &report.owners, &[80]);
+    let want = &[
         "0.0 Acquire -> Proc(PNo(0))",
         "0.1 Take -> Ticket(Readiness { g: GNo(0), epoch: 1 })",
         "0.2 Claim(Readiness { g: GNo(0), epoch: 1 }) -> Held",
@@ -104,17 +127,17 @@ fn all_asleep(rt: HostRuntime) -> Result<(), Fail> {
         "0.5 Declare -> Idle(PNo(0))",
         "0.6 Park -> AllAsleep",
     ];
-    is_told(&rt, alloc, &report.history, &want)
+    history_is(&rt, alloc, report, want)
 }
 
 /// Main starts the other body and yields, and that is claimed.
 fn other_begins(rt: &impl Abort, book: &mut Desk, pass: &mut Pass) -> (Proc<u32>, Held<u32>) {
     let (proc, held) = begin(rt, book, pass);
-    let (held, ticket) = starts(rt, book.go(pass, held, GNo(1)), 1);
-    assert_eq!(rt; made(rt, book.poke(pass)), None);
-    accepted(rt, book.yield_to(pass, held));
+    let (held, ticket) = goes(rt, book, pass, held, 1);
+    pokes(rt, book, pass, None);
+    yields(rt, book, pass, held);
     let held = claims(rt, book, pass, ticket, Woke::First);
-    assert_eq!(rt; parts(&held), (7, GNo(1), Woke::First, 71));
+    same(rt, parts(&held), (7, GNo(1), Woke::First, 71));
     (proc, held)
 }
 
@@ -124,20 +147,20 @@ fn two_places(rt: HostRuntime) -> Result<(), Fail> {
     let alloc = rt.alloc();
     let (mut book, mut pass) = desk(&rt, alloc, LONE, &[2], 2)?;
     let (proc, held) = other_begins(&rt, &mut book, &mut pass);
-    let held = moves(&rt, book.send(&mut pass, held, at(0), 1), Woke::Done);
-    let held = moves(&rt, book.send(&mut pass, held, at(0), 2), Woke::Done);
-    waits(&rt, book.send(&mut pass, held, at(0), 3));
+    let held = sends(&rt, &mut book, &mut pass, held, 0, 1);
+    let held = sends(&rt, &mut book, &mut pass, held, 0, 2);
+    send_waits(&rt, &mut book, &mut pass, held, at(0), 3);
     let held = resumes(&rt, &mut book, &mut pass, 0, 2, Woke::Done);
     let got = Woke::Got(1, true);
-    let (held, ticket) = serves(&rt, book.recv(&mut pass, held, at(0)), got, 1, 2);
-    assert_eq!(rt; made(&rt, book.poke(&mut pass)), None);
-    let held = moves(&rt, book.recv(&mut pass, held, at(0)), Woke::Got(2, true));
-    let held = moves(&rt, book.recv(&mut pass, held, at(0)), Woke::Got(3, true));
+    let (held, ticket) = recv_serves(&rt, &mut book, &mut pass, held, got, (1, 2));
+    pokes(&rt, &mut book, &mut pass, None);
+    let held = receives(&rt, &mut book, &mut pass, held, 0, Woke::Got(2, true));
+    let held = receives(&rt, &mut book, &mut pass, held, 0, Woke::Got(3, true));
     ends(&rt, &mut book, &mut pass, held);
-    accepted(&rt, book.surrender_ticket(ticket));
+    gives_back_ticket(&rt, &mut book, ticket);
     let report = report_of(&rt, alloc, book, pass, proc);
-    assert_eq!(rt; report.bodies.as_slice(), [70, 71].as_slice());
-    let want = [
+    lists(&rt, &report.bodies, &[70, 71]);
+    let want = &[
         "0.0 Acquire -> Proc(PNo(0))",
         "0.1 Take -> Ticket(Readiness { g: GNo(0), epoch: 1 })",
         "0.2 Claim(Readiness { g: GNo(0), epoch: 1 }) -> Held",
@@ -156,7 +179,7 @@ fn two_places(rt: HostRuntime) -> Result<(), Fail> {
         "0.15 Recv(Some(CNo(0))) -> Got(3, true, None)",
         "0.16 Exit -> MainEnded",
     ];
-    is_told(&rt, alloc, &report.history, &want)
+    history_is(&rt, alloc, report, want)
 }
 
 /// The other body sends twice into one place, and waits; main closes the channel, and receives twice.
@@ -166,13 +189,13 @@ fn closed_while_sending(
     pass: &mut Pass,
 ) -> (Proc<u32>, Held<u32>) {
     let (proc, held) = other_begins(rt, book, pass);
-    let held = moves(rt, book.send(pass, held, at(0), 5), Woke::Done);
-    waits(rt, book.send(pass, held, at(0), 6));
+    let held = sends(rt, book, pass, held, 0, 5);
+    send_waits(rt, book, pass, held, at(0), 6);
     let held = resumes(rt, book, pass, 0, 2, Woke::Done);
-    let held = closes(rt, book.close(pass, held, at(0)), Woke::Done, 1);
-    assert_eq!(rt; made(rt, book.poke(pass)), None);
-    let held = moves(rt, book.recv(pass, held, at(0)), Woke::Got(5, true));
-    let held = moves(rt, book.recv(pass, held, at(0)), Woke::Got(0, false));
+    let held = shuts(rt, book, pass, held, at(0), Woke::Done, 1);
+    pokes(rt, book, pass, None);
+    let held = receives(rt, book, pass, held, 0, Woke::Got(5, true));
+    let held = receives(rt, book, pass, held, 0, Woke::Got(0, false));
     (proc, held)
 }
 
@@ -194,6 +217,20 @@ const CLOSED: [&str; 15] = [
     "0.14 Recv(Some(CNo(0))) -> Got(0, false, None)",
 ];
 
+/// The report has so many entries, those of `CLOSED` and then these.
+fn closed_and_then(
+    rt: &impl Abort,
+    alloc: Global,
+    report: Report<u32, u32>,
+    count: usize,
+    last: &[&str],
+) -> Result<(), Fail> {
+    same(rt, report.history.len(), count);
+    assert!(rt; report.history.len() >= 15);
+    is_told(rt, alloc, &report.history[..15], &CLOSED)?;
+    history_ends(rt, alloc, report, last)
+}
+
 // A close readies the sender that waits; what was sent before is received.
 #[test]
 fn closed_while_one_sends(rt: HostRuntime) -> Result<(), Fail> {
@@ -202,10 +239,8 @@ fn closed_while_one_sends(rt: HostRuntime) -> Result<(), Fail> {
     let (proc, held) = closed_while_sending(&rt, &mut book, &mut pass);
     ends(&rt, &mut book, &mut pass, held);
     let report = report_of(&rt, alloc, book, pass, proc);
-    assert_eq!(rt; report.bodies.as_slice(), [70, 71].as_slice());
-    assert_eq!(rt; report.history.len(), 16);
-    is_told(&rt, alloc, &report.history[..15], &CLOSED)?;
-    ends_with(&rt, alloc, &report.history, &["0.15 Exit -> MainEnded"])
+    lists(&rt, &report.bodies, &[70, 71]);
+    closed_and_then(&rt, alloc, report, 16, &["0.15 Exit -> MainEnded"])
 }
 
 // And the sender that waited stands on the shelf with the fault.
@@ -214,17 +249,15 @@ fn told_of_the_close(rt: HostRuntime) -> Result<(), Fail> {
     let alloc = rt.alloc();
     let (mut book, mut pass) = desk(&rt, alloc, LONE, &[1], 2)?;
     let (proc, held) = closed_while_sending(&rt, &mut book, &mut pass);
-    accepted(&rt, book.yield_to(&mut pass, held));
+    yields(&rt, &mut book, &mut pass, held);
     let closed = Woke::Fault(Fault::SendOnClosed);
     let held = resumes(&rt, &mut book, &mut pass, 1, 2, closed);
-    assert_eq!(rt; parts(&held), (7, GNo(1), closed, 71));
-    assert_eq!(rt; accepted(&rt, book.exit(&mut pass, held)), Exited::Dead);
+    same(&rt, parts(&held), (7, GNo(1), closed, 71));
+    dies(&rt, &mut book, &mut pass, held);
     let held = resumes(&rt, &mut book, &mut pass, 0, 3, Woke::Done);
     ends(&rt, &mut book, &mut pass, held);
     let report = report_of(&rt, alloc, book, pass, proc);
-    assert_eq!(rt; report.history.len(), 22);
-    is_told(&rt, alloc, &report.history[..15], &CLOSED)?;
-    let last = [
+    let last = &[
         "0.15 Yield -> Shelved(Readiness { g: GNo(0), epoch: 3 })",
         "0.16 Take -> Ticket(Readiness { g: GNo(1), epoch: 2 })",
         "0.17 Claim(Readiness { g: GNo(1), epoch: 2 }) -> Held",
@@ -233,5 +266,5 @@ fn told_of_the_close(rt: HostRuntime) -> Result<(), Fail> {
         "0.20 Claim(Readiness { g: GNo(0), epoch: 3 }) -> Held",
         "0.21 Exit -> MainEnded",
     ];
-    ends_with(&rt, alloc, &report.history, &last)
+    closed_and_then(&rt, alloc, report, 22, last)
 }

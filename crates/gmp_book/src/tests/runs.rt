@@ -1,61 +1,54 @@
 //! Whole runs.
+use super::answers::{claims, ends, resumes};
+use super::calls::{
+    acquires, acquires_none, dies, gives_back, gives_back_held, gives_back_ticket, goes,
+    history_ends, pokes, puts, reported, takes, ticks, yields,
+};
 use super::*;
+
+const ONE_YIELD: [&str; 7] = [
+    "0.0 Acquire -> Proc(PNo(0))",
+    "0.1 Take -> Ticket(Readiness { g: GNo(0), epoch: 1 })",
+    "0.2 Claim(Readiness { g: GNo(0), epoch: 1 }) -> Held",
+    "0.3 Yield -> Shelved(Readiness { g: GNo(0), epoch: 2 })",
+    "0.4 Take -> Ticket(Readiness { g: GNo(0), epoch: 2 })",
+    "0.5 Claim(Readiness { g: GNo(0), epoch: 2 }) -> Held",
+    "0.6 Exit -> MainEnded",
+];
+
+/// Main yields once, and exits: the processor.
+fn yields_once(rt: &impl Abort, book: &mut Desk, pass: &mut Pass) -> Proc<u32> {
+    let (proc, held) = begin(rt, book, pass);
+    same(rt, (proc.run, proc.p, proc.owner), (7, PNo(0), 80));
+    same(rt, parts(&held), (7, GNo(0), Woke::First, 70));
+    yields(rt, book, pass, held);
+    same(rt, book.outcome(), None);
+    let held = next(rt, book, pass);
+    same(rt, parts(&held), (7, GNo(0), Woke::Done, 70));
+    ends(rt, book, pass, held);
+    proc
+}
 
 // A body that yields once, and exits.
 #[test]
 fn one_yield(rt: HostRuntime) -> Result<(), Fail> {
     let alloc = rt.alloc();
     let (mut book, mut pass) = small(&rt, alloc, 7)?;
-    let (proc, held) = begin(&rt, &mut book, &mut pass);
-    assert_eq!(rt; (proc.run, proc.p, proc.owner), (7, PNo(0), 80));
-    assert_eq!(rt; parts(&held), (7, GNo(0), Woke::First, 70));
-    accepted(&rt, book.yield_to(&mut pass, held));
-    assert_eq!(rt; book.outcome(), None);
-    let held = next(&rt, &mut book, &mut pass);
-    assert_eq!(rt; parts(&held), (7, GNo(0), Woke::Done, 70));
-    assert_eq!(rt;
-        accepted(&rt, book.exit(&mut pass, held)),
-        Exited::MainEnded
-    );
-    assert_eq!(rt; pass.open(), (7, MNo(0), 7, 7));
-    assert_eq!(rt; book.outcome(), Some(Outcome::MainEnded));
-    accepted(&rt, book.surrender_proc(proc));
-    let want = [
-        "0.0 Acquire -> Proc(PNo(0))",
-        "0.1 Take -> Ticket(Readiness { g: GNo(0), epoch: 1 })",
-        "0.2 Claim(Readiness { g: GNo(0), epoch: 1 }) -> Held",
-        "0.3 Yield -> Shelved(Readiness { g: GNo(0), epoch: 2 })",
-        "0.4 Take -> Ticket(Readiness { g: GNo(0), epoch: 2 })",
-        "0.5 Claim(Readiness { g: GNo(0), epoch: 2 }) -> Held",
-        "0.6 Exit -> MainEnded",
-    ];
-    assert_eq!(rt; book.history().len(), 7);
-    ends_with(&rt, alloc, book.history(), &want)?;
-    let report = accepted(&rt, book.into_report());
-    is_true(&rt, alloc, &report);
-    assert_eq!(rt; report.limits, SMALL);
-    assert_eq!(rt; report.capacities.as_slice(), [0, 4096].as_slice());
-    assert_eq!(rt; report.history.len(), 7);
-    ends_with(&rt, alloc, &report.history, &want)?;
-    assert_eq!(rt; report.outcome, Outcome::MainEnded);
-    assert_eq!(rt; report.bodies.as_slice(), [70, 71, 72].as_slice());
-    assert_eq!(rt; report.owners.as_slice(), [80].as_slice());
-    Ok(())
+    let proc = yields_once(&rt, &mut book, &mut pass);
+    same(&rt, pass.open(), (7, MNo(0), 7, 7));
+    gives_back(&rt, &mut book, proc);
+    is_told(&rt, alloc, book.history(), &ONE_YIELD)?;
+    let report = reported(&rt, alloc, book);
+    is_of_one_yield(&rt, alloc, report)
 }
 
-/// The goroutine that is held starts a body, whose ticket is given out with epoch 1.
-fn starts(
-    rt: &impl Abort,
-    book: &mut Desk,
-    pass: &mut Pass,
-    held: Held<u32>,
-    body: u16,
-) -> (Held<u32>, Ticket) {
-    let Went { held, push } = accepted(rt, book.go(pass, held, GNo(body)));
-    assert_eq!(rt; held.woke, Woke::Done);
-    let ticket = there(rt, push);
-    assert_eq!(rt; (ticket.run, ticket.g, ticket.epoch), (7, GNo(body), 1));
-    (held, ticket)
+fn is_of_one_yield(rt: &impl Abort, alloc: Global, report: Report<u32, u32>) -> Result<(), Fail> {
+    same(rt, report.limits, SMALL);
+    lists(rt, &report.capacities, &[0, 4096]);
+    same(rt, report.outcome, Outcome::MainEnded);
+    lists(rt, &report.bodies, &[70, 71, 72]);
+    lists(rt, &report.owners, &[80]);
+    is_told(rt, alloc, &report.history, &ONE_YIELD)
 }
 
 /// It asks for this body, and is told the fault.
@@ -68,7 +61,7 @@ fn faults(
     fault: Fault,
 ) -> Held<u32> {
     let Went { held, push } = accepted(rt, book.go(pass, held, GNo(body)));
-    assert_eq!(rt; parts(&held), (7, GNo(0), Woke::Fault(fault), 70));
+    same(rt, parts(&held), (7, GNo(0), Woke::Fault(fault), 70));
     if let Some(ticket) = push {
         ticket.open();
         panic!(rt; "a ticket of {body}");
@@ -76,44 +69,58 @@ fn faults(
     held
 }
 
+/// The first machine gives the ticket of main out, puts it back, gives it out again, and claims it.
+fn put_and_claimed(
+    rt: &impl Abort,
+    book: &mut Desk,
+    first: &mut Pass,
+    second: &mut Pass,
+) -> Held<u32> {
+    ticks(rt, book, first, 5, 0);
+    let ticket = takes(rt, book, first);
+    none_left(rt, book, second);
+    puts(rt, book, first, ticket);
+    resumes(rt, book, first, 0, 1, Woke::First)
+}
+
+/// Main starts bodies 1 and 2, whose tickets are given out, and asks for what is a fault.
+fn starts_two(
+    rt: &impl Abort,
+    book: &mut Desk,
+    pass: &mut Pass,
+    held: Held<u32>,
+) -> (Held<u32>, Ticket, Ticket) {
+    let (held, ticket) = goes(rt, book, pass, held, 1);
+    pokes(rt, book, pass, None);
+    let (held, spare) = goes(rt, book, pass, held, 2);
+    let held = faults(rt, book, pass, held, 1, Fault::AlreadyStarted);
+    let held = faults(rt, book, pass, held, 3, Fault::NoSuchBody);
+    (held, ticket, spare)
+}
+
 // Each call that the run of one yield has not, by two machines with a processor each.
 #[test]
 fn each_other_call(rt: HostRuntime) -> Result<(), Fail> {
     let (mut book, mut first, mut second) = pair(&rt, rt.alloc(), 2)?;
-    let proc = there(&rt, made(&rt, book.acquire(&mut first)));
-    let other = there(&rt, made(&rt, book.acquire(&mut second)));
-    assert_eq!(rt; (other.run, other.p, other.owner), (7, PNo(1), 81));
-    assert_eq!(rt; made(&rt, book.tick(&mut first, 5)), 0);
-    let ticket = there(&rt, made(&rt, book.take(&mut first)));
-    none_left(&rt, &mut book, &mut second);
-    accepted(&rt, book.put(&mut first, ticket));
-    let ticket = there(&rt, made(&rt, book.take(&mut first)));
-    assert_eq!(rt; (ticket.run, ticket.g, ticket.epoch), (7, GNo(0), 1));
-    let held = accepted(&rt, book.claim(&mut first, ticket));
-    let (held, ticket) = starts(&rt, &mut book, &mut first, held, 1);
-    assert_eq!(rt; made(&rt, book.poke(&mut first)), None);
-    let (held, spare) = starts(&rt, &mut book, &mut first, held, 2);
-    let held = faults(&rt, &mut book, &mut first, held, 1, Fault::AlreadyStarted);
-    let held = faults(&rt, &mut book, &mut first, held, 3, Fault::NoSuchBody);
-    let running = accepted(&rt, book.claim(&mut second, ticket));
-    assert_eq!(rt; parts(&running), (7, GNo(1), Woke::First, 71));
-    assert_eq!(rt;
-        accepted(&rt, book.exit(&mut first, held)),
-        Exited::MainEnded
-    );
-    accepted(&rt, book.surrender_held(running));
-    accepted(&rt, book.surrender_ticket(spare));
-    accepted(&rt, book.surrender_proc(other));
-    accepted(&rt, book.surrender_proc(proc));
-    assert_eq!(rt;
-        (first.open(), second.open()),
-        ((7, MNo(0), 12, 15), (7, MNo(1), 3, 14))
-    );
-    let report = accepted(&rt, book.into_report());
-    is_true(&rt, rt.alloc(), &report);
-    assert_eq!(rt; report.history.len(), 15);
-    assert_eq!(rt; report.bodies.as_slice(), [70, 71, 72].as_slice());
-    assert_eq!(rt; report.owners.as_slice(), [80, 81].as_slice());
+    let proc = acquires(&rt, &mut book, &mut first);
+    let other = acquires(&rt, &mut book, &mut second);
+    same(&rt, (other.run, other.p, other.owner), (7, PNo(1), 81));
+    let held = put_and_claimed(&rt, &mut book, &mut first, &mut second);
+    let (held, ticket, spare) = starts_two(&rt, &mut book, &mut first, held);
+    let running = claims(&rt, &mut book, &mut second, ticket, Woke::First);
+    same(&rt, parts(&running), (7, GNo(1), Woke::First, 71));
+    ends(&rt, &mut book, &mut first, held);
+    gives_back_held(&rt, &mut book, running);
+    gives_back_ticket(&rt, &mut book, spare);
+    gives_back(&rt, &mut book, other);
+    gives_back(&rt, &mut book, proc);
+    same(&rt, first.open(), (7, MNo(0), 12, 15));
+    same(&rt, second.open(), (7, MNo(1), 3, 14));
+    let report = reported(&rt, rt.alloc(), book);
+    same(&rt, report.history.len(), 15);
+    lists(&rt, &report.bodies, &[70, 71, 72]);
+    lists(&rt, &report.owners, &[80, 81]);
+    drop(report);
     Ok(())
 }
 
@@ -129,22 +136,18 @@ fn none_left(rt: &impl Abort, book: &mut Desk, pass: &mut Pass) {
 fn another_exit(rt: HostRuntime) -> Result<(), Fail> {
     let (mut book, mut first, mut second) = pair(&rt, rt.alloc(), 2)?;
     let (proc, held) = begin(&rt, &mut book, &mut first);
-    let (held, ticket) = starts(&rt, &mut book, &mut first, held, 1);
-    let other = there(&rt, made(&rt, book.acquire(&mut second)));
-    let running = accepted(&rt, book.claim(&mut second, ticket));
-    assert_eq!(rt;
-        accepted(&rt, book.exit(&mut second, running)),
-        Exited::Dead
-    );
-    assert_eq!(rt; book.outcome(), None);
+    let (held, ticket) = goes(&rt, &mut book, &mut first, held, 1);
+    let other = acquires(&rt, &mut book, &mut second);
+    let running = claims(&rt, &mut book, &mut second, ticket, Woke::First);
+    dies(&rt, &mut book, &mut second, running);
+    same(&rt, book.outcome(), None);
     is_checked(&rt, rt.alloc(), two(2), &book);
-    (
-        held.open(),
-        proc.open(),
-        other.open(),
-        first.open(),
-        second.open(),
-    );
+    held.open();
+    proc.open();
+    other.open();
+    first.open();
+    second.open();
+    drop(book);
     Ok(())
 }
 
@@ -153,22 +156,31 @@ fn another_exit(rt: HostRuntime) -> Result<(), Fail> {
 fn one_processor_for_two(rt: HostRuntime) -> Result<(), Fail> {
     let (mut book, mut first, mut second) = pair(&rt, rt.alloc(), 1)?;
     let (proc, held) = begin(&rt, &mut book, &mut first);
-    if let Some(proc) = made(&rt, book.acquire(&mut second)) {
-        proc.open();
-        panic!(rt; "a processor");
-    }
-    let (held, ticket) = starts(&rt, &mut book, &mut first, held, 1);
+    acquires_none(&rt, &mut book, &mut second);
+    let (held, ticket) = goes(&rt, &mut book, &mut first, held, 1);
     let (why, ticket) = refused(&rt, book.claim(&mut second, ticket));
-    assert_eq!(rt; (why.number(), ticket.open()), (25, (7, GNo(1), 1)));
+    same(&rt, (why.number(), ticket.open()), (25, (7, GNo(1), 1)));
     is_checked(&rt, rt.alloc(), two(1), &book);
-    (held.open(), proc.open(), first.open(), second.open());
+    held.open();
+    proc.open();
+    first.open();
+    second.open();
+    drop(book);
     Ok(())
 }
 
 /// The oldest ticket is taken and claimed, and its goroutine yields.
 fn turn(rt: &impl Abort, book: &mut Desk, pass: &mut Pass) {
     let held = next(rt, book, pass);
-    accepted(rt, book.yield_to(pass, held));
+    yields(rt, book, pass, held);
+}
+
+/// So many turns of a run that lasts.
+fn turns(rt: &impl Abort, book: &mut Desk, pass: &mut Pass, count: u8) {
+    for _ in 0..count {
+        same(rt, book.outcome(), None);
+        turn(rt, book, pass);
+    }
 }
 
 // A body that yields again and again fills the book.
@@ -176,20 +188,16 @@ fn turn(rt: &impl Abort, book: &mut Desk, pass: &mut Pass) {
 fn sixteen_entries(rt: HostRuntime) -> Result<(), Fail> {
     let alloc = rt.alloc();
     let (mut book, mut pass) = small(&rt, alloc, 7)?;
-    let proc = there(&rt, made(&rt, book.acquire(&mut pass)));
-    for _ in 0..5 {
-        assert_eq!(rt; book.outcome(), None);
-        turn(&rt, &mut book, &mut pass);
-    }
-    assert_eq!(rt; book.outcome(), Some(Outcome::BookFull));
-    accepted(&rt, book.surrender_proc(proc));
+    let proc = acquires(&rt, &mut book, &mut pass);
+    turns(&rt, &mut book, &mut pass, 5);
+    same(&rt, book.outcome(), Some(Outcome::BookFull));
+    gives_back(&rt, &mut book, proc);
     pass.open();
-    let report = accepted(&rt, book.into_report());
-    is_true(&rt, alloc, &report);
-    assert_eq!(rt; report.outcome, Outcome::BookFull);
-    assert_eq!(rt; report.history.len(), 16);
-    let last = ["0.15 Yield -> Shelved(Readiness { g: GNo(0), epoch: 6 })"];
-    ends_with(&rt, alloc, &report.history, &last)
+    let report = reported(&rt, alloc, book);
+    same(&rt, report.outcome, Outcome::BookFull);
+    same(&rt, report.history.len(), 16);
+    let last = &["0.15 Yield -> Shelved(Readiness { g: GNo(0), epoch: 6 })"];
+    history_ends(&rt, alloc, report, last)
 }
 
 // The last entry gives out a ticket, and the clock is read after each 16 claims.
@@ -201,24 +209,21 @@ fn fifty_one_entries(rt: HostRuntime) -> Result<(), Fail> {
         ..SMALL
     };
     let (mut book, mut pass) = alone(&rt, alloc, 7, limits)?;
-    let proc = there(&rt, made(&rt, book.acquire(&mut pass)));
-    for _ in 0..16 {
-        turn(&rt, &mut book, &mut pass);
-    }
-    assert_eq!(rt; made(&rt, book.tick(&mut pass, 0)), 0);
-    assert_eq!(rt; book.outcome(), None);
-    let ticket = there(&rt, made(&rt, book.take(&mut pass)));
-    assert_eq!(rt; book.outcome(), Some(Outcome::BookFull));
-    accepted(&rt, book.surrender_ticket(ticket));
-    accepted(&rt, book.surrender_proc(proc));
+    let proc = acquires(&rt, &mut book, &mut pass);
+    turns(&rt, &mut book, &mut pass, 16);
+    ticks(&rt, &mut book, &mut pass, 0, 0);
+    same(&rt, book.outcome(), None);
+    let ticket = takes(&rt, &mut book, &mut pass);
+    same(&rt, book.outcome(), Some(Outcome::BookFull));
+    gives_back_ticket(&rt, &mut book, ticket);
+    gives_back(&rt, &mut book, proc);
     pass.open();
-    let report = accepted(&rt, book.into_report());
-    is_true(&rt, alloc, &report);
-    assert_eq!(rt; report.history.len(), 51);
-    let last = [
+    let report = reported(&rt, alloc, book);
+    same(&rt, report.history.len(), 51);
+    let last = &[
         "0.48 Yield -> Shelved(Readiness { g: GNo(0), epoch: 17 })",
         "0.49 Tick(0) -> Woke(0)",
         "0.50 Take -> Ticket(Readiness { g: GNo(0), epoch: 17 })",
     ];
-    ends_with(&rt, alloc, &report.history, &last)
+    history_ends(&rt, alloc, report, last)
 }

@@ -44,13 +44,10 @@ fn listed(cases: &[Case]) -> [Option<Case>; 8] {
     list
 }
 
-/// These cases in order.
-pub(super) fn cases_of(list: &[Option<Case>]) -> Cases {
+fn cases_in(list: &[Option<Case>]) -> Cases {
     let mut cases = Cases::new();
-    for case in list {
-        if let Some(case) = case {
-            let _ = cases.push(*case);
-        }
+    for case in list.iter().flatten() {
+        let _ = cases.push(*case);
     }
     cases
 }
@@ -150,7 +147,7 @@ impl<'a> Play<'a> {
         list: &[Option<Case>],
         has_default: bool,
     ) -> Option<Held<Player<'a>>> {
-        let cases = cases_of(list);
+        let cases = cases_in(list);
         let book = &mut self.book;
         let moved = book.select(&mut self.pass, held, &cases, has_default, self.word);
         self.moved(rt, accepted(rt, moved))

@@ -1,29 +1,53 @@
 //! Selects that are refused: nothing is left of them.
 use super::answers::{at, ends, moves, on};
-use super::scripts::{cases_of, recvs, sends};
+use super::scripts::{recvs, sends};
 use super::*;
-use gmp_base::Case;
+use gmp_base::{Case, Cases};
 
-/// That the select is refused so, and that pass, goroutine and history are as they were.
+/// These cases in order, 8 at most.
+fn cases_of(list: &[Case]) -> Cases {
+    let mut cases = Cases::new();
+    for case in list {
+        let _ = cases.push(*case);
+    }
+    cases
+}
+
+/// What a refusal leaves as it was.
+fn marks(book: &Desk, pass: &Pass) -> (u64, MNo, u64, u64, usize) {
+    let length = book.history().len();
+    (pass.run, pass.m, pass.calls, pass.seen, length)
+}
+
+/// Why a select of this goroutine is refused. The goroutine comes back as it was.
+fn why(
+    rt: &impl Abort,
+    book: &mut Desk,
+    pass: &mut Pass,
+    (run, g): (u64, u16),
+    cases: &Cases,
+    has_default: bool,
+) -> Refusal {
+    let held = Held::of(run, GNo(g), Woke::Late, 99);
+    let (why, back) = refused(rt, book.select(pass, held, cases, has_default, 1));
+    assert_eq!(rt; back.open(), (run, GNo(g), Woke::Late, 99));
+    why
+}
+
+/// That the select is refused so, with and without a default, and that nothing has changed then.
 fn select_refused(
     rt: &impl Abort,
     book: &mut Desk,
     pass: &mut Pass,
-    held: (u64, GNo, Woke, u32),
-    cases: &[Option<Case>],
+    held: (u64, u16),
+    cases: &[Case],
     want: Refusal,
 ) {
-    let before = (pass.run, pass.m, pass.calls, pass.seen);
-    let length = book.history().len();
+    let before = marks(book, pass);
+    let cases = cases_of(cases);
     for has_default in [false, true] {
-        let (run, g, woke, body) = held;
-        let held = Held::of(run, g, woke, body);
-        let asked = book.select(pass, held, &cases_of(cases), has_default, 1);
-        let (why, back) = refused(rt, asked);
-        assert_eq!(rt; why, want);
-        assert_eq!(rt; back.open(), (run, g, woke, body));
-        assert_eq!(rt; (pass.run, pass.m, pass.calls, pass.seen), before);
-        assert_eq!(rt; book.history().len(), length);
+        assert_eq!(rt; why(rt, book, pass, held, &cases, has_default), want);
+        assert_eq!(rt; marks(book, pass), before);
     }
 }
 
@@ -42,17 +66,11 @@ const REFUSED: [(u64, u8, u64, u64, u64, u16, Refusal); 10] = [
     (7, 1, 0, 0, 7, 0, Refusal::NotHeld),
 ];
 
-/// Every one of them, of cases that can proceed, that would wait, and that name no channel.
-fn all_refused(rt: &impl Abort, book: &mut Desk) {
-    let able = [Some(recvs(0)), Some(sends(1, 5))];
-    let waiting = [Some(sends(0, 6)), Some(recvs(0)), None];
-    let missing = [Some(sends(1, 5)), Some(recvs(2))];
+/// That this select is refused by each of them.
+fn all_refused(rt: &impl Abort, book: &mut Desk, cases: &[Case]) {
     for (run, m, calls, seen, held_run, g, want) in REFUSED {
         let mut pass = Pass::of(run, MNo(m), calls, seen);
-        let held = (held_run, GNo(g), Woke::Late, 99);
-        select_refused(rt, book, &mut pass, held, &able, want);
-        select_refused(rt, book, &mut pass, held, &waiting, want);
-        select_refused(rt, book, &mut pass, held, &missing, want);
+        select_refused(rt, book, &mut pass, (held_run, g), cases, want);
         pass.open();
     }
 }
@@ -63,9 +81,12 @@ fn nothing_is_left(rt: HostRuntime) -> Result<(), Fail> {
     let alloc = rt.alloc();
     let (mut book, mut pass, second) = pair(&rt, alloc, 2)?;
     let (proc, held) = begin(&rt, &mut book, &mut pass);
-    all_refused(&rt, &mut book);
+    // One case can proceed, none can, one names no channel.
+    all_refused(&rt, &mut book, &[recvs(0), sends(1, 5)]);
+    all_refused(&rt, &mut book, &[sends(0, 6), recvs(0)]);
+    all_refused(&rt, &mut book, &[sends(1, 5), recvs(2)]);
     let held = on(&rt, book.len(&mut pass, held, at(1)), Woke::Number(0));
-    let cases = cases_of(&[Some(sends(0, 8)), Some(recvs(0)), Some(recvs(1))]);
+    let cases = cases_of(&[sends(0, 8), recvs(0), recvs(1)]);
     let selected = book.select(&mut pass, held, &cases, true, 0);
     let held = moves(&rt, selected, Woke::Default);
     ends(&rt, &mut book, &mut pass, held);
@@ -84,9 +105,8 @@ fn after_the_end(rt: HostRuntime) -> Result<(), Fail> {
     let (proc, held) = begin(&rt, &mut book, &mut pass);
     ends(&rt, &mut book, &mut pass, held);
     for (g, c) in [(0, 0), (1, 1), (9, 2)] {
-        let held = (7, GNo(g), Woke::Late, 99);
-        let cases = [Some(recvs(c)), Some(sends(c, 5))];
-        select_refused(&rt, &mut book, &mut pass, held, &cases, Refusal::Over);
+        let cases = [recvs(c), sends(c, 5)];
+        select_refused(&rt, &mut book, &mut pass, (7, g), &cases, Refusal::Over);
     }
     let report = report_of(&rt, alloc, book, pass, proc);
     assert_eq!(rt; report.history.len(), 4);
