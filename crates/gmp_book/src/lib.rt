@@ -31,6 +31,3 @@ pub use ledger::{Exited, Parking};
 pub use opening::Unopened;
 pub use report::Report;
 pub use went::{Moved, Went};
-
-#[cfg(test)]
-mod tests;

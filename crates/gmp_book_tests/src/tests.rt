@@ -1,8 +1,8 @@
 //! Runs and refusals, compared with worked examples. Bodies are 70 and up, owners 80 and up.
 //!
 //! Histories are judged by the plain checker, `gmp_check`, which only the tests use.
-use super::*;
 use gmp_base::{CNo, Fault, GNo, Held, MNo, PNo, Pass, Proc, Refusal, Refused, Ticket, Woke};
+use gmp_book::{Book, Exited, Moved, Parking, Report, Unopened, Went};
 use gmp_check::ReplayError;
 use gmp_seq::{Entry, Limits, Outcome};
 use std::alloc::Global;
