@@ -152,6 +152,7 @@ pub by_pass : (old now : Log) (before after : Pass) (call : Call) (reply : Reply
 by_pass old now before after call reply current enters advanced = record {
   entry = rw current.turn enters.entry;
   step = enters.step;
+  shelf = enters.shelf;
   opened = enters.opened;
   pass = advanced;
   order = current.seen;

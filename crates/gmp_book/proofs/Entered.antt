@@ -79,13 +79,13 @@ has_room old now journal m is kept entries counts ongoing awake =
     }
 
 -- the run is longer by one step
-pub kept_on : (old now : Log) (space space' : ℕ) (m : MNo) (call : Call) (reply : Reply) (history : List Entry) (state : State) → old ≡ now → IsKept old space → now.state.outcome ≡ None
+pub kept_on : (old now : Log) (space space' : ℕ) (m : MNo) (call : Call) (reply : Reply) (history : List Entry) (state : State) (shelf : List GNo) → old ≡ now → IsKept old space → now.state.outcome ≡ None
     → IsAwake now.state.machines m → Effect old.limits m call reply old.state state
     → history ≡ old.history ++ record { m = m; k = slice_index old.state.counts m.0; call = call; reply = reply } ∷ []
     → state.counts ≡ slice_set old.state.counts m.0 (slice_index old.state.counts m.0 + 1)
     → state.outcome ≡ outcome_after old.limits reply state.counts → space' ≡ space
-    → IsKept (record old { history = history; state = state }) space'
-kept_on old now space space' m call reply history state is kept ongoing awake effect written counts outcome same =
+    → IsKept (record old { history = history; state = state; shelf = shelf }) space'
+kept_on old now space space' m call reply history state shelf is kept ongoing awake effect written counts outcome same =
     let lasts : old.state.outcome ≡ None = ap (λ (l : Log). l.state.outcome) is ∙ ongoing in
     let wakes : IsAwake old.state.machines m = subst (λ (l : Log). IsAwake l.state.machines m) (sym is) awake in
     let counted = awake_counted old space m kept wakes in

@@ -31,7 +31,7 @@ abbrev pub Placed : {T Q : Type 0} → Log → List (Option T) → List (Option 
 Placed log bodies owners = IsBook (record { log = log; bodies = bodies; owners = owners })
 
 module _ {T Q : Type 0} (old now : Log) (bodies : List (Option T)) (owners : List (Option Q)) (kept : Placed old bodies owners) where
-  pub placed : (bodies' : List (Option T)) (owners' : List (Option Q)) → now ≡ record old { history = now.history; state = now.state } → length bodies' ≡ length bodies
+  pub placed : (bodies' : List (Option T)) (owners' : List (Option Q)) → now ≡ record old { history = now.history; state = now.state; shelf = now.shelf } → length bodies' ≡ length bodies
       → length owners' ≡ length owners → BodiesIn now.state.table bodies' → OwnersIn now.state.machines owners' → Placed now bodies' owners'
   placed bodies' owners' opened bodies_length owners_length bodies_in owners_in = record {
     bodies_count = bodies_length ∙ (kept.bodies_count ∙ ap (λ (l : Log). l.bodies) (sym opened));
@@ -41,18 +41,18 @@ module _ {T Q : Type 0} (old now : Log) (bodies : List (Option T)) (owners : Lis
   }
 
   -- goroutines and processors stay
-  pub same_placed : now ≡ record old { history = now.history; state = now.state } → old.state.outcome ≡ None → now.state.table.goroutines ≡ old.state.table.goroutines
+  pub same_placed : now ≡ record old { history = now.history; state = now.state; shelf = now.shelf } → old.state.outcome ≡ None → now.state.table.goroutines ≡ old.state.table.goroutines
       → now.state.machines.holders ≡ old.state.machines.holders → Placed now bodies owners
   same_placed opened lasts gs holders = placed bodies owners opened refl refl (rw gs (kept.bodies lasts)) (rw holders (kept.owners lasts))
 
   -- a goroutine changes, and its body stays where it is
-  row_placed : (g : GNo) (x y : Goroutine) → now ≡ record old { history = now.history; state = now.state } → old.state.outcome ≡ None → slice_get old.state.table.goroutines g.0 ≡ Some x
+  row_placed : (g : GNo) (x y : Goroutine) → now ≡ record old { history = now.history; state = now.state; shelf = now.shelf } → old.state.outcome ≡ None → slice_get old.state.table.goroutines g.0 ≡ Some x
       → now.state.table.goroutines ≡ set old.state.table.goroutines g.0 y → is_in x ≡ is_in y → now.state.machines ≡ old.state.machines → Placed now bodies owners
   row_placed g x y opened lasts at is same machines =
       placed bodies owners opened refl refl (rw is (row_set is_in bodies old.state.table.goroutines g.0 x y (kept.bodies lasts) at same)) (rw machines (kept.owners lasts))
 
   -- a goroutine changes, and its place with it
-  pub slot_placed : (g : GNo) (slot : Option T) (y : Goroutine) → now ≡ record old { history = now.history; state = now.state } → old.state.outcome ≡ None
+  pub slot_placed : (g : GNo) (slot : Option T) (y : Goroutine) → now ≡ record old { history = now.history; state = now.state; shelf = now.shelf } → old.state.outcome ≡ None
       → now.state.table.goroutines ≡ set old.state.table.goroutines g.0 y → is_some slot ≡ is_in y → now.state.machines ≡ old.state.machines → Placed now (set bodies g.0 slot) owners
   slot_placed g slot y opened lasts is same machines =
       placed (set bodies g.0 slot) owners opened (length-set bodies g.0 slot) refl (rw is (both_set is_in bodies old.state.table.goroutines g.0 slot y (kept.bodies lasts) same))

@@ -184,7 +184,7 @@ pub no_wait : (answer : Reply) → is_wait answer ≡ false → answer ≡ reply
 no_wait answer h e = false≢true (sym h ∙ ap is_wait e)
 
 module _ {T Q : Type 0} (old now : Log) (bodies : List (Option T)) (owners : List (Option Q)) (kept : Placed old bodies owners) where
-  unmoved_placed : now ≡ record old { history = now.history; state = now.state } → old.state.outcome ≡ None → Unmoved old.state now.state → Placed now bodies owners
+  unmoved_placed : now ≡ record old { history = now.history; state = now.state; shelf = now.shelf } → old.state.outcome ≡ None → Unmoved old.state now.state → Placed now bodies owners
   unmoved_placed opened lasts same =
       placed old now bodies owners kept bodies owners opened refl refl (kept.bodies lasts ∙ sym same.0)
       (kept.owners lasts ∙ ap (λ (w : Machines). map is_none w.holders) (sym same.1))
@@ -210,7 +210,7 @@ module _ {T Q : Type 0} (old now : Log) (bodies : List (Option T)) (owners : Lis
       unmoved_placed records.opened records.step.0 (closes_unmoved c answer old.state now.state records.step.1.2)
 
   -- the channels alone change
-  pub channels_placed : now ≡ record old { history = now.history; state = now.state } → old.state.outcome ≡ None → SameTable old.state now.state → SameMachines old.state now.state
+  pub channels_placed : now ≡ record old { history = now.history; state = now.state; shelf = now.shelf } → old.state.outcome ≡ None → SameTable old.state now.state → SameMachines old.state now.state
       → Placed now bodies owners
   channels_placed opened lasts is machines = unmoved_placed opened lasts (unmoved old.state now.state is machines)
 

@@ -16,4 +16,5 @@ log_of l = record {
     counts = l.journal.counts;
     outcome = l.outcome;
   };
+  shelf = l.goroutines.shelf;
 }

@@ -11,3 +11,4 @@ pub mod Tied
 pub mod Present
 pub mod Choice
 pub mod Served
+pub mod Shelf

@@ -7,7 +7,9 @@ ghost use Rattle.gmp_seq.specs.declared.status.Place.TheVariants.{Shelf, Out};
 ghost use Rattle.gmp_seq.specs.declared.status.Status.{Status};
 ghost use Rattle.gmp_seq.specs.Step.{Takes, Puts, Claims, Starts, Ticks};
 ghost use Rattle.gmp_seq.specs.Table.{IsReady, IsRunning, RunsNothing, all_woken, epoch_at, how_many_woken, is_astir, is_outstanding, is_running_on, is_shelved, made_ready, made_wait, minded, next_of, set_status, some_status, status_at};
-ghost use Rattle.gmp_table.specs.Waking.{IsWakeOrder, answer_of};
+ghost use Rattle.gmp_seq.specs.declared.call.Call.{Call};
+ghost use Rattle.gmp_table.specs.Waking.{answer_of};
+ghost use Rattle.gmp_book.specs.Shelf.{Shelves, Wakes};
 ghost use Rattle.gmp_book.specs.Present.{OnlyTable, opening_present};
 ghost use Rattle.gmp_book.specs.Replies.{taken, started};
 
@@ -49,7 +51,8 @@ impl Model for Goroutines {
 /// Starts a body, where there is one that is dormant.
 fn start(table: &mut StatusTable, body: GNo) -> Result<Readiness, Fault>
     requires { epoch_at table.old.table body < 2 ^ 63 }
-    ensures { Starts body (started result) table.old.table table.new.table }
+    ensures starts { Starts body (started result) table.old.table table.new.table }
+    ensures shelf { table.new.shelf ≡ table.old.shelf }
 {
     match table.get(body) {
         None => Err(Fault::NoSuchBody),
@@ -137,7 +140,7 @@ impl Goroutines {
     /// Gives out the ticket of the goroutine that is on the shelf for longest.
     pub(crate) fn take(&mut self) -> Option<Readiness>
         ensures takes { Takes (taken result) self.old.table self.new.table }
-        ensures first { IfSome result (λ r. self.old.shelf ≡ r.g ∷ self.new.shelf) }
+        ensures shelf { Shelves Call.Take (taken result) self.old.table self.new.table self.old.shelf self.new.shelf }
         ensures only { OnlyTable self.old self.new }
     {
         self.table.unshelve()
@@ -160,6 +163,7 @@ impl Goroutines {
         requires there { m.0 < self.old.machines }
         ensures claims { Claims m r Reply.Held self.old.table self.new.table }
         ensures answer { IsReady self.old.table r Out result }
+        ensures shelf { self.new.shelf ≡ self.old.shelf }
         ensures only { OnlyTable self.old self.new }
     {
         let woke = self.table.claim(m, r);
@@ -171,6 +175,7 @@ impl Goroutines {
     pub(crate) fn go(&mut self, body: GNo) -> Result<Readiness, Fault>
         requires young { epoch_at self.old.table body < 2 ^ 63 }
         ensures starts { Starts body (started result) self.old.table self.new.table }
+        ensures shelf { self.new.shelf ≡ self.old.shelf }
         ensures only { OnlyTable self.old self.new }
     {
         start(&mut self.table, body)
@@ -196,6 +201,7 @@ impl Goroutines {
         requires runs { IsRunning self.old.table g m }
         requires there { m.0 < self.old.machines }
         ensures table { self.new.table ≡ set_status self.old.table g Status.Dead }
+        ensures shelf { self.new.shelf ≡ self.old.shelf }
         ensures only { OnlyTable self.old self.new }
     {
         self.table.dead(g);
@@ -210,6 +216,7 @@ impl Goroutines {
         // Who is parked offers nothing.
         requires bare { kind ≡ Kind.Parked → offers ≡ [] }
         ensures table { self.new.table ≡ made_wait self.old.table g kind offers until }
+        ensures shelf { self.new.shelf ≡ self.old.shelf }
         ensures only { OnlyTable self.old self.new }
     {
         self.channels
@@ -223,7 +230,7 @@ impl Goroutines {
         requires young { (g : GNo) → epoch_at self.old.table g < 2 ^ 63 }
         ensures table { self.new.table ≡ all_woken (answer_of wake) self.old.table }
         ensures count { result ≡ how_many_woken (answer_of wake) self.old.table }
-        ensures order { (gs : List GNo) × IsWakeOrder wake self.old.table.goroutines gs × (self.new.shelf ≡ self.old.shelf ++ gs) }
+        ensures order { Wakes wake self.old.table self.old.shelf self.new.shelf }
         ensures only { OnlyTable self.old self.new }
     {
         let mut count = 0;
@@ -240,7 +247,7 @@ impl Goroutines {
     pub(crate) fn tick(&mut self, moment: u64) -> u64
         requires young { (g : GNo) → epoch_at self.old.table g < 2 ^ 63 }
         ensures ticks { Ticks moment (Reply.Woke result) self.old.table self.new.table }
-        ensures order { (gs : List GNo) × IsWakeOrder (Wake.Due self.new.table.clock) self.old.table.goroutines gs × (self.new.shelf ≡ self.old.shelf ++ gs) }
+        ensures order { Wakes (Wake.Due self.new.table.clock) self.old.table self.old.shelf self.new.shelf }
         ensures only { OnlyTable self.old self.new }
     {
         let now = self.table.show(moment);

@@ -7,8 +7,8 @@ ghost use Rattle.gmp_seq.specs.declared.call.Reply.{Reply};
 ghost use Rattle.gmp_seq.specs.Channels.{capacity_at, items_at};
 ghost use Rattle.gmp_seq.specs.Step.{Closes, Makes, Tells};
 ghost use Rattle.gmp_seq.specs.Table.{epoch_at};
-ghost use Rattle.gmp_table.specs.declared.wake.Wake.{Wake};
-ghost use Rattle.gmp_table.specs.Waking.{IsWakeOrder};
+ghost use Rattle.gmp_seq.specs.declared.call.Call.{Call};
+ghost use Rattle.gmp_book.specs.Shelf.{Shelves};
 ghost use Rattle.gmp_book.specs.Present.{SameSizes, state_of};
 
 use crate::goroutines::Goroutines;
@@ -42,8 +42,7 @@ impl Goroutines {
     pub(crate) fn close(&mut self, c: Option<CNo>) -> Reply
         requires young { (g : GNo) → epoch_at self.old.table g < 2 ^ 63 }
         ensures closes { Closes c result (state_of self.old) (state_of self.new) }
-        ensures order { (n : ℕ) (d : CNo) → result ≡ Reply.Closed n → c ≡ Some d
-            → (gs : List GNo) × IsWakeOrder (Wake.Closed d) self.old.table.goroutines gs × (self.new.shelf ≡ self.old.shelf ++ gs) }
+        ensures shelf { Shelves (Call.Close c) result self.old.table self.new.table self.old.shelf self.new.shelf }
         ensures sizes { SameSizes self.old self.new }
     {
         let Some(c) = c else {

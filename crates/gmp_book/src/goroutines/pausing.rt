@@ -14,7 +14,8 @@ use gmp_table::StatusTable;
 /// Makes a goroutine ready that is parked. Its ticket is given out.
 fn ready(table: &mut StatusTable, h: GNo) -> Reply
     requires { epoch_at table.old.table h < 2 ^ 63 }
-    ensures { Readies h result table.old.table table.new.table }
+    ensures readies { Readies h result table.old.table table.new.table }
+    ensures shelf { table.new.shelf ≡ table.old.shelf }
 {
     let Some(row) = table.get(h) else {
         return Reply::Fault(Fault::NoSuchBody);
@@ -34,6 +35,7 @@ impl Goroutines {
         requires few { self.old.table.arrivals < 2 ^ 63 }
         requires there { m.0 < self.old.machines }
         ensures table { self.new.table ≡ made_wait self.old.table g Kind.Sleep [] (Some until) }
+        ensures shelf { self.new.shelf ≡ self.old.shelf }
         ensures only { OnlyTable self.old self.new }
     {
         self.wait(m, g, Kind::Sleep, Offers::new(), Some(until));
@@ -45,6 +47,7 @@ impl Goroutines {
         requires few { self.old.table.arrivals < 2 ^ 63 }
         requires there { m.0 < self.old.machines }
         ensures table { self.new.table ≡ made_wait self.old.table g Kind.Parked [] None }
+        ensures shelf { self.new.shelf ≡ self.old.shelf }
         ensures only { OnlyTable self.old self.new }
     {
         self.wait(m, g, Kind::Parked, Offers::new(), None);
@@ -54,6 +57,7 @@ impl Goroutines {
     pub(crate) fn ready(&mut self, h: GNo) -> Reply
         requires young { epoch_at self.old.table h < 2 ^ 63 }
         ensures readies { Readies h result self.old.table self.new.table }
+        ensures shelf { self.new.shelf ≡ self.old.shelf }
         ensures only { OnlyTable self.old self.new }
     {
         ready(&mut self.table, h)

@@ -44,6 +44,7 @@ impl Goroutines {
         requires few { self.old.table.arrivals < 2 ^ 63 }
         requires there { m.0 < self.old.machines }
         ensures table { self.new.table ≡ made_wait self.old.table g Kind.Select (offers_of cases.now) until }
+        ensures shelf { self.new.shelf ≡ self.old.shelf }
         ensures only { OnlyTable self.old self.new }
     {
         let arrival = self.table.arrivals();
@@ -70,6 +71,7 @@ impl Goroutines {
         ensures selects { Selects g cases.now has_default until result (state_of self.old) (state_of self.new) }
         ensures choice { IsChoice (state_of self.old) cases.now word result }
         ensures few { length cases.now ≤ 8 }
+        ensures shelf { self.new.shelf ≡ self.old.shelf }
         ensures sizes { SameSizes self.old self.new }
     {
         if !self.has_all(cases) {

@@ -90,6 +90,7 @@ impl Goroutines {
         ensures exact { is_some result ≡ can self.old.channels (waiters self.old.table) case }
         ensures communicates { IfSome result (λ told. Communicates case told (state_of self.old) (state_of self.new)) }
         ensures none { IfNone result (self.new ≡ self.old) }
+        ensures shelf { self.new.shelf ≡ self.old.shelf }
         ensures sizes { SameSizes self.old self.new }
     {
         let how = complete(&mut self.channels, case)?;
@@ -103,6 +104,7 @@ impl Goroutines {
         requires few { self.old.table.arrivals < 2 ^ 63 }
         requires there { m.0 < self.old.machines }
         ensures deals { Deals g case result (state_of self.old) (state_of self.new) }
+        ensures shelf { self.new.shelf ≡ self.old.shelf }
         ensures sizes { SameSizes self.old self.new }
     {
         if !self.channels.has(channel_of(case)) {

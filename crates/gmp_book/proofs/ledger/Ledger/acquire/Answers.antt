@@ -13,7 +13,7 @@ pub invariant_of-self : goal.invariant_of-self
 invariant_of-self c =
     let i = c.self.inside in (
       kept_on (log_of i) c.args.self.now i.journal.room c.enter.new.journal.room c.args.m call.Acquire c.acquired.result c.enter.new.journal.entries
-          (record (log_of i).state { machines = c.acquire-p.new.self; counts = c.enter.new.journal.counts; outcome = c.enter.new.outcome }) c.self.view_is c.self.invariant.0 c.requires.ongoing c.requires.needs.0
+          (record (log_of i).state { machines = c.acquire-p.new.self; counts = c.enter.new.journal.counts; outcome = c.enter.new.outcome }) i.goroutines.shelf c.self.view_is c.self.invariant.0 c.requires.ongoing c.requires.needs.0
           (rw c.acquired.ensures c.acquire-p.ensures.acquires, refl, refl) c.enter.ensures.entries c.enter.ensures.counts c.enter.ensures.outcome c.enter.ensures.room,
       c.self.invariant.1,
     )

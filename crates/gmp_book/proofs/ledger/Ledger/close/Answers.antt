@@ -21,7 +21,7 @@ invariant_of-self c =
     let i = c.self.inside in
     let runs = subst (λ (l : Log). IsRunning l.state.table c.args.g c.args.m) (sym c.self.view_is) c.requires.runs in (
       kept_on (log_of i) c.args.self.now i.journal.room c.enter.new.journal.room c.args.m (call.Close c.args.c) (c.close-reply.result) c.enter.new.journal.entries
-          (record (log_of i).state { table = c.close-reply.new.self.table; channels = c.close-reply.new.self.channels; counts = c.enter.new.journal.counts; outcome = c.enter.new.outcome }) c.self.view_is c.self.invariant.0 c.requires.ongoing (runner_wakes (log_of i) c.args.self.now i.journal.room c.args.m c.args.g c.self.view_is c.self.invariant.0 c.requires.runs)
+          (record (log_of i).state { table = c.close-reply.new.self.table; channels = c.close-reply.new.self.channels; counts = c.enter.new.journal.counts; outcome = c.enter.new.outcome }) c.close-reply.new.self.shelf c.self.view_is c.self.invariant.0 c.requires.ongoing (runner_wakes (log_of i) c.args.self.now i.journal.room c.args.m c.args.g c.self.view_is c.self.invariant.0 c.requires.runs)
           (c.args.g, runs, closes_in c.args.c c.close-reply.result i.goroutines c.close-reply.new.self i.machines _ _ _ _ c.close-reply.ensures.closes) c.enter.ensures.entries c.enter.ensures.counts c.enter.ensures.outcome c.enter.ensures.room,
       sized_on i.limits i.goroutines c.close-reply.new.self c.self.invariant.1 c.close-reply.ensures.sizes,
     )

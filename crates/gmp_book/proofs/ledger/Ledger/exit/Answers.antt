@@ -22,7 +22,7 @@ invariant_of-self c =
     let i = c.self.inside in
     let runs = subst (λ (l : Log). IsRunning l.state.table c.args.g c.args.m) (sym c.self.view_is) c.requires.runs in (
       kept_on (log_of i) c.args.self.now i.journal.room c.enter.new.journal.room c.args.m (call.Exit) (c.left.result) c.enter.new.journal.entries
-          (record (log_of i).state { table = c.exit.new.self.table; channels = c.exit.new.self.channels; counts = c.enter.new.journal.counts; outcome = c.enter.new.outcome }) c.self.view_is c.self.invariant.0 c.requires.ongoing (runner_wakes (log_of i) c.args.self.now i.journal.room c.args.m c.args.g c.self.view_is c.self.invariant.0 c.requires.runs)
+          (record (log_of i).state { table = c.exit.new.self.table; channels = c.exit.new.self.channels; counts = c.enter.new.journal.counts; outcome = c.enter.new.outcome }) c.exit.new.self.shelf c.self.view_is c.self.invariant.0 c.requires.ongoing (runner_wakes (log_of i) c.args.self.now i.journal.room c.args.m c.args.g c.self.view_is c.self.invariant.0 c.requires.runs)
           (c.args.g, runs, (rw c.left.ensures (exits_of c.args.g c.of-exited.result i.goroutines.table c.exit.new.self.table c.of-exited.ensures.dead c.of-exited.ensures.main c.exit.ensures.table), c.exit.ensures.only.channels, refl)) c.enter.ensures.entries c.enter.ensures.counts c.enter.ensures.outcome c.enter.ensures.room,
       sized_on i.limits i.goroutines c.exit.new.self c.self.invariant.1 c.exit.ensures.only.sizes,
     )

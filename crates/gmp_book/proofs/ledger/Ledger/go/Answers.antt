@@ -21,7 +21,7 @@ invariant_of-self c =
     let i = c.self.inside in
     let needs = subst (λ (l : Log). Needs c.args.m (call.Go c.args.body) l.state) (sym c.self.view_is) c.requires.needs in (
       kept_on (log_of i) c.args.self.now i.journal.room c.enter.new.journal.room c.args.m (call.Go c.args.body) (c.started.result) c.enter.new.journal.entries
-          (record (log_of i).state { table = c.go-started.new.self.table; channels = c.go-started.new.self.channels; counts = c.enter.new.journal.counts; outcome = c.enter.new.outcome }) c.self.view_is c.self.invariant.0 c.requires.ongoing (runner_wakes (log_of i) c.args.self.now i.journal.room c.args.m c.requires.needs.0 c.self.view_is c.self.invariant.0 c.requires.needs.1)
+          (record (log_of i).state { table = c.go-started.new.self.table; channels = c.go-started.new.self.channels; counts = c.enter.new.journal.counts; outcome = c.enter.new.outcome }) c.go-started.new.self.shelf c.self.view_is c.self.invariant.0 c.requires.ongoing (runner_wakes (log_of i) c.args.self.now i.journal.room c.args.m c.requires.needs.0 c.self.view_is c.self.invariant.0 c.requires.needs.1)
           (needs.0, needs.1, (rw c.started.ensures c.go-started.ensures.starts, c.go-started.ensures.only.channels, refl)) c.enter.ensures.entries c.enter.ensures.counts c.enter.ensures.outcome c.enter.ensures.room,
       sized_on i.limits i.goroutines c.go-started.new.self c.self.invariant.1 c.go-started.ensures.only.sizes,
     )

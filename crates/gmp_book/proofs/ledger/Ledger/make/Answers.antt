@@ -17,7 +17,7 @@ invariant_of-self-2 c =
     let i = c.self.inside in
     let runs = subst (λ (l : Log). IsRunning l.state.table c.args.g c.args.m) (sym c.self.view_is) c.requires.runs in (
       kept_on (log_of i) c.args.self.now i.journal.room c.enter.new.journal.room c.args.m (call.Make c.args.capacity) (c.in_ok-reply.reply) c.enter.new.journal.entries
-          (record (log_of i).state { table = c.make.new.self.table; channels = c.make.new.self.channels; counts = c.enter.new.journal.counts; outcome = c.enter.new.outcome }) c.self.view_is c.self.invariant.0 c.requires.ongoing (runner_wakes (log_of i) c.args.self.now i.journal.room c.args.m c.args.g c.self.view_is c.self.invariant.0 c.requires.runs)
+          (record (log_of i).state { table = c.make.new.self.table; channels = c.make.new.self.channels; counts = c.enter.new.journal.counts; outcome = c.enter.new.outcome }) c.make.new.self.shelf c.self.view_is c.self.invariant.0 c.requires.ongoing (runner_wakes (log_of i) c.args.self.now i.journal.room c.args.m c.args.g c.self.view_is c.self.invariant.0 c.requires.runs)
           (c.args.g, runs, (c.in_ok-reply.ensures.makes (log_of i).limits (sym c.self.invariant.1.channels), ap (λ v. v.table) c.in_ok-reply.ensures.table, refl)) c.enter.ensures.entries c.enter.ensures.counts c.enter.ensures.outcome c.enter.ensures.room,
       sized_on i.limits i.goroutines c.make.new.self c.self.invariant.1 (record { limit = ap (λ v. v.limit) c.in_ok-reply.ensures.table; machines = ap (λ v. v.machines) c.in_ok-reply.ensures.table }),
     )

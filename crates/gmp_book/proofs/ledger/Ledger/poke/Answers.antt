@@ -13,7 +13,7 @@ pub invariant_of-self : goal.invariant_of-self
 invariant_of-self c =
     let i = c.self.inside in (
       kept_on (log_of i) c.args.self.now i.journal.room c.enter.new.journal.room c.args.m call.Poke c.poked.result c.enter.new.journal.entries
-          (record (log_of i).state { machines = c.poke-woken.new.self; counts = c.enter.new.journal.counts; outcome = c.enter.new.outcome }) c.self.view_is c.self.invariant.0 c.requires.ongoing c.requires.needs
+          (record (log_of i).state { machines = c.poke-woken.new.self; counts = c.enter.new.journal.counts; outcome = c.enter.new.outcome }) i.goroutines.shelf c.self.view_is c.self.invariant.0 c.requires.ongoing c.requires.needs
           (rw c.poked.ensures c.poke-woken.ensures.pokes, refl, refl) c.enter.ensures.entries c.enter.ensures.counts c.enter.ensures.outcome c.enter.ensures.room,
       c.self.invariant.1,
     )

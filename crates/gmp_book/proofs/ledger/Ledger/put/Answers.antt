@@ -17,7 +17,7 @@ invariant_of-self c =
     let i = c.self.inside in
     let needs = subst (λ (l : Log). Needs c.args.m (call.Put c.args.r) l.state) (sym c.self.view_is) c.requires.needs in (
       kept_on (log_of i) c.args.self.now i.journal.room c.enter.new.journal.room c.args.m (call.Put c.args.r) (reply.Shelf) c.enter.new.journal.entries
-          (record (log_of i).state { table = c.put.new.self.table; channels = c.put.new.self.channels; counts = c.enter.new.journal.counts; outcome = c.enter.new.outcome }) c.self.view_is c.self.invariant.0 c.requires.ongoing c.requires.needs.0
+          (record (log_of i).state { table = c.put.new.self.table; channels = c.put.new.self.channels; counts = c.enter.new.journal.counts; outcome = c.enter.new.outcome }) c.put.new.self.shelf c.self.view_is c.self.invariant.0 c.requires.ongoing c.requires.needs.0
           (needs.0, (c.put.ensures.puts, c.put.ensures.only.channels, refl)) c.enter.ensures.entries c.enter.ensures.counts c.enter.ensures.outcome c.enter.ensures.room,
       sized_on i.limits i.goroutines c.put.new.self c.self.invariant.1 c.put.ensures.only.sizes,
     )

@@ -40,7 +40,7 @@ invariant_of-self c =
     let i = c.self.inside in
     let runs = subst (λ (l : Log). IsRunning l.state.table c.args.g c.args.m) (sym c.self.view_is) c.requires.runs in (
       kept_on (log_of i) c.args.self.now i.journal.room c.enter.new.journal.room c.args.m (call.Select c.args.cases.now c.args.has_default c.args.until) (c.select-reply.result) c.enter.new.journal.entries
-          (record (log_of i).state { table = c.select-reply.new.self.table; channels = c.select-reply.new.self.channels; counts = c.enter.new.journal.counts; outcome = c.enter.new.outcome }) c.self.view_is c.self.invariant.0 c.requires.ongoing (runner_wakes (log_of i) c.args.self.now i.journal.room c.args.m c.args.g c.self.view_is c.self.invariant.0 c.requires.runs)
+          (record (log_of i).state { table = c.select-reply.new.self.table; channels = c.select-reply.new.self.channels; counts = c.enter.new.journal.counts; outcome = c.enter.new.outcome }) c.select-reply.new.self.shelf c.self.view_is c.self.invariant.0 c.requires.ongoing (runner_wakes (log_of i) c.args.self.now i.journal.room c.args.m c.args.g c.self.view_is c.self.invariant.0 c.requires.runs)
           (c.select-reply.ensures.few, (c.args.g, runs, selects_in c.args.g c.args.cases.now c.args.has_default c.args.until c.select-reply.result i.goroutines c.select-reply.new.self i.machines _ _ _ _ c.select-reply.ensures.selects)) (entered c) c.enter.ensures.counts c.enter.ensures.outcome c.enter.ensures.room,
       sized_on i.limits i.goroutines c.select-reply.new.self c.self.invariant.1 c.select-reply.ensures.sizes,
     )
@@ -64,6 +64,7 @@ returns-clause-records c =
     let after : Log = record (log_of i) {
       history = c.enter.new.journal.entries;
       state = record (log_of i).state { table = c.select-reply.new.self.table; channels = c.select-reply.new.self.channels; counts = c.enter.new.journal.counts; outcome = c.enter.new.outcome };
+      shelf = c.select-reply.new.self.shelf;
     } in
     subst (λ (l : Log). Enters l c.args.m (call.Select c.args.cases.now c.args.has_default c.args.until) c.select-reply.result after) c.self.view_is
     (record {
@@ -74,5 +75,6 @@ returns-clause-records c =
         c.enter.ensures.counts,
         c.enter.ensures.outcome,
       );
+      shelf = c.select-reply.ensures.shelf;
       opened = refl;
     })

@@ -22,7 +22,7 @@ invariant_of-self c =
     let i = c.self.inside in
     let needs = subst (λ (l : Log). Needs c.args.m (call.Tick c.args.moment) l.state) (sym c.self.view_is) c.requires.needs in (
       kept_on (log_of i) c.args.self.now i.journal.room c.enter.new.journal.room c.args.m (call.Tick c.args.moment) (reply.Woke c.tick-count.result) c.enter.new.journal.entries
-          (record (log_of i).state { table = c.tick-count.new.self.table; channels = c.tick-count.new.self.channels; counts = c.enter.new.journal.counts; outcome = c.enter.new.outcome }) c.self.view_is c.self.invariant.0 c.requires.ongoing c.requires.needs
+          (record (log_of i).state { table = c.tick-count.new.self.table; channels = c.tick-count.new.self.channels; counts = c.enter.new.journal.counts; outcome = c.enter.new.outcome }) c.tick-count.new.self.shelf c.self.view_is c.self.invariant.0 c.requires.ongoing c.requires.needs
           (needs, (c.tick-count.ensures.ticks, c.tick-count.ensures.only.channels, refl)) c.enter.ensures.entries c.enter.ensures.counts c.enter.ensures.outcome c.enter.ensures.room,
       sized_on i.limits i.goroutines c.tick-count.new.self c.self.invariant.1 c.tick-count.ensures.only.sizes,
     )
