@@ -16,6 +16,7 @@ ghost use Rattle.gmp_book.specs.Replies.{acquired, taken, left, parking, poked};
 
 mod communicating;
 mod ending;
+mod pausing;
 
 use crate::ledger::{Exited, Ledger, Parking};
 use crate::opening::{Unopened, first_passes, may_open};
