@@ -88,13 +88,18 @@ fn any_moment(rt: HostRuntime) -> Result<(), Fail> {
         let report = clocked(&rt, alloc, &[0], &[&script], &moments)?;
         heard(&rt, &report, 0, &[Woke::First, Woke::Done, Woke::Late]);
         let one = Reply::Woke(1);
-        paced(&rt, &report, &[Reply::Mind(2), one, Reply::Mind(until), one]);
+        paced(
+            &rt,
+            &report,
+            &[Reply::Mind(2), one, Reply::Mind(until), one],
+        );
         shelved(&rt, &report, &[(0, 1), (0, 2), (0, 3)]);
     }
     Ok(())
 }
 
-/// Body 1 selects these until 50. At 49 main asks this, and body 1 is told that. Nothing is left of the deadline: the tick of 50 wakes nobody.
+/// Body 1 selects these until 50. At 49 main asks this, and body 1 is told that. The tick of 50 wakes nobody: nothing is left of the
+/// deadline.
 fn in_time(
     rt: &impl Abort,
     alloc: Global,
@@ -102,7 +107,13 @@ fn in_time(
     asks: Asks,
     told: Woke,
 ) -> Result<(), Fail> {
-    let main = [Asks::Go(1), Asks::Sleep(49), asks, Asks::Sleep(60), Asks::Park];
+    let main = [
+        Asks::Go(1),
+        Asks::Sleep(49),
+        asks,
+        Asks::Sleep(60),
+        Asks::Park,
+    ];
     let other = [select_until(cases, 50), Asks::Park];
     let scripts: [&[Asks]; 2] = [&main, &other];
     let report = clocked(rt, alloc, &[0, 0], &scripts, &[49, 50, 60])?;
@@ -221,8 +232,16 @@ fn done_at_once(rt: HostRuntime) -> Result<(), Fail> {
     let missing = Woke::Fault(Fault::NoSuchChannel);
     let fault = Woke::Fault(Fault::SendOnClosed);
     for (before, cases, told) in [
-        (Asks::Close(1), [sends(0, 4), recvs(0)], Woke::Chose(0, None)),
-        (Asks::Send(0, 5), [recvs(1), recvs(0)], Woke::Chose(1, Some((5, true)))),
+        (
+            Asks::Close(1),
+            [sends(0, 4), recvs(0)],
+            Woke::Chose(0, None),
+        ),
+        (
+            Asks::Send(0, 5),
+            [recvs(1), recvs(0)],
+            Woke::Chose(1, Some((5, true))),
+        ),
         (Asks::Close(1), [recvs(1), recvs(0)], zero),
         (Asks::Close(0), [recvs(1), sends(0, 4)], fault),
         (Asks::Send(0, 5), [recvs(1), recvs(2)], missing),

@@ -1,7 +1,7 @@
 //! What a machine that has nothing to do is answered beside those who sleep and those who are parked.
 use super::answers::{ends, finds_none, resumes};
 use super::calls::{
-    acquires, declares, gives_back, goes, is_over, parks, pokes, puts, reported, sleeps, ticks,
+    acquires, brings_back, declares, gives_back, goes, is_over, parks, pokes, puts, sleeps, ticks,
     waits_for_ready,
 };
 use super::reports::{heard, paced};
@@ -120,14 +120,9 @@ fn minded_by_two(rt: HostRuntime) -> Result<(), Fail> {
     ticks(&rt, &mut book, &mut first, 10, 1);
     let proc = acquires(&rt, &mut book, &mut first);
     let held = resumes(&rt, &mut book, &mut first, 0, 2, Woke::Done);
-    waits_for_ready(&rt, &mut book, &mut first, held);
-    declares(&rt, &mut book, &mut first, proc);
-    parks(&rt, &mut book, &mut second, Parking::AllAsleep);
-    first.open();
+    ends(&rt, &mut book, &mut first, held);
     second.open();
-    let report = reported(&rt, alloc, book);
-    lists(&rt, &report.bodies, &[70, 71, 72]);
-    drop(report);
+    brings_back(&rt, alloc, book, first, proc, &[70, 71, 72]);
     Ok(())
 }
 

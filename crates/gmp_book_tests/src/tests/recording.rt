@@ -1,8 +1,8 @@
 //! What each body is told, from its first answer to its last.
 use super::answers::{at, claims, ends, moves, on, resumes};
 use super::calls::{
-    cap_is, dies, goes, len_is, makes, ready_faults, receives, recv_serves, recv_waits, send_serves,
-    send_waits, sends, shuts, takes, yields,
+    cap_is, dies, goes, len_is, makes, ready_faults, receives, recv_serves, recv_waits,
+    send_serves, send_waits, sends, shuts, takes, yields,
 };
 use super::*;
 

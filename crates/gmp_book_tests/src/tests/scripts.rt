@@ -235,7 +235,7 @@ impl<'a> Play<'a> {
         self.moments = later;
     }
 
-    /// Nobody is on the shelf. Where there is a deadline to mind the machine reads the clock and takes a processor, and else all are asleep.
+    /// Nobody is on the shelf. Where there is a deadline to mind the machine reads the clock and takes a processor; else all are asleep.
     fn rests(&mut self, rt: &impl Abort, proc: Proc<u32>) -> Option<Proc<u32>> {
         accepted(rt, self.book.declare(&mut self.pass, proc));
         match made(rt, self.book.park(&mut self.pass)) {
@@ -277,8 +277,9 @@ impl<'a> Play<'a> {
             book,
             pass,
             queue,
+            word: _,
             moments,
-            ..
+            idles: _,
         } = self;
         let mut book = book;
         assert!(rt; moments.is_empty());

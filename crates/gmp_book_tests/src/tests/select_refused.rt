@@ -47,7 +47,12 @@ fn select_refused(
 ) {
     let before = marks(book, pass);
     let cases = cases_of(cases);
-    for what in [(false, None), (true, None), (false, Some(5)), (true, Some(5))] {
+    for what in [
+        (false, None),
+        (true, None),
+        (false, Some(5)),
+        (true, Some(5)),
+    ] {
         assert_eq!(rt; why(rt, book, pass, held, &cases, what), want);
         assert_eq!(rt; marks(book, pass), before);
     }

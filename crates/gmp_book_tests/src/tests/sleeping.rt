@@ -65,12 +65,7 @@ fn back(rt: HostRuntime) -> Result<(), Fail> {
 }
 
 /// Main sleeps until then. Of these moments the last wakes it, and no other.
-fn wakes_main(
-    rt: &impl Abort,
-    alloc: Global,
-    until: u64,
-    moments: &[u64],
-) -> Result<(), Fail> {
+fn wakes_main(rt: &impl Abort, alloc: Global, until: u64, moments: &[u64]) -> Result<(), Fail> {
     let script = [Asks::Sleep(until)];
     let report = clocked(rt, alloc, &[], &[&script], moments)?;
     heard(rt, &report, 0, &[Woke::First, Woke::Done]);
@@ -101,12 +96,7 @@ fn any_moment(rt: HostRuntime) -> Result<(), Fail> {
 }
 
 /// Main sleeps to the moment 50, and then until this moment: the next tick, of this moment, wakes it.
-fn waits_for_the_next(
-    rt: &impl Abort,
-    alloc: Global,
-    until: u64,
-    now: u64,
-) -> Result<(), Fail> {
+fn waits_for_the_next(rt: &impl Abort, alloc: Global, until: u64, now: u64) -> Result<(), Fail> {
     let script = [Asks::Sleep(50), Asks::Sleep(until)];
     let moments = [50, now];
     let report = clocked(rt, alloc, &[], &[&script], &moments)?;
