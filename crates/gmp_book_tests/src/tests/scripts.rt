@@ -179,7 +179,7 @@ impl<'a> Play<'a> {
         self.moved(rt, accepted(rt, moved))
     }
 
-    /// The goroutine that is held gives way, or waits for no channel.
+    /// The goroutine that is held yields, sleeps, parks or exits.
     fn stops(&mut self, rt: &impl Abort, held: Held<Player<'a>>, asks: Asks) {
         let (book, pass) = (&mut self.book, &mut self.pass);
         match asks {
