@@ -14,13 +14,18 @@ mod answers;
 mod arrivals;
 mod calls;
 mod capacities;
+mod deadlines;
+mod full_books;
 mod memory;
+mod minding;
 mod opening;
 mod order;
 mod parking;
+mod readying;
 mod recording;
 mod refusals;
-mod refusals_of_channels;
+mod refusals_of_asks;
+mod reports;
 mod rows;
 mod runs;
 mod scripts;
@@ -29,6 +34,8 @@ mod select_recording;
 mod select_refused;
 mod select_rows;
 mod select_waits;
+mod sleeping;
+mod waking_order;
 
 /// One processor and one machine.
 const SMALL: Limits = Limits {

@@ -31,11 +31,16 @@ pub(super) fn on<T>(rt: &impl Abort, answer: Answer<T>, woke: Woke) -> Held<T> {
     held
 }
 
-/// The body of this number is started, and its ticket given out.
-pub(super) fn starts<T>(rt: &impl Abort, answer: Answer<T>, g: u16) -> (Held<T>, Ticket) {
+/// Another goroutine is started or readied, and the ticket of this readiness given out.
+pub(super) fn gives<T>(
+    rt: &impl Abort,
+    answer: Answer<T>,
+    g: u16,
+    epoch: u64,
+) -> (Held<T>, Ticket) {
     let Went { held, push } = accepted(rt, answer);
     same(rt, held.woke, Woke::Done);
-    (held, with(rt, push, g, 1))
+    (held, with(rt, push, g, epoch))
 }
 
 /// The goroutine of a send or receive that didn't wait, and what was given out.

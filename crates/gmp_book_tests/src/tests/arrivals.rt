@@ -2,7 +2,7 @@
 use super::answers::{at, claims, ends, resumes};
 use super::calls::{
     brings_back, dies, gives_back_ticket, goes, is_over, puts, receives, recv_serves, recv_waits,
-    send_serves, send_waits, sends, shuts, yields,
+    send_serves, send_waits, sends, shuts, told_and_dead, yields,
 };
 use super::*;
 
@@ -126,18 +126,6 @@ fn three_wait(rt: &impl Abort, book: &mut Desk, pass: &mut Pass, main: Held<u32>
     let main = receiver_waits(rt, book, pass, main, 3, 2);
     let main = receiver_waits(rt, book, pass, main, 1, 3);
     receiver_waits(rt, book, pass, main, 2, 4)
-}
-
-/// The oldest ticket is of this readiness; its goroutine is told this, and exits.
-fn told_and_dead(
-    rt: &impl Abort,
-    book: &mut Desk,
-    pass: &mut Pass,
-    (g, epoch): (u16, u64),
-    woke: Woke,
-) {
-    let held = resumes(rt, book, pass, g, epoch, woke);
-    dies(rt, book, pass, held);
 }
 
 /// Body 4 first, and then they are told of the close.

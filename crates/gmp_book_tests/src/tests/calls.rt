@@ -1,6 +1,6 @@
 //! Calls of the book, each with what it must answer. A test is proved the sooner, the fewer calls and comparisons stand in one
 //! function.
-use super::answers::{at, closes, moves, on, serves, starts, waits};
+use super::answers::{at, closes, gives, moves, on, resumes, serves, waits};
 use super::*;
 
 /// The least idle processor.
@@ -34,6 +34,18 @@ pub(super) fn yields<T>(rt: &impl Abort, book: &mut Book<T, u32>, pass: &mut Pas
 /// A goroutine other than main exits.
 pub(super) fn dies<T>(rt: &impl Abort, book: &mut Book<T, u32>, pass: &mut Pass, held: Held<T>) {
     same(rt, accepted(rt, book.exit(pass, held)), Exited::Dead);
+}
+
+/// The oldest ticket is of this readiness; its goroutine is told this, and exits.
+pub(super) fn told_and_dead<T>(
+    rt: &impl Abort,
+    book: &mut Book<T, u32>,
+    pass: &mut Pass,
+    (g, epoch): (u16, u64),
+    woke: Woke,
+) {
+    let held = resumes(rt, book, pass, g, epoch, woke);
+    dies(rt, book, pass, held);
 }
 
 /// This machine is woken, or none is.
@@ -180,7 +192,51 @@ pub(super) fn goes<T>(
     held: Held<T>,
     g: u16,
 ) -> (Held<T>, Ticket) {
-    starts(rt, book.go(pass, held, GNo(g)), g)
+    gives(rt, book.go(pass, held, GNo(g)), g, 1)
+}
+
+/// The goroutine sleeps until then.
+pub(super) fn sleeps<T>(
+    rt: &impl Abort,
+    book: &mut Book<T, u32>,
+    pass: &mut Pass,
+    held: Held<T>,
+    until: u64,
+) {
+    accepted(rt, book.sleep(pass, held, until));
+}
+
+/// The goroutine waits for a ready.
+pub(super) fn waits_for_ready<T>(
+    rt: &impl Abort,
+    book: &mut Book<T, u32>,
+    pass: &mut Pass,
+    held: Held<T>,
+) {
+    accepted(rt, book.park_g(pass, held));
+}
+
+/// The goroutine of this readiness was parked, and its ticket is given out.
+pub(super) fn readies<T>(
+    rt: &impl Abort,
+    book: &mut Book<T, u32>,
+    pass: &mut Pass,
+    held: Held<T>,
+    (g, epoch): (u16, u64),
+) -> (Held<T>, Ticket) {
+    gives(rt, book.ready(pass, held, GNo(g)), g, epoch)
+}
+
+/// A ready of this goroutine is told the fault.
+pub(super) fn ready_faults<T>(
+    rt: &impl Abort,
+    book: &mut Book<T, u32>,
+    pass: &mut Pass,
+    held: Held<T>,
+    g: u16,
+    fault: Fault,
+) -> Held<T> {
+    on(rt, book.ready(pass, held, GNo(g)), Woke::Fault(fault))
 }
 
 /// A make is told this.

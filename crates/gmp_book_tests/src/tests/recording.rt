@@ -1,8 +1,8 @@
 //! What each body is told, from its first answer to its last.
 use super::answers::{at, claims, ends, moves, on, resumes};
 use super::calls::{
-    cap_is, dies, goes, len_is, makes, receives, recv_serves, recv_waits, send_serves, send_waits,
-    sends, shuts, takes, yields,
+    cap_is, dies, goes, len_is, makes, ready_faults, receives, recv_serves, recv_waits,
+    send_serves, send_waits, sends, shuts, takes, yields,
 };
 use super::*;
 
@@ -275,7 +275,7 @@ fn numbers(rt: HostRuntime) -> Result<(), Fail> {
     Ok(())
 }
 
-/// Main asks for what is a fault, of starts and of channels that there are not.
+/// Main asks for what is a fault, of starts, of a ready, and of channels that there are not.
 fn faults_first(
     rt: &impl Abort,
     alloc: Global,
@@ -287,6 +287,8 @@ fn faults_first(
     let main = hears(on(rt, book.go(pass, main, GNo(1)), none));
     let started = Woke::Fault(Fault::AlreadyStarted);
     let main = hears(on(rt, book.go(pass, main, GNo(0)), started));
+    let running = Fault::NotParked;
+    let main = hears(ready_faults(rt, book, pass, main, 0, running));
     let missing = Woke::Fault(Fault::NoSuchChannel);
     let main = hears(receives(rt, book, pass, main, 1, missing));
     let large = Woke::Fault(Fault::BadCapacity);
@@ -311,7 +313,7 @@ fn faults_then(
     hears(shuts(rt, book, pass, main, at(0), again, 0))
 }
 
-// Every fault but that of a goroutine that isn't parked, by its number.
+// Every fault, by its number.
 #[test]
 fn faults(rt: HostRuntime) -> Result<(), Fail> {
     let alloc = rt.alloc();
@@ -322,6 +324,7 @@ fn faults(rt: HostRuntime) -> Result<(), Fail> {
         Woke::First,
         Woke::Fault(Fault::NoSuchBody),
         Woke::Fault(Fault::AlreadyStarted),
+        Woke::Fault(Fault::NotParked),
         Woke::Fault(Fault::NoSuchChannel),
         Woke::Fault(Fault::BadCapacity),
         Woke::Fault(Fault::TooManyChannels),

@@ -1,9 +1,8 @@
-//! Runs of scripts by one machine with one processor: it takes its own tickets first, and then those on the shelf. Each body keeps what it
-//! is told.
+//! Runs of scripts by one machine with one processor: it takes its own tickets first, and then those on the shelf. Where there is a
+//! deadline to mind it reads the clock, which shows given moments. Each body keeps what it is told.
 use super::answers::at;
 use super::*;
 use gmp_base::{Case, Cases, Readiness};
-use gmp_seq::{Call, Reply};
 
 /// What a body asks.
 #[derive(Clone, Copy, Debug)]
@@ -14,8 +13,11 @@ pub(super) enum Asks {
     Send(u16, u64),
     Recv(u16),
     Close(u16),
-    /// The cases, and whether there is a default.
-    Select([Option<Case>; 8], bool),
+    /// The cases, whether there is a default, and the deadline.
+    Select([Option<Case>; 8], bool, Option<u64>),
+    Sleep(u64),
+    Park,
+    Ready(u16),
 }
 
 pub(super) fn sends(c: u16, v: u64) -> Case {
@@ -28,12 +30,22 @@ pub(super) fn recvs(c: u16) -> Case {
 
 /// A select of these cases, 8 at most, without a default.
 pub(super) fn select(cases: &[Case]) -> Asks {
-    Asks::Select(listed(cases), false)
+    Asks::Select(listed(cases), false, None)
 }
 
 /// The same with a default.
 pub(super) fn select_or_default(cases: &[Case]) -> Asks {
-    Asks::Select(listed(cases), true)
+    Asks::Select(listed(cases), true, None)
+}
+
+/// The same with a deadline.
+pub(super) fn select_until(cases: &[Case], until: u64) -> Asks {
+    Asks::Select(listed(cases), false, Some(until))
+}
+
+/// The same with both.
+pub(super) fn select_or_default_until(cases: &[Case], until: u64) -> Asks {
+    Asks::Select(listed(cases), true, Some(until))
 }
 
 fn listed(cases: &[Case]) -> [Option<Case>; 8] {
@@ -57,8 +69,8 @@ fn cases_in(list: &[Option<Case>]) -> Cases {
 pub(super) struct Player<'a> {
     script: &'a [Asks],
     asked: usize,
-    told: [Option<Woke>; 12],
-    count: usize,
+    pub(super) told: [Option<Woke>; 12],
+    pub(super) count: usize,
 }
 
 impl<'a> Player<'a> {
@@ -91,12 +103,15 @@ fn resumed(held: Held<Player>) -> (Held<Player>, Asks) {
     (Held::of(run, g, woke, body), asks)
 }
 
-/// The machine: its book, its pass, its own tickets in order, four at most, and the word of each select.
+/// The machine: its book, its pass, its own tickets in order, four at most, the word of each select, what the clock will show, and whether
+/// it has found nothing since it last had a ticket.
 struct Play<'a> {
     book: Book<Player<'a>, u32>,
     pass: Pass,
     queue: [Option<Readiness>; 4],
     word: u64,
+    moments: &'a [u64],
+    idles: bool,
 }
 
 impl<'a> Play<'a> {
@@ -119,8 +134,18 @@ impl<'a> Play<'a> {
         self.queue = [second, third, fourth, None];
         match first {
             Some(r) => Some(Ticket::of(7, r.g, r.epoch)),
-            None => made(rt, self.book.take(&mut self.pass)),
+            None => self.taken(rt),
         }
+    }
+
+    /// The oldest on the shelf. After it found nothing the machine pokes another.
+    fn taken(&mut self, rt: &impl Abort) -> Option<Ticket> {
+        let taken = made(rt, self.book.take(&mut self.pass));
+        if self.idles && taken.is_some() {
+            assert_eq!(rt; made(rt, self.book.poke(&mut self.pass)), None);
+            self.idles = false;
+        }
+        taken
     }
 
     /// The goroutine goes on. A ticket that its call gave out is pushed.
@@ -146,11 +171,25 @@ impl<'a> Play<'a> {
         held: Held<Player<'a>>,
         list: &[Option<Case>],
         has_default: bool,
+        until: Option<u64>,
     ) -> Option<Held<Player<'a>>> {
         let cases = cases_in(list);
-        let book = &mut self.book;
-        let moved = book.select(&mut self.pass, held, &cases, has_default, self.word);
+        let (book, word) = (&mut self.book, self.word);
+        let moved = book.select(&mut self.pass, held, &cases, has_default, until, word);
         self.moved(rt, accepted(rt, moved))
+    }
+
+    /// The goroutine that is held yields, sleeps, parks or exits.
+    fn stops(&mut self, rt: &impl Abort, held: Held<Player<'a>>, asks: Asks) {
+        let (book, pass) = (&mut self.book, &mut self.pass);
+        match asks {
+            Asks::Yield => accepted(rt, book.yield_to(pass, held)),
+            Asks::Sleep(until) => accepted(rt, book.sleep(pass, held, until)),
+            Asks::Park => accepted(rt, book.park_g(pass, held)),
+            _ => {
+                accepted(rt, book.exit(pass, held));
+            }
+        }
     }
 
     /// The goroutine that is held asks. It comes back where it goes on.
@@ -159,21 +198,20 @@ impl<'a> Play<'a> {
         let (book, pass) = (&mut self.book, &mut self.pass);
         let moved = match asks {
             Asks::Go(g) => Moved::On(accepted(rt, book.go(pass, held, GNo(g)))),
-            Asks::Yield => {
-                accepted(rt, book.yield_to(pass, held));
-                Moved::Waits
-            }
-            Asks::Exit => {
-                accepted(rt, book.exit(pass, held));
-                Moved::Waits
-            }
+            Asks::Ready(g) => Moved::On(accepted(rt, book.ready(pass, held, GNo(g)))),
             Asks::Send(c, v) => accepted(rt, book.send(pass, held, at(c), v)),
             Asks::Recv(c) => accepted(rt, book.recv(pass, held, at(c))),
             Asks::Close(c) => {
                 let (went, _) = accepted(rt, book.close(pass, held, at(c)));
                 Moved::On(went)
             }
-            Asks::Select(list, has_default) => return self.select(rt, held, &list, has_default),
+            Asks::Select(list, has_default, until) => {
+                return self.select(rt, held, &list, has_default, until);
+            }
+            Asks::Yield | Asks::Exit | Asks::Sleep(_) | Asks::Park => {
+                self.stops(rt, held, asks);
+                return None;
+            }
         };
         self.moved(rt, moved)
     }
@@ -190,37 +228,67 @@ impl<'a> Play<'a> {
         panic!(rt; "it asks on and on");
     }
 
-    /// Turn by turn, until nobody is ready or the run is over.
-    fn turns(&mut self, rt: &impl Abort) {
-        for _ in 0..16 {
+    /// The clock shows the next moment.
+    fn ticks(&mut self, rt: &impl Abort) {
+        let (now, later) = there(rt, self.moments.split_first());
+        made(rt, self.book.tick(&mut self.pass, *now));
+        self.moments = later;
+    }
+
+    /// Nobody is on the shelf. Where there is a deadline to mind the machine reads the clock and takes a processor; else all are asleep.
+    fn rests(&mut self, rt: &impl Abort, proc: Proc<u32>) -> Option<Proc<u32>> {
+        accepted(rt, self.book.declare(&mut self.pass, proc));
+        match made(rt, self.book.park(&mut self.pass)) {
+            Parking::Mind(_) => {}
+            Parking::AllAsleep => return None,
+            answer => panic!(rt; "{answer:?}"),
+        }
+        self.idles = true;
+        self.ticks(rt);
+        made(rt, self.book.acquire(&mut self.pass))
+    }
+
+    /// Turn by turn, until all are asleep or the run is over: the processor, where it is held.
+    fn turns(&mut self, rt: &impl Abort, proc: Proc<u32>) -> Option<Proc<u32>> {
+        let mut proc = proc;
+        for _ in 0..32 {
             if self.book.outcome().is_some() {
-                return;
+                return Some(proc);
             }
             match self.found(rt) {
                 Some(ticket) => self.turn(rt, ticket),
-                None => return,
+                None => match self.rests(rt, proc) {
+                    Some(again) => proc = again,
+                    None => return None,
+                },
             }
         }
         panic!(rt; "turns without end");
     }
 
-    /// Where the run lasts all are asleep. What is out comes in.
-    fn end(self, rt: &impl Abort, alloc: Global, proc: Proc<u32>) -> Report<Player<'a>, u32> {
+    /// The run is over. What is out comes in, and no moment is left.
+    fn end(
+        self,
+        rt: &impl Abort,
+        alloc: Global,
+        proc: Option<Proc<u32>>,
+    ) -> Report<Player<'a>, u32> {
         let Play {
             book,
             pass,
             queue,
             word: _,
+            moments,
+            idles: _,
         } = self;
-        let (mut book, mut pass) = (book, pass);
-        if book.outcome().is_some() {
-            for r in queue.iter().flatten() {
-                accepted(rt, book.surrender_ticket(Ticket::of(7, r.g, r.epoch)));
-            }
-            return report_of(rt, alloc, book, pass, proc);
+        let mut book = book;
+        assert!(rt; moments.is_empty());
+        for r in queue.iter().flatten() {
+            accepted(rt, book.surrender_ticket(Ticket::of(7, r.g, r.epoch)));
         }
-        accepted(rt, book.declare(&mut pass, proc));
-        assert_eq!(rt; made(rt, book.park(&mut pass)), Parking::AllAsleep);
+        if let Some(proc) = proc {
+            accepted(rt, book.surrender_proc(proc));
+        }
         pass.open();
         let report = accepted(rt, book.into_report());
         is_true(rt, alloc, &report);
@@ -236,6 +304,28 @@ pub(super) fn played<'a>(
     scripts: &[&'a [Asks]],
     word: u64,
 ) -> Result<Report<Player<'a>, u32>, Fail> {
+    by_clock(rt, alloc, capacities, scripts, word, &[])
+}
+
+/// The same with word 0, where the clock shows these moments.
+pub(super) fn clocked<'a>(
+    rt: &impl Abort,
+    alloc: Global,
+    capacities: &[u32],
+    scripts: &[&'a [Asks]],
+    moments: &'a [u64],
+) -> Result<Report<Player<'a>, u32>, Fail> {
+    by_clock(rt, alloc, capacities, scripts, 0, moments)
+}
+
+fn by_clock<'a>(
+    rt: &impl Abort,
+    alloc: Global,
+    capacities: &[u32],
+    scripts: &[&'a [Asks]],
+    word: u64,
+    moments: &'a [u64],
+) -> Result<Report<Player<'a>, u32>, Fail> {
     let mut bodies = Vec::new(alloc);
     for script in scripts {
         bodies.push(Player::new(script))?;
@@ -250,41 +340,9 @@ pub(super) fn played<'a>(
         pass,
         queue: [None; 4],
         word,
+        moments,
+        idles: false,
     };
-    play.turns(rt);
+    let proc = play.turns(rt, proc);
     Ok(play.end(rt, alloc, proc))
-}
-
-/// That body g was told this, and nothing else.
-pub(super) fn heard(rt: &impl Abort, report: &Report<Player, u32>, g: usize, want: &[Woke]) {
-    let body = there(rt, report.bodies.get(g));
-    assert_eq!(rt; body.count, want.len());
-    for (told, woke) in body.told.iter().zip(want.iter()) {
-        assert_eq!(rt; *told, Some(*woke));
-    }
-}
-
-/// That these are the replies to sends, receives, closes and selects.
-pub(super) fn dealt(rt: &impl Abort, report: &Report<Player, u32>, want: &[Reply]) {
-    let mut want = want.iter();
-    for entry in report.history.as_slice() {
-        if matches!(
-            entry.call,
-            Call::Send(_, _) | Call::Recv(_) | Call::Close(_) | Call::Select(_, _, _)
-        ) {
-            assert_eq!(rt; Some(&entry.reply), want.next());
-        }
-    }
-    assert_eq!(rt; want.next(), None);
-}
-
-/// That these are the entries, from main's first ask on.
-pub(super) fn entered(
-    rt: &impl Abort,
-    alloc: Global,
-    report: &Report<Player, u32>,
-    want: &[&str],
-) -> Result<(), Fail> {
-    assert_eq!(rt; report.history.len(), want.len().wrapping_add(3));
-    ends_with(rt, alloc, &report.history, want)
 }

@@ -1,5 +1,6 @@
 //! Which case a select takes of several that can proceed.
-use super::scripts::{Asks, dealt, played, recvs, select, select_or_default, sends};
+use super::reports::dealt;
+use super::scripts::{Asks, played, recvs, select, select_or_default, sends};
 use super::*;
 use gmp_base::Case;
 use gmp_seq::{Reply, Taken};

@@ -1,5 +1,6 @@
 //! What a body is told, by each way in which its select ends.
-use super::scripts::{Asks, heard, played, recvs, select, select_or_default, sends};
+use super::reports::heard;
+use super::scripts::{Asks, played, recvs, select, select_or_default, sends};
 use super::*;
 use gmp_base::Case;
 

@@ -1,5 +1,6 @@
 //! Selects that are refused: nothing is left of them.
 use super::answers::{at, ends, moves, on};
+use super::calls::ticks;
 use super::scripts::{recvs, sends};
 use super::*;
 use gmp_base::{Case, Cases};
@@ -26,15 +27,16 @@ fn why(
     pass: &mut Pass,
     (run, g): (u64, u16),
     cases: &Cases,
-    has_default: bool,
+    (has_default, until): (bool, Option<u64>),
 ) -> Refusal {
     let held = Held::of(run, GNo(g), Woke::Late, 99);
-    let (why, back) = refused(rt, book.select(pass, held, cases, has_default, 1));
+    let selected = book.select(pass, held, cases, has_default, until, 1);
+    let (why, back) = refused(rt, selected);
     assert_eq!(rt; back.open(), (run, GNo(g), Woke::Late, 99));
     why
 }
 
-/// That the select is refused so, with and without a default, and that nothing has changed then.
+/// That the select is refused so, with and without a default and a deadline, and that nothing has changed then.
 fn select_refused(
     rt: &impl Abort,
     book: &mut Desk,
@@ -45,8 +47,13 @@ fn select_refused(
 ) {
     let before = marks(book, pass);
     let cases = cases_of(cases);
-    for has_default in [false, true] {
-        assert_eq!(rt; why(rt, book, pass, held, &cases, has_default), want);
+    for what in [
+        (false, None),
+        (true, None),
+        (false, Some(5)),
+        (true, Some(5)),
+    ] {
+        assert_eq!(rt; why(rt, book, pass, held, &cases, what), want);
         assert_eq!(rt; marks(book, pass), before);
     }
 }
@@ -75,7 +82,7 @@ fn all_refused(rt: &impl Abort, book: &mut Desk, cases: &[Case]) {
     }
 }
 
-// Nothing was sent, and nobody waits: main's own select goes on as if there had been none before.
+// Nothing was sent, nobody waits, and there is no deadline: main's own select goes on as if there had been none before.
 #[test]
 fn nothing_is_left(rt: HostRuntime) -> Result<(), Fail> {
     let alloc = rt.alloc();
@@ -87,12 +94,13 @@ fn nothing_is_left(rt: HostRuntime) -> Result<(), Fail> {
     all_refused(&rt, &mut book, &[sends(1, 5), recvs(2)]);
     let held = on(&rt, book.len(&mut pass, held, at(1)), Woke::Number(0));
     let cases = cases_of(&[sends(0, 8), recvs(0), recvs(1)]);
-    let selected = book.select(&mut pass, held, &cases, true, 0);
+    ticks(&rt, &mut book, &mut pass, 5, 0);
+    let selected = book.select(&mut pass, held, &cases, true, None, 0);
     let held = moves(&rt, selected, Woke::Default);
     ends(&rt, &mut book, &mut pass, held);
     second.open();
     let report = report_of(&rt, alloc, book, pass, proc);
-    assert_eq!(rt; report.history.len(), 6);
+    assert_eq!(rt; report.history.len(), 7);
     assert_eq!(rt; report.bodies.as_slice(), [70, 71, 72].as_slice());
     Ok(())
 }

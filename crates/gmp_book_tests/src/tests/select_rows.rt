@@ -1,5 +1,6 @@
 //! Selects, entry by entry.
-use super::scripts::{Asks, entered, heard, played, recvs, select, select_or_default, sends};
+use super::reports::{entered, heard};
+use super::scripts::{Asks, played, recvs, select, select_or_default, sends};
 use super::*;
 use gmp_base::Case;
 

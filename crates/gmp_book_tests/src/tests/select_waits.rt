@@ -1,5 +1,6 @@
 //! Selects that wait, and what is left of them when they are served or closed upon.
-use super::scripts::{Asks, dealt, heard, played, recvs, select, select_or_default, sends};
+use super::reports::{dealt, heard};
+use super::scripts::{Asks, played, recvs, select, select_or_default, sends};
 use super::*;
 use gmp_base::{Case, Readiness};
 use gmp_seq::{Relay, Reply, Taken};

@@ -1,9 +1,10 @@
-//! Each refusal of the calls on channels, of `declare` and of `park`, and that nothing has changed then.
+//! Each refusal of the calls on channels, of those that sleep, park and ready, of `declare` and of `park`, and that nothing has changed
+//! then.
 use super::answers::{at, ends};
-use super::calls::{acquires, declares, gives_back_ticket, goes, is_over};
+use super::calls::{acquires, declares, gives_back_ticket, goes, is_over, ticks};
 use super::*;
 
-/// The calls that a running goroutine makes on channels.
+/// The calls that a running goroutine makes on channels, and of those that wait for none.
 #[derive(Clone, Copy, Debug)]
 enum Asked {
     Make,
@@ -12,15 +13,21 @@ enum Asked {
     Close,
     Len,
     Cap,
+    Sleep,
+    Park,
+    Ready,
 }
 
-const ALL: [Asked; 6] = [
+const ALL: [Asked; 9] = [
     Asked::Make,
     Asked::Send,
     Asked::Recv,
     Asked::Close,
     Asked::Len,
     Asked::Cap,
+    Asked::Sleep,
+    Asked::Park,
+    Asked::Ready,
 ];
 
 /// Why the call is refused, and the goroutine that comes back.
@@ -39,6 +46,9 @@ fn asks(
         Asked::Close => refused(rt, book.close(pass, held, at(1))),
         Asked::Len => refused(rt, book.len(pass, held, at(1))),
         Asked::Cap => refused(rt, book.cap(pass, held, at(1))),
+        Asked::Sleep => refused(rt, book.sleep(pass, held, 5)),
+        Asked::Park => refused(rt, book.park_g(pass, held)),
+        Asked::Ready => refused(rt, book.ready(pass, held, GNo(1))),
     }
 }
 
@@ -158,6 +168,7 @@ fn by_the_pass(rt: HostRuntime) -> Result<(), Fail> {
     let (mut book, mut pass) = small(&rt, alloc, 7)?;
     let (proc, held) = begin(&rt, &mut book, &mut pass);
     by_these_passes(&rt, alloc, &mut book);
+    ticks(&rt, &mut book, &mut pass, 5, 0);
     ends(&rt, &mut book, &mut pass, held);
     is_over(&rt, alloc, book, pass, proc);
     Ok(())
@@ -194,6 +205,7 @@ fn by_the_run(rt: HostRuntime) -> Result<(), Fail> {
     for (calls, seen) in [(3, 3), (2, 3), (3, 4)] {
         values_refused(&rt, alloc, &mut book, calls, seen);
     }
+    ticks(&rt, &mut book, &mut pass, 5, 0);
     ends(&rt, &mut book, &mut pass, held);
     is_over(&rt, alloc, book, pass, proc);
     Ok(())
@@ -224,6 +236,7 @@ fn by_another_machine(rt: HostRuntime) -> Result<(), Fail> {
     all_held_refused(&rt, alloc, &mut book, &mut second, 7, &all, want);
     let others = [1, 2, 3];
     all_held_refused(&rt, alloc, &mut book, &mut first, 7, &others, want);
+    ticks(&rt, &mut book, &mut second, 5, 0);
     ends(&rt, &mut book, &mut first, held);
     gives_back_ticket(&rt, &mut book, ticket);
     second.open();
