@@ -111,7 +111,7 @@ pub enum Parking {
     Parked,
     /// There is a goroutine on the shelf and an idle processor.
     Work,
-    /// The least deadline, in nanoseconds: nobody else can run before it.
+    /// The least deadline, in nanoseconds: one stands, and nobody is ready or running.
     Mind(u64),
     /// Nobody can ever go on, and the run is over.
     AllAsleep,
