@@ -25,7 +25,7 @@ use Rattle.gmp_seq.specs.declared.status.Transfer.{Transfer}
 use Rattle.gmp_seq.specs.declared.status.Transfer.TheVariants.{Failed, Handed, Stored, First, Relayed, Drained}
 use Rattle.gmp_seq.specs.declared.status.Wait.{Wait}
 use Rattle.gmp_seq.specs.State.{dormant, first_goroutine}
-use Rattle.gmp_seq.specs.Step.{Takes, Puts, Claims, Starts, served_by}
+use Rattle.gmp_seq.specs.Step.{Takes, Puts, Claims, Starts, Readies, served_by}
 use Rattle.gmp_seq.specs.Table.{Table, IsRunning, RunsNothing, status_at, epoch_at, is_running_on, some_status, set_status, made_ready, made_wait}
 use Rattle.gmp_seq.specs.Waits.{Channel, Proceeds, waiters}
 use Rattle.gmp_seq.proofs.Asleep.{fails_at}
@@ -36,6 +36,7 @@ use Rattle.gmp_seq.proofs.OneEach.{row_at}
 use Rattle.gmp_seq.proofs.Waiting.{first_waits}
 use Rattle.gmp_table.proofs.Listing.{slice_get-set_same, slice_get-set_other}
 use Rattle.gmp_book.specs.Kept.{AreRunners, is_runner}
+use Rattle.gmp_book.proofs.Ties.{parked_wait}
 
 -- nobody runs by this row
 abbrev pub NotRunning : Goroutine → Type 0
@@ -236,6 +237,14 @@ module _ (t : Table) (machines : ℕ) (runners : List (Option GNo)) (kept : AreR
   pub served_runners : (g : GNo) (w : Wait) (place : Place) (told : Woke) (new : Table) → status_at t g ≡ Some (status.Waiting w) → new ≡ made_ready t g place told
       → AreRunners new machines runners
   served_runners g w place told new waits is = other_ready_runners g (status.Waiting w) place told new waits (λ m e. cc) is
+
+  pub readies_runners : (k : GNo) (answer : Reply) (new : Table) → Readies k answer t new → AreRunners new machines runners
+  readies_runners k (reply.Ticket r) new (parked, ticket, is) =
+      let w = parked_wait (status_at t k) parked in
+      served_runners k w.0 Out woke.Done new w.1 is
+  readies_runners k (reply.Fault fault.NoSuchBody) new (none, is) = same_runners new (goroutines_are new t is)
+  readies_runners k (reply.Fault fault.NotParked) new (other, is) = same_runners new (goroutines_are new t is)
+  readies_runners k _ new readies = absurd readies
 
   -- a communication proceeds
   pub proceeds_runners : (old channels : List Channel) (c : Case) (how : Transfer) (new : Table) → Proceeds old (waiters t) c how channels → new ≡ served_by t c how

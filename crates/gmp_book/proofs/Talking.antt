@@ -31,7 +31,7 @@ use Rattle.gmp_seq.specs.declared.status.Status.TheVariants as status
 use Rattle.gmp_seq.specs.declared.status.Transfer.TheVariants.{Handed, Relayed}
 use Rattle.gmp_seq.specs.Machines.{Machines}
 use Rattle.gmp_seq.specs.State.{State, SameTable, SameMachines}
-use Rattle.gmp_seq.specs.Step.{Effect, Communicates, Deals, Selects, Closes, Parks}
+use Rattle.gmp_seq.specs.Step.{Effect, Communicates, Deals, Selects, Closes, Parks, Readies}
 use Rattle.gmp_seq.specs.Table.{Table, status_at, made_ready, made_wait, all_woken, woken_with, due_answer}
 use Rattle.gmp_seq.specs.Waits.{close_answer}
 use Rattle.gmp_seq.proofs.OneEach.{row_at}
@@ -40,6 +40,7 @@ use Rattle.gmp_slots.specs.Slots.{is_vacant}
 use Rattle.gmp_book.specs.Book.{is_held}
 use Rattle.gmp_book.specs.Log.{Log, Records}
 use Rattle.gmp_book.specs.Went.{bodies_by, is_wait}
+use Rattle.gmp_book.proofs.Ties.{parked_wait}
 use Rattle.gmp_book.proofs.Bodies.{is_in, set_same, vacant_at, both_set}
 use Rattle.gmp_book.proofs.Placed.{Placed, placed, same_placed, slot_placed}
 
@@ -125,6 +126,14 @@ closes_unmoved (Some c) (reply.Fault fault.CloseOfClosed) old new (made, closed,
 closes_unmoved (Some c) (reply.Fault fault.NoSuchChannel) old new (made, (is, rest, machines)) = unmoved old new is machines
 closes_unmoved None (reply.Fault fault.CloseOfNil) old new (is, rest, machines) = unmoved old new is machines
 closes_unmoved _ _ old new h = absurd h
+
+readies_in : (k : GNo) (answer : Reply) (old new : Table) → Readies k answer old new → SameIn old new
+readies_in k (reply.Ticket r) old new (parked, ticket, is) =
+    let w = parked_wait (status_at old k) parked in
+    rises_in old new k _ Out _ w.1 refl is
+readies_in k (reply.Fault fault.NoSuchBody) old new (none, is) = same_in old new is
+readies_in k (reply.Fault fault.NotParked) old new (other, is) = same_in old new is
+readies_in k _ old new h = absurd h
 
 -- the table and the holders stay
 parks_same : (m : MNo) (answer : Reply) (old new : State) → Parks m answer old new → SameTable old new × (new.machines.holders ≡ old.machines.holders)
@@ -217,6 +226,11 @@ module _ {T Q : Type 0} (old now : Log) (bodies : List (Option T)) (owners : Lis
   caps_placed c answer before after records =
       let on_channels = records.step.1.2 in channels_placed records.opened records.step.0 on_channels.1 on_channels.2
 
+  pub readies_placed : (k : GNo) (answer : Reply) (before after : Pass) → Records old before (call.Ready k) answer now after → Placed now bodies owners
+  readies_placed k answer before after records =
+      let on_table = records.step.1.2 in
+      unmoved_placed records.opened records.step.0 (readies_in k answer old.state.table now.state.table on_table.0, on_table.2)
+
   -- who asks begins to wait, by any call, and its body comes back
   pub waits_placed : (c : Call) (g : GNo) (body : T) (why : Kind) (offers : List Offer) (until : Option ℕ) (before after : Pass) → Records old before c reply.Waits now after
       → now.state.table ≡ made_wait old.state.table g why offers until → Placed now (set bodies g.0 (Some body)) owners
@@ -262,6 +276,11 @@ module _ {T Q : Type 0} (old now : Log) (bodies : List (Option T)) (owners : Lis
   ticking_placed (Err why) moment before after same records = rw same.0 kept
   ticking_placed (Ok n) moment before after same records = ticks_placed moment n before after records
 
+  pub readying_placed : (result : Result Reply Refusal) (k : GNo) (before after : Pass) → OnErr result ((now ≡ old) × (after ≡ before))
+      → IfOk result (λ answer. Records old before (call.Ready k) answer now after) → Placed now bodies owners
+  readying_placed (Err why) k before after same records = rw same.0 kept
+  readying_placed (Ok answer) k before after same records = readies_placed k answer before after records
+
   -- Calls by which the goroutine that asks may wait
 
   pub send_placed : (c : Option CNo) (v : ℕ) (answer : Reply) (held : Held T) (offers : List Offer) (before after : Pass) → Records old before (call.Send c v) answer now after
@@ -284,14 +303,14 @@ module _ {T Q : Type 0} (old now : Log) (bodies : List (Option T)) (owners : Lis
           waits_placed (call.Recv c) held.g held.body kind.Plain offers None before after (subst (λ (r : Reply). Records old before (call.Recv c) r now after) e records) (waits e)
       by_wait false is = receives_placed c answer before after (no_wait answer is) records
 
-  pub select_placed : (cases : List Case) (has_default : Bool) (answer : Reply) (held : Held T) (offers : List Offer) (before after : Pass)
-      → Records old before (call.Select cases has_default None) answer now after
-      → (answer ≡ reply.Waits → now.state.table ≡ made_wait old.state.table held.g kind.Select offers None) → Placed now (bodies_by answer held bodies) owners
-  select_placed cases has_default answer held offers before after records waits = by_wait (is_wait answer) refl
+  pub select_placed : (cases : List Case) (has_default : Bool) (until : Option ℕ) (answer : Reply) (held : Held T) (offers : List Offer) (before after : Pass)
+      → Records old before (call.Select cases has_default until) answer now after
+      → (answer ≡ reply.Waits → now.state.table ≡ made_wait old.state.table held.g kind.Select offers until) → Placed now (bodies_by answer held bodies) owners
+  select_placed cases has_default until answer held offers before after records waits = by_wait (is_wait answer) refl
     where
       by_wait : (b : Bool) → is_wait answer ≡ b → Placed now (if b then set bodies held.g.0 (Some held.body) else bodies) owners
       by_wait true is =
           let e = wait_is answer is in
-          waits_placed (call.Select cases has_default None) held.g held.body kind.Select offers None before after
-          (subst (λ (r : Reply). Records old before (call.Select cases has_default None) r now after) e records) (waits e)
-      by_wait false is = selects_placed cases has_default None answer before after (no_wait answer is) records
+          waits_placed (call.Select cases has_default until) held.g held.body kind.Select offers until before after
+          (subst (λ (r : Reply). Records old before (call.Select cases has_default until) r now after) e records) (waits e)
+      by_wait false is = selects_placed cases has_default until answer before after (no_wait answer is) records

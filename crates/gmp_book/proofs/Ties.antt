@@ -23,6 +23,7 @@ use Rattle.gmp_seq.specs.declared.call.Reply.TheVariants as reply
 use Rattle.gmp_seq.specs.declared.status.Direction.TheVariants.{Sending, Receiving}
 use Rattle.gmp_seq.specs.declared.status.Goroutine.{Goroutine}
 use Rattle.gmp_seq.specs.declared.status.Kind.{Kind}
+use Rattle.gmp_seq.specs.declared.status.Kind.TheVariants as kind
 use Rattle.gmp_seq.specs.declared.status.Offer.{Offer}
 use Rattle.gmp_seq.specs.declared.status.Place.{Place}
 use Rattle.gmp_seq.specs.declared.status.Place.TheVariants.{Shelf, Out}
@@ -33,8 +34,8 @@ use Rattle.gmp_seq.specs.declared.status.Transfer.TheVariants.{Failed, Handed, S
 use Rattle.gmp_seq.specs.declared.status.Wait.{Wait}
 use Rattle.gmp_seq.specs.declared.status.Waiter.{Waiter}
 use Rattle.gmp_seq.specs.State.{dormant, first_goroutine}
-use Rattle.gmp_seq.specs.Step.{Takes, Puts, Claims, Starts, Ticks, served_by}
-use Rattle.gmp_seq.specs.Table.{Table, IsOffShelf, IsRunning, status_at, epoch_at, is_waiting, set_status, made_ready, made_wait}
+use Rattle.gmp_seq.specs.Step.{Takes, Puts, Claims, Starts, Readies, Ticks, served_by}
+use Rattle.gmp_seq.specs.Table.{Table, IsOffShelf, IsRunning, status_at, epoch_at, is_parked, is_waiting, set_status, made_ready, made_wait}
 use Rattle.gmp_seq.specs.Waits.{Channel, Proceeds, first_on, as_waiters, first_waiters, waiters}
 use Rattle.gmp_book.specs.Served.{with_served}
 use Rattle.gmp_select.specs.Waiting.{served}
@@ -81,10 +82,12 @@ tied_ready t g place answer records bodies tied =
       same = ap (without g) tied.same ∙ sym (ready_waiters t g place answer);
       size = length-set t.goroutines g.0 y ∙ tied.size;
       early = λ h w e. tied.early h w (set_waits t.goroutines g h y w refl e);
+      bare = λ h w e. tied.bare h w (set_waits t.goroutines g h y w refl e);
     }
 
-others_stay : (t : Table) (g : GNo) (s : Status) → status_at t g ≡ Some s → is_waiting s ≡ false → without g (waiters t) ≡ waiters t
-others_stay t g s was unwaiting = filter_same (λ (w : Waiter). not (is_of g w)) (waiters t) (λ w h. by_test w h (is_of g w) refl)
+-- no record is of who offers nothing
+bare_stays : (t : Table) (g : GNo) → ((v : Wait) (o : Offer) → status_at t g ≡ Some (Waiting v) → In o v.offers → ⊥) → without g (waiters t) ≡ waiters t
+bare_stays t g none = filter_same (λ (w : Waiter). not (is_of g w)) (waiters t) (λ w h. by_test w h (is_of g w) refl)
   where
     by_test : (w : Waiter) → In w (waiters t) → (b : Bool) → is_of g w ≡ b → not (is_of g w) ≡ true
     by_test w h false e = ap not e
@@ -93,8 +96,10 @@ others_stay t g s was unwaiting = filter_same (λ (w : Waiter). not (is_of g w))
         let k : w.g.0 ≡ g.0 = eqb-true _ _ e in
         let same : w.g ≡ g = ap (λ (n : ℕ). let x : GNo = record { 0 = n } in x) k in
         let both : status_at t g ≡ Some (Waiting is.wait) = subst (λ (h : GNo). status_at t h ≡ Some (Waiting is.wait)) same is.status in
-        let it : s ≡ Waiting is.wait = cc in
-        absurd (false≢true (sym unwaiting ∙ ap is_waiting it))
+        absurd (none is.wait w.offer both is.offer)
+
+others_stay : (t : Table) (g : GNo) (s : Status) → status_at t g ≡ Some s → is_waiting s ≡ false → without g (waiters t) ≡ waiters t
+others_stay t g s was unwaiting = bare_stays t g (λ v o at within. let it : s ≡ Waiting v = cc in false≢true (sym unwaiting ∙ ap is_waiting it))
 
 -- `start`, `requeue` of one that runs: no record goes
 pub tied_started : (t : Table) (g : GNo) (s : Status) (place : Place) (answer : Woke) (records : List Waiter) (bodies : ℕ) → IsTied t records bodies
@@ -105,6 +110,7 @@ tied_started t g s place answer records bodies tied was unwaiting =
       same = tied.same ∙ (sym (others_stay t g s was unwaiting) ∙ sym (ready_waiters t g place answer));
       size = length-set t.goroutines g.0 y ∙ tied.size;
       early = λ h w e. tied.early h w (set_waits t.goroutines g h y w refl e);
+      bare = λ h w e. tied.bare h w (set_waits t.goroutines g h y w refl e);
     }
 
 -- `unshelve`, `shelve`, `claim`, `dead`, `enter`, `leave`: no record goes
@@ -116,18 +122,20 @@ tied_turned t g s after records bodies tied was unwaiting quiet =
       same = tied.same ∙ (sym (others_stay t g s was unwaiting) ∙ sym (turned_waiters t g after quiet));
       size = length-set t.goroutines g.0 y ∙ tied.size;
       early = λ h w e. tied.early h w (set_waits t.goroutines g h y w quiet e);
+      bare = λ h w e. tied.bare h w (set_waits t.goroutines g h y w quiet e);
     }
 
 -- `wait` with `wait_on`
 pub tied_wait : (t : Table) (g : GNo) (s : Status) (why : Kind) (offers : List Offer) (until : Option ℕ) (records : List Waiter) (bodies : ℕ) → IsTied t records bodies
-    → status_at t g ≡ Some s → is_waiting s ≡ false → IsTied (made_wait t g why offers until) (records ++ as_waiters g t.arrivals why offers) bodies
-tied_wait t g s why offers until records bodies tied was unwaiting =
+    → status_at t g ≡ Some s → is_waiting s ≡ false → (why ≡ kind.Parked → offers ≡ []) → IsTied (made_wait t g why offers until) (records ++ as_waiters g t.arrivals why offers) bodies
+tied_wait t g s why offers until records bodies tied was unwaiting none =
     let w : Wait = record { arrival = t.arrivals; kind = why; offers = offers; until = until } in
     let y : Goroutine = record { status = Waiting w; epoch = epoch_at t g } in
     record {
       same = ap (λ (l : List Waiter). l ++ as_waiters g t.arrivals why offers) tied.same ∙ sym (wait_waiters t g s why offers until tied.early was unwaiting);
       size = length-set t.goroutines g.0 y ∙ tied.size;
       early = λ h v e. early_now h v y w refl refl e;
+      bare = λ h v e. bare_now h v y w refl none e;
     }
   where
     early_now : (h : GNo) (v : Wait) (y : Goroutine) (w : Wait) → y.status ≡ Waiting w → w.arrival ≡ t.arrivals
@@ -137,9 +145,16 @@ tied_wait t g s why offers until records bodies tied was unwaiting =
         (λ same e. let is : w ≡ v = cc in let n : v.arrival ≡ t.arrivals = ap (λ (u : Wait). u.arrival) (sym is) ∙ now in omega arith)
         (λ e. let less = tied.early h v e in omega arith)
 
+    bare_now : (h : GNo) (v : Wait) (y : Goroutine) (w : Wait) → y.status ≡ Waiting w → (w.kind ≡ kind.Parked → w.offers ≡ [])
+        → option_map (λ (x : Goroutine). x.status) (slice_get (set t.goroutines g.0 y) h.0) ≡ Some (Waiting v) → v.kind ≡ kind.Parked → v.offers ≡ []
+    bare_now h v y w waits none =
+        at_set (λ (o : Option Goroutine). option_map (λ (x : Goroutine). x.status) o ≡ Some (Waiting v) → v.kind ≡ kind.Parked → v.offers ≡ []) t.goroutines g.0 h.0 y
+        (λ same e. let is : w ≡ v = cc in subst (λ (u : Wait). u.kind ≡ kind.Parked → u.offers ≡ []) is none)
+        (λ e. tied.bare h v e)
+
 -- The clock alone
 pub tied_clock : (t : Table) (moment : ℕ) (records : List Waiter) (bodies : ℕ) → IsTied t records bodies → IsTied (record t { clock = moment }) records bodies
-tied_clock t moment records bodies tied = record { same = tied.same; size = tied.size; early = tied.early }
+tied_clock t moment records bodies tied = record { same = tied.same; size = tied.size; early = tied.early; bare = tied.bare }
 
 -- At the opening nobody waits
 
@@ -158,7 +173,20 @@ opening_tied bodies t some is none = record {
   size = ap length is ∙ (let rest : length (replicate (bodies - 1) dormant) ≡ bodies - 1 = length-replicate (bodies - 1) dormant in omega (arith, rest, some));
   early = λ g w waits.
       absurd (opening_rows (bodies - 1) g.0 w (subst (λ (gs : List Goroutine). option_map (λ (x : Goroutine). x.status) (slice_get gs g.0) ≡ Some (Waiting w)) is waits));
+  bare = λ g w waits.
+      absurd (opening_rows (bodies - 1) g.0 w (subst (λ (gs : List Goroutine). option_map (λ (x : Goroutine). x.status) (slice_get gs g.0) ≡ Some (Waiting w)) is waits));
 }
+
+-- Who is parked
+
+parked_kind : (arrival : ℕ) (why : Kind) (offers : List Offer) (until : Option ℕ)
+    → is_parked (Waiting (record { arrival = arrival; kind = why; offers = offers; until = until })) ≡ true → why ≡ kind.Parked
+parked_kind arrival kind.Parked offers until e = refl
+parked_kind arrival _ offers until e = absurd (false≢true e)
+
+pub parked_wait : (o : Option Status) → option_map is_parked o ≡ Some true → (w : Wait) × (o ≡ Some (Waiting w)) × (w.kind ≡ kind.Parked)
+parked_wait (Some (Waiting w)) e = (w, refl, parked_kind w.arrival w.kind w.offers w.until cc)
+parked_wait _ e = absurd cc
 
 -- By what each call does to the table
 
@@ -174,6 +202,7 @@ module _ (t : Table) (records : List Waiter) (bodies : ℕ) (tied : IsTied t rec
     early = λ g w waits.
         subst (λ (n : ℕ). w.arrival < n) (sym arrivals)
         (tied.early g w (subst (λ (gs : List Goroutine). option_map (λ (x : Goroutine). x.status) (slice_get gs g.0) ≡ Some (Waiting w)) rows waits));
+    bare = λ g w waits. tied.bare g w (subst (λ (gs : List Goroutine). option_map (λ (x : Goroutine). x.status) (slice_get gs g.0) ≡ Some (Waiting w)) rows waits);
   }
 
   -- none is woken
@@ -212,6 +241,18 @@ module _ (t : Table) (records : List Waiter) (bodies : ℕ) (tied : IsTied t rec
   starts_tied k (reply.Fault fault.AlreadyStarted) new (started, is) = same_tied new is
   starts_tied k _ new starts = absurd starts
 
+  pub readies_tied : (k : GNo) (answer : Reply) (new : Table) → Readies k answer t new → IsTied new records bodies
+  readies_tied k (reply.Ticket r) new (parked, ticket, is) =
+      let w = parked_wait (status_at t k) parked in
+      let none = tied.bare k w.0 w.1 w.2 in
+      let bare : (v : Wait) (o : Offer) → status_at t k ≡ Some (Waiting v) → In o v.offers → ⊥ =
+      λ v o at within. let it : w.0 ≡ v = cc in let empty : v.offers ≡ [] = ap (λ (u : Wait). u.offers) (sym it) ∙ none in rw empty at within in
+      let same : without k records ≡ records = ap (without k) tied.same ∙ (bare_stays t k bare ∙ sym tied.same) in
+      subst (λ (l : List Waiter). IsTied new l bodies) same (served_tied k Out woke.Done new is)
+  readies_tied k (reply.Fault fault.NoSuchBody) new (none, is) = same_tied new is
+  readies_tied k (reply.Fault fault.NotParked) new (other, is) = same_tied new is
+  readies_tied k _ new readies = absurd readies
+
   -- Of goroutine g that machine m runs
 
   pub yields_tied : (m : MNo) (g : GNo) (told : Woke) (new : Table) → IsRunning t g m → new ≡ made_ready t g Shelf told → IsTied new records bodies
@@ -220,9 +261,9 @@ module _ (t : Table) (records : List Waiter) (bodies : ℕ) (tied : IsTied t rec
   pub exits_tied : (m : MNo) (g : GNo) (new : Table) → IsRunning t g m → new ≡ set_status t g Dead → IsTied new records bodies
   exits_tied m g new runs is = turns_tied g (Running m) Dead new runs refl refl is
 
-  pub waits_tied : (m : MNo) (g : GNo) (why : Kind) (offers : List Offer) (until : Option ℕ) (new : Table) → IsRunning t g m → new ≡ made_wait t g why offers until
-      → IsTied new (records ++ as_waiters g t.arrivals why offers) bodies
-  waits_tied m g why offers until new runs is = rw is (tied_wait t g (Running m) why offers until records bodies tied runs refl)
+  pub waits_tied : (m : MNo) (g : GNo) (why : Kind) (offers : List Offer) (until : Option ℕ) (new : Table) → IsRunning t g m → (why ≡ kind.Parked → offers ≡ [])
+      → new ≡ made_wait t g why offers until → IsTied new (records ++ as_waiters g t.arrivals why offers) bodies
+  waits_tied m g why offers until new runs none is = rw is (tied_wait t g (Running m) why offers until records bodies tied runs refl none)
 
   -- a communication proceeds
   pub proceeds_tied : (old channels : List Channel) (c : Case) (how : Transfer) (new : Table) → Proceeds old records c how channels → new ≡ served_by t c how

@@ -77,9 +77,9 @@ pub record ProceedsOrWaits {T : Type 0} (old : Log) (before : Pass) (call : Call
   pub moves : Moves answer held moved
 
 -- The same of a select: the case that is taken is the one that the word chooses.
-pub record ProceedsByChoice {T : Type 0} (old : Log) (before : Pass) (cases : List Case) (has_default : Bool) (word : ℕ) (held : Held T) (now : Log) (after : Pass) (moved : Moved T) : Type 0 where
+pub record ProceedsByChoice {T : Type 0} (old : Log) (before : Pass) (cases : List Case) (has_default : Bool) (until : Option ℕ) (word : ℕ) (held : Held T) (now : Log) (after : Pass) (moved : Moved T) : Type 0 where
   pub answer : Reply
-  pub records : Records old before (call.Select cases has_default None) answer now after
+  pub records : Records old before (call.Select cases has_default until) answer now after
   pub moves : Moves answer held moved
   pub choice : IsChoice old.state cases word answer
 

@@ -1,5 +1,5 @@
 //! The book.
-ghost use Rattle.std.specs.Prelude.{◌≡◌, ◌↔◌, ◌<◌, ◌++◌, [], None, Some, length, is_none, position, option_map, OnOk, OnErr, IfOk, IfErr, IfSome, IfNone, MatchOption};
+ghost use Rattle.std.specs.Prelude.{◌≡◌, ◌↔◌, ◌<◌, ◌++◌, ℕ, [], None, Some, length, is_none, position, option_map, OnOk, OnErr, IfOk, IfErr, IfSome, IfNone, MatchOption};
 ghost use Rattle.gmp_seq.specs.declared.status.Place.TheVariants.{Shelf, Out};
 ghost use Rattle.gmp_seq.specs.Fits.{AreLimits};
 ghost use Rattle.gmp_seq.specs.Machines.{is_parked};
@@ -8,7 +8,7 @@ ghost use Rattle.gmp_base.specs.declared.number.CNo.{CNo};
 ghost use Rattle.gmp_seq.specs.Channels.{items_at};
 ghost use Rattle.gmp_seq.specs.Laws.{NobodyCouldProceed};
 ghost use Rattle.gmp_seq.specs.Run.{IsLegal, sent, received};
-ghost use Rattle.gmp_seq.specs.Table.{IsAsleep, IsReady, made_ready, next_of, set_status};
+ghost use Rattle.gmp_seq.specs.Table.{IsAsleep, IsReady, made_ready, minded, next_of, set_status};
 ghost use Rattle.gmp_base.specs.Values.{readiness_of};
 ghost use Rattle.gmp_book.specs.Log.{Records};
 ghost use Rattle.gmp_book.specs.Refusals.{refusal_of, why_refused, refusal_in, by_ticket, by_held, by_proc};
@@ -16,6 +16,7 @@ ghost use Rattle.gmp_book.specs.Replies.{acquired, taken, left, parking, poked};
 
 mod communicating;
 mod ending;
+mod pausing;
 
 use crate::ledger::{Exited, Ledger, Parking};
 use crate::opening::{Unopened, first_passes, may_open};
@@ -296,6 +297,8 @@ impl<T, Q> Book<T, Q> {
         ensures err { OnErr result ((self.new ≡ self.old) × (pass.new ≡ pass.old)) }
         ensures entry { IfOk result (λ answer. Records self.old.log pass.old Call.Park (parking answer) self.new.log pass.new) }
         ensures asleep { IfOk result (λ answer. answer ≡ Parking.AllAsleep ↔ IsAsleep self.old.log.state.table) }
+        // It minds the least deadline exactly where one stands and nobody is ready or running.
+        ensures minds { IfOk result (λ answer. (until : ℕ) → answer ≡ Parking.Mind until ↔ (minded self.old.log.state.table ≡ Some until)) }
         ensures values { OnOk result (SameValues self.old self.new) }
     {
         self.ledger.try_park(pass)

@@ -2,6 +2,7 @@
 ghost use Rattle.std.specs.Prelude.{◌≡◌, ◌<◌, ◌≤◌, ◌^◌, ◌++◌, ◌∷◌, [], true, Some, List, IfOk, IfSome, IsTrue, ◌↔◌, option_copied, length, slice_get};
 ghost use Rattle.gmp_base.specs.declared.number.GNo.{GNo};
 ghost use Rattle.gmp_seq.specs.declared.call.Reply.{Reply};
+ghost use Rattle.gmp_seq.specs.declared.status.Kind.{Kind};
 ghost use Rattle.gmp_seq.specs.declared.status.Place.TheVariants.{Shelf, Out};
 ghost use Rattle.gmp_seq.specs.declared.status.Status.{Status};
 ghost use Rattle.gmp_seq.specs.Step.{Takes, Puts, Claims, Starts, Ticks};
@@ -11,6 +12,7 @@ ghost use Rattle.gmp_book.specs.Present.{OnlyTable, opening_present};
 ghost use Rattle.gmp_book.specs.Replies.{taken, started};
 
 mod communicating;
+mod pausing;
 mod selecting;
 mod serving;
 
@@ -205,6 +207,8 @@ impl Goroutines {
         requires runs { IsRunning self.old.table g m }
         requires few { self.old.table.arrivals < 2 ^ 63 }
         requires there { m.0 < self.old.machines }
+        // Who is parked offers nothing.
+        requires bare { kind ≡ Kind.Parked → offers ≡ [] }
         ensures table { self.new.table ≡ made_wait self.old.table g kind offers until }
         ensures only { OnlyTable self.old self.new }
     {

@@ -5,7 +5,7 @@ ghost use Rattle.gmp_base.specs.declared.number.CNo.{CNo};
 ghost use Rattle.gmp_base.specs.declared.number.GNo.{GNo};
 ghost use Rattle.gmp_base.specs.declared.number.PNo.{PNo};
 ghost use Rattle.gmp_base.specs.declared.number.Readiness.{Readiness};
-ghost use Rattle.gmp_seq.specs.declared.call.Call.TheVariants.{Acquire, Take, Put, Claim, Go, Yield, Exit, Make, Send, Recv, Select, Close, Len, Cap, Enter, Leave, Spin, Unspin, Declare, Bare, Park, Poke, Tick};
+ghost use Rattle.gmp_seq.specs.declared.call.Call.TheVariants.{Acquire, Take, Put, Claim, Go, Yield, Exit, Make, Send, Recv, Select, Sleep, Gopark, Ready, Close, Len, Cap, Enter, Leave, Spin, Unspin, Declare, Bare, Park, Poke, Tick};
 ghost use Rattle.gmp_seq.specs.Needs.{Needs};
 ghost use Rattle.gmp_seq.specs.Machines.{Holds, spins};
 ghost use Rattle.gmp_seq.specs.Table.{IsRunning, IsCalling, RunsNothing};
@@ -28,6 +28,9 @@ pub fn granted_where_needed()
     ensures send { (g : GNo) (c : Option CNo) (v : ℕ) → GrantedWhere (Send c v) (λ run. Held run g ∷ []) (λ s m. IsRunning s.table g m) }
     ensures recv { (g : GNo) (c : Option CNo) → GrantedWhere (Recv c) (λ run. Held run g ∷ []) (λ s m. IsRunning s.table g m) }
     ensures select { (g : GNo) (cases : List Case) (has_default : Bool) (until : Option ℕ) → GrantedWhere (Select cases has_default until) (λ run. Held run g ∷ []) (λ s m. IsRunning s.table g m) }
+    ensures sleep { (g : GNo) (until : ℕ) → GrantedWhere (Sleep until) (λ run. Held run g ∷ []) (λ s m. IsRunning s.table g m) }
+    ensures gopark { (g : GNo) → GrantedWhere Gopark (λ run. Held run g ∷ []) (λ s m. IsRunning s.table g m) }
+    ensures ready { (g h : GNo) → GrantedWhere (Ready h) (λ run. Held run g ∷ []) (λ s m. IsRunning s.table g m) }
     ensures close { (g : GNo) (c : Option CNo) → GrantedWhere (Close c) (λ run. Held run g ∷ []) (λ s m. IsRunning s.table g m) }
     ensures len { (g : GNo) (c : Option CNo) → GrantedWhere (Len c) (λ run. Held run g ∷ []) (λ s m. IsRunning s.table g m) }
     ensures cap { (g : GNo) (c : Option CNo) → GrantedWhere (Cap c) (λ run. Held run g ∷ []) (λ s m. IsRunning s.table g m) }

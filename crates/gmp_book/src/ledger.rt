@@ -15,6 +15,7 @@ ghost use Rattle.gmp_book.specs.Replies.{acquired, taken, started, left, poked};
 
 mod communicating;
 mod passing;
+mod pausing;
 mod refusing;
 mod resting;
 mod selecting;

@@ -89,8 +89,11 @@ impl<T, Q> Book<T, Q> {
         }
     }
 
-    /// Takes one of the cases that can proceed, or else the default, where there is one, or else waits for any of the cases. With no case
-    /// and no default it waits for ever.
+    /// Takes one of the cases that can proceed, or else the default, where there is one, or else waits for any of the cases. With no case,
+    /// no default and no deadline it waits for ever.
+    ///
+    /// `until` is a moment in nanoseconds of the clock that `tick` shows. Where it waits, a tick at or after that moment ends the wait:
+    /// no offer of it is left, and it is told Late. A moment that has passed waits for the next tick; with a default it is unused.
     ///
     /// Of the r cases that can proceed, in order, number `word mod r` is taken. A case that names a channel that was not made is a fault,
     /// whatever the others could do.
@@ -100,18 +103,19 @@ impl<T, Q> Book<T, Q> {
         held: Held<T>,
         cases: &Cases,
         has_default: bool,
+        until: Option<u64>,
         word: u64,
     ) -> Result<Moved<T>, Refused<Held<T>>>
-        ensures refused { why_refused result ≡ refusal_of self.old.log pass.old (Call.Select cases.now has_default None) (by_held held) }
+        ensures refused { why_refused result ≡ refusal_of self.old.log pass.old (Call.Select cases.now has_default until) (by_held held) }
         ensures back { IfErr result (λ r. r.back ≡ held) }
         ensures err { OnErr result ((self.new ≡ self.old) × (pass.new ≡ pass.old)) }
-        ensures entry { IfOk result (λ moved. ProceedsByChoice self.old.log pass.old cases.now has_default word held self.new.log pass.new moved) }
-        ensures waits { IfOk result (λ moved. moved ≡ Moved.Waits → self.new.log.state.table ≡ made_wait self.old.log.state.table held.g Kind.Select (offers_of cases.now) None) }
+        ensures entry { IfOk result (λ moved. ProceedsByChoice self.old.log pass.old cases.now has_default until word held self.new.log pass.new moved) }
+        ensures waits { IfOk result (λ moved. moved ≡ Moved.Waits → self.new.log.state.table ≡ made_wait self.old.log.state.table held.g Kind.Select (offers_of cases.now) until) }
         ensures body { IfOk result (MovesBody self.old self.new held) }
     {
         match self
             .ledger
-            .try_select(pass, held.run, held.g, cases, has_default, word)
+            .try_select(pass, held.run, held.g, cases, has_default, until, word)
         {
             Err(why) => Err(Refused { why, back: held }),
             Ok(reply) => Ok(Moved::by(&mut self.bodies, held, reply)),

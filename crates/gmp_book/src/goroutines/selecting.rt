@@ -38,34 +38,36 @@ impl Goroutines {
         choose(ready_cases(&self.channels, cases), word)
     }
 
-    /// g, which m runs, begins to wait for any of these cases.
-    fn wait_for_any(&mut self, m: MNo, g: GNo, cases: &Cases)
+    /// g, which m runs, begins to wait for any of these cases, until this moment.
+    fn wait_for_any(&mut self, m: MNo, g: GNo, cases: &Cases, until: Option<u64>)
         requires runs { IsRunning self.old.table g m }
         requires few { self.old.table.arrivals < 2 ^ 63 }
         requires there { m.0 < self.old.machines }
-        ensures table { self.new.table ≡ made_wait self.old.table g Kind.Select (offers_of cases.now) None }
+        ensures table { self.new.table ≡ made_wait self.old.table g Kind.Select (offers_of cases.now) until }
         ensures only { OnlyTable self.old self.new }
     {
         let arrival = self.table.arrivals();
         let offers = register(&mut self.channels, g, arrival, cases);
-        self.table.wait(g, Kind::Select, offers, None);
+        self.table.wait(g, Kind::Select, offers, until);
         self.runners.set(m, None);
     }
 
-    /// g, which m runs, takes one of the cases that can proceed, or else the default, where it has one, or else waits for any of them.
+    /// g, which m runs, takes one of the cases that can proceed, or else the default, where it has one, or else waits for any of
+    /// them, until this moment.
     pub(crate) fn select(
         &mut self,
         m: MNo,
         g: GNo,
         cases: &Cases,
         has_default: bool,
+        until: Option<u64>,
         word: u64,
     ) -> Reply
         requires runs { IsRunning self.old.table g m }
         requires young { (h : GNo) → epoch_at self.old.table h < 2 ^ 63 }
         requires few { self.old.table.arrivals < 2 ^ 63 }
         requires there { m.0 < self.old.machines }
-        ensures selects { Selects g cases.now has_default None result (state_of self.old) (state_of self.new) }
+        ensures selects { Selects g cases.now has_default until result (state_of self.old) (state_of self.new) }
         ensures choice { IsChoice (state_of self.old) cases.now word result }
         ensures few { length cases.now ≤ 8 }
         ensures sizes { SameSizes self.old self.new }
@@ -80,7 +82,7 @@ impl Goroutines {
             },
             None if has_default => Reply::Default,
             None => {
-                self.wait_for_any(m, g, cases);
+                self.wait_for_any(m, g, cases, until);
                 Reply::Waits
             }
         }

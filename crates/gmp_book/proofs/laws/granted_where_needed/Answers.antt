@@ -71,6 +71,24 @@ returns-clause-select c = λ g cases has_default until log pass run current. (
   λ needs. held_granted log pass run current (call.Select cases has_default until) g refl refl needs,
 )
 
+pub returns-clause-sleep : goal.returns-clause-sleep
+returns-clause-sleep c = λ g until log pass run current. (
+  λ e. held_runs log pass log.run g (allowed log pass run current (call.Sleep until) (handed.Held log.run g ∷ []) e).own,
+  λ needs. held_granted log pass run current (call.Sleep until) g refl refl needs,
+)
+
+pub returns-clause-gopark : goal.returns-clause-gopark
+returns-clause-gopark c = λ g log pass run current. (
+  λ e. held_runs log pass log.run g (allowed log pass run current call.Gopark (handed.Held log.run g ∷ []) e).own,
+  λ needs. held_granted log pass run current call.Gopark g refl refl needs,
+)
+
+pub returns-clause-ready : goal.returns-clause-ready
+returns-clause-ready c = λ g h log pass run current. (
+  λ e. held_runs log pass log.run g (allowed log pass run current (call.Ready h) (handed.Held log.run g ∷ []) e).own,
+  λ needs. held_granted log pass run current (call.Ready h) g refl refl needs,
+)
+
 pub returns-clause-close : goal.returns-clause-close
 returns-clause-close c = λ g ch log pass run current. (
   λ e. held_runs log pass log.run g (allowed log pass run current (call.Close ch) (handed.Held log.run g ∷ []) e).own,

@@ -9,4 +9,4 @@ by-requires g c = λ waits.
 pub invariant_of-self-in-Ok : goal.invariant_of-self-in-Ok
 invariant_of-self-in-Ok g c =
     rw c.by.ensures.bodies
-    (select_placed c.self.inside.ledger c.try_select.new.self c.self.inside.bodies c.self.inside.owners c.self.invariant c.args.cases.now c.args.has_default c.in-Ok.reply c.args.held _ c.args.pass.now c.try_select.new.pass c.in-Ok.ensures.records c.in-Ok.ensures.waits)
+    (select_placed c.self.inside.ledger c.try_select.new.self c.self.inside.bodies c.self.inside.owners c.self.invariant c.args.cases.now c.args.has_default c.args.until c.in-Ok.reply c.args.held _ c.args.pass.now c.try_select.new.pass c.in-Ok.ensures.records c.in-Ok.ensures.waits)

@@ -1,6 +1,6 @@
 use Rattle.std.proofs.Common.{◌∙◌, length, subst}
 use Rattle.gmp_seq.specs.declared.status.Waiter.{Waiter}
-use Rattle.gmp_seq.specs.Waits.{Proceeds, Channel}
+use Rattle.gmp_seq.specs.Waits.{Proceeds}
 use Rattle.std.proofs.Common.{List}
 use Rattle.gmp_book.proofs.Running.{proceeds_runners}
 use Rattle.gmp_book.proofs.Ties.{proceeds_tied, served_off, with_served_is}

@@ -15,6 +15,6 @@ pub invariant_of-self : goal.invariant_of-self
 invariant_of-self c =
     let i = c.self.inside in
     let runs = subst (λ (p : Present). IsRunning p.table c.args.g c.args.m) (sym c.self.view_is) c.requires.runs in (
-      rw (c.wait_on.ensures, c.arrivals.ensures) (waits_tied i.table.table i.channels.waiters i.channels.bodies c.self.invariant.0 c.args.m c.args.g c.args.kind c.args.offers c.args.until c.wait.new.self.table runs c.wait.ensures.table),
+      rw (c.wait_on.ensures, c.arrivals.ensures) (waits_tied i.table.table i.channels.waiters i.channels.bodies c.self.invariant.0 c.args.m c.args.g c.args.kind c.args.offers c.args.until c.wait.new.self.table runs c.requires.bare c.wait.ensures.table),
       rw (c.set.ensures, length-set) (waits_runners i.table.table (length i.runners) i.runners c.self.invariant.1 c.args.m c.args.g c.args.kind c.args.offers c.args.until c.wait.new.self.table runs c.wait.ensures.table),
     )

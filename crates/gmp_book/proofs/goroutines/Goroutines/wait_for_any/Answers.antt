@@ -4,7 +4,7 @@ use Rattle.gmp_seq.specs.declared.status.Kind.TheVariants as kind
 use Rattle.gmp_book.specs.Present.{Present}
 use Rattle.gmp_book.proofs.Running.{waits_runners}
 use Rattle.gmp_book.proofs.Ties.{running_has_none, waits_tied}
-use Rattle.std.proofs.Common.{None, length, length-set, subst, sym}
+use Rattle.std.proofs.Common.{length, length-set, subst, sym}
 use Rattle.gmp_book.proofs.goroutines.Goroutines.wait_for_any.Goals as goal
 
 pub register-offers-requires-clause-fresh : goal.register-offers-requires-clause-fresh
@@ -19,7 +19,7 @@ invariant_of-self c =
     let runs = subst (λ (p : Present). IsRunning p.table c.args.g c.args.m) (sym c.self.view_is) c.requires.runs in
     let table = rw c.register-offers.ensures.offers at c.wait.ensures.table in (
       rw (c.register-offers.ensures.waiters, c.arrivals-arrival.ensures)
-          (waits_tied i.table.table i.channels.waiters i.channels.bodies c.self.invariant.0 c.args.m c.args.g kind.Select (offers_of c.args.cases.now) None c.wait.new.self.table runs table),
+          (waits_tied i.table.table i.channels.waiters i.channels.bodies c.self.invariant.0 c.args.m c.args.g kind.Select (offers_of c.args.cases.now) c.args.until c.wait.new.self.table runs (λ e. cc) table),
       rw (c.set.ensures, length-set)
-          (waits_runners i.table.table (length i.runners) i.runners c.self.invariant.1 c.args.m c.args.g kind.Select (offers_of c.args.cases.now) None c.wait.new.self.table runs table),
+          (waits_runners i.table.table (length i.runners) i.runners c.self.invariant.1 c.args.m c.args.g kind.Select (offers_of c.args.cases.now) c.args.until c.wait.new.self.table runs table),
     )

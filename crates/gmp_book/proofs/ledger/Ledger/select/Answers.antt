@@ -5,7 +5,7 @@ use Rattle.gmp_book.specs.LedgerView.{log_of}
 use Rattle.gmp_book.specs.Log.{Enters, Log}
 use Rattle.gmp_seq.specs.Table.{IsRunning, made_wait}
 use Rattle.gmp_seq.specs.declared.call.Call.TheVariants as call
-use Rattle.std.proofs.Common.{◌≡◌, ◌++◌, [], ◌∷◌, None, slice_index, ap, refl, subst, sym, ◌∙◌}
+use Rattle.std.proofs.Common.{◌≡◌, ◌++◌, [], ◌∷◌, slice_index, ap, refl, subst, sym, ◌∙◌}
 use Rattle.gmp_seq.specs.declared.status.Kind.TheVariants as kind
 use Rattle.gmp_seq.specs.Waits.{offers_of}
 use Rattle.gmp_book.proofs.ledger.Ledger.select.Goals as goal
@@ -32,23 +32,23 @@ enter-requires c =
 
 -- the entry has the cases themselves
 entered : (c : goal.After-enter) → c.enter.new.journal.entries ≡ c.self.inside.journal.entries
-    ++ record { m = c.args.m; k = slice_index c.self.inside.journal.counts c.args.m.0; call = call.Select c.args.cases.now c.args.has_default None; reply = c.select-reply.result } ∷ []
+    ++ record { m = c.args.m; k = slice_index c.self.inside.journal.counts c.args.m.0; call = call.Select c.args.cases.now c.args.has_default c.args.until; reply = c.select-reply.result } ∷ []
 entered c = rw c.copied.ensures at c.enter.ensures.entries
 
 pub invariant_of-self : goal.invariant_of-self
 invariant_of-self c =
     let i = c.self.inside in
     let runs = subst (λ (l : Log). IsRunning l.state.table c.args.g c.args.m) (sym c.self.view_is) c.requires.runs in (
-      kept_on (log_of i) c.args.self.now i.journal.room c.enter.new.journal.room c.args.m (call.Select c.args.cases.now c.args.has_default None) (c.select-reply.result) c.enter.new.journal.entries
+      kept_on (log_of i) c.args.self.now i.journal.room c.enter.new.journal.room c.args.m (call.Select c.args.cases.now c.args.has_default c.args.until) (c.select-reply.result) c.enter.new.journal.entries
           (record (log_of i).state { table = c.select-reply.new.self.table; channels = c.select-reply.new.self.channels; counts = c.enter.new.journal.counts; outcome = c.enter.new.outcome }) c.self.view_is c.self.invariant.0 c.requires.ongoing (runner_wakes (log_of i) c.args.self.now i.journal.room c.args.m c.args.g c.self.view_is c.self.invariant.0 c.requires.runs)
-          (c.select-reply.ensures.few, (c.args.g, runs, selects_in c.args.g c.args.cases.now c.args.has_default None c.select-reply.result i.goroutines c.select-reply.new.self i.machines _ _ _ _ c.select-reply.ensures.selects)) (entered c) c.enter.ensures.counts c.enter.ensures.outcome c.enter.ensures.room,
+          (c.select-reply.ensures.few, (c.args.g, runs, selects_in c.args.g c.args.cases.now c.args.has_default c.args.until c.select-reply.result i.goroutines c.select-reply.new.self i.machines _ _ _ _ c.select-reply.ensures.selects)) (entered c) c.enter.ensures.counts c.enter.ensures.outcome c.enter.ensures.room,
       sized_on i.limits i.goroutines c.select-reply.new.self c.self.invariant.1 c.select-reply.ensures.sizes,
     )
 
 pub returns-clause-waits : goal.returns-clause-waits
 returns-clause-waits c = λ waits.
     let selects = rw waits at c.select-reply.ensures.selects in
-    selects.2.1 ∙ ap (λ (l : Log). made_wait l.state.table c.args.g kind.Select (offers_of c.args.cases.now) None) c.self.view_is
+    selects.2.1 ∙ ap (λ (l : Log). made_wait l.state.table c.args.g kind.Select (offers_of c.args.cases.now) c.args.until) c.self.view_is
 
 pub returns-clause-choice : goal.returns-clause-choice
 returns-clause-choice c =
@@ -65,12 +65,12 @@ returns-clause-records c =
       history = c.enter.new.journal.entries;
       state = record (log_of i).state { table = c.select-reply.new.self.table; channels = c.select-reply.new.self.channels; counts = c.enter.new.journal.counts; outcome = c.enter.new.outcome };
     } in
-    subst (λ (l : Log). Enters l c.args.m (call.Select c.args.cases.now c.args.has_default None) c.select-reply.result after) c.self.view_is
+    subst (λ (l : Log). Enters l c.args.m (call.Select c.args.cases.now c.args.has_default c.args.until) c.select-reply.result after) c.self.view_is
     (record {
       entry = entered c;
       step = (
         lasts,
-        (c.select-reply.ensures.few, (c.args.g, runs, selects_in c.args.g c.args.cases.now c.args.has_default None c.select-reply.result i.goroutines c.select-reply.new.self i.machines i.journal.counts c.enter.new.journal.counts i.outcome c.enter.new.outcome c.select-reply.ensures.selects)),
+        (c.select-reply.ensures.few, (c.args.g, runs, selects_in c.args.g c.args.cases.now c.args.has_default c.args.until c.select-reply.result i.goroutines c.select-reply.new.self i.machines i.journal.counts c.enter.new.journal.counts i.outcome c.enter.new.outcome c.select-reply.ensures.selects)),
         c.enter.ensures.counts,
         c.enter.ensures.outcome,
       );
