@@ -6,6 +6,7 @@ use Rattle.std.proofs.lemmas.List.{length-map, length-replicate}
 use Rattle.std.proofs.lemmas.Option.{slice_get_within}
 use Rattle.std.specs.Prelude.{is_none, is_some, unwrap_or}
 use Rattle.std.specs.List.{list_any}
+use Rattle.std.specs.Option.{option_map}
 use Rattle.gmp_base.specs.declared.ask.Fault.TheVariants as fault
 use Rattle.gmp_base.specs.declared.ask.Woke.{Woke}
 use Rattle.gmp_base.specs.declared.ask.Woke.TheVariants as woke
@@ -43,7 +44,7 @@ use Rattle.gmp_seq.specs.Machines.{Machines, Holds, Pokes, has_processor, set_ho
 use Rattle.gmp_seq.specs.Needs.{Needs}
 use Rattle.gmp_seq.specs.State.{dormant, first_goroutine}
 use Rattle.gmp_seq.specs.Step.{Closes, Communicates, Deals, IsUnchanged, Makes, Selects, Step, Tells, has_work, served_by, told_of}
-use Rattle.gmp_seq.specs.Table.{Table, IsRunning, RunsNothing, all_woken, due_answer, epoch_at, minded, next_of, set_status, made_ready, made_wait, some_status, status_at, is_astir, is_out, is_running_on}
+use Rattle.gmp_seq.specs.Table.{Table, IsRunning, RunsNothing, all_woken, due_answer, epoch_at, minded, next_of, set_status, made_ready, made_wait, some_status, status_at, is_astir, is_out, is_parked, is_running_on}
 use Rattle.gmp_seq.specs.Waits.{Proceeds, close_answer, waiters}
 use Rattle.gmp_seq.proofs.Epochs.{at_set}
 use Rattle.gmp_seq.proofs.Needed.{held_from}
@@ -256,6 +257,24 @@ gone_driven old new p g k (reply.Ticket r) queue capacity n step kept =
 gone_driven old new p g k (reply.Fault fault.NoSuchBody) queue capacity n step kept = let on_table = step.1.2 in going old new queue capacity n p g kept on_table.0.1 on_table.2
 gone_driven old new p g k (reply.Fault fault.AlreadyStarted) queue capacity n step kept = let on_table = step.1.2 in going old new queue capacity n p g kept on_table.0.1 on_table.2
 gone_driven old new p g k _ queue capacity n step kept = absurd step.1.2.0
+
+-- one that is parked is neither out nor runs
+parked_status : (o : Option Status) → option_map is_parked o ≡ Some true → (s : Status) × (o ≡ Some s) × (is_out s ≡ false) × (is_running_on machine s ≡ false)
+parked_status None is = absurd cc
+parked_status (Some (status.Waiting w)) is = (status.Waiting w, refl, refl, refl)
+parked_status (Some _) is = absurd cc
+
+-- one that is parked is readied, or a fault changes no goroutine
+pub ready_driven : (old new : Log) (p : PNo) (g k : GNo) (answer : Reply) (queue : List Readiness) (capacity n : ℕ) → Step old.limits machine (call.Ready k) answer old.state new.state
+    → IsDriven old queue capacity (running_one p g) n → IsDriven new (pushed capacity queue (ticket_in answer)) capacity (running_one p g) n
+ready_driven old new p g k (reply.Ticket r) queue capacity n step kept =
+    let on_table = step.1.2 in
+    let readies = on_table.0 in
+    let was = parked_status (status_at old.state.table k) readies.0 in
+    rw readies.1 (readied_driven old new p g k was.0 woke.Done queue capacity n was.1 was.2 was.3 readies.2 on_table.2 kept)
+ready_driven old new p g k (reply.Fault fault.NoSuchBody) queue capacity n step kept = let on_table = step.1.2 in going old new queue capacity n p g kept on_table.0.1 on_table.2
+ready_driven old new p g k (reply.Fault fault.NotParked) queue capacity n step kept = let on_table = step.1.2 in going old new queue capacity n p g kept on_table.0.1 on_table.2
+ready_driven old new p g k _ queue capacity n step kept = absurd step.1.2.0
 
 communicated : (old new : Log) (p : PNo) (g : GNo) (c : Case) (how : Transfer) (queue : List Readiness) (capacity n : ℕ)
     → Proceeds old.state.channels (waiters old.state.table) c how new.state.channels → new.state.table ≡ served_by old.state.table c how → new.state.machines ≡ old.state.machines

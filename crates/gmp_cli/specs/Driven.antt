@@ -70,6 +70,9 @@ call_of (ask.Close c) = call.Close c
 call_of (ask.Len c) = call.Len c
 call_of (ask.Cap c) = call.Cap c
 call_of (ask.Select cases has_default until) = call.Select cases has_default until
+call_of (ask.Sleep until) = call.Sleep until
+call_of ask.Park = call.Gopark
+call_of (ask.Ready g) = call.Ready g
 call_of _ = call.Exit
 
 -- the report tells a run that was opened so: its history is legal, and its outcome is that of the state that the history leads to
