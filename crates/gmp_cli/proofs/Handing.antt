@@ -250,15 +250,6 @@ module _ (old new : Contents Commands Unit) (before after : Pass) (queue : List 
   never_parks (parks.Mind until) (inl is) records kept = cc
   never_parks (parks.Mind until) (inr is) records kept = cc
 
-  -- where all are asleep no deadline is minded
-  pub asleep_minds : (answer : Parking) (until : ℕ) → answer ≡ parks.AllAsleep → Records old.log before call.Park (parking answer) new.log after → Drives old before queue capacity Park
-      → minded old.log.state.table ≡ Some until → ⊥
-  asleep_minds answer until is records kept minds =
-      let said = subst (λ (a : Parking). Records old.log before call.Park (parking a) new.log after) is records in
-      let answered = (at_machine call.Park reply.AllAsleep Park said kept).1.1 in
-      let stirs = park_stirs old.log queue capacity (length old.bodies) kept.driven in
-      false≢true (sym answered.1 ∙ (stirs ∙ ap is_some minds))
-
   pub tick_drives : (proc : Proc Unit) (moment n : ℕ) → Records old.log before (call.Tick moment) (reply.Woke n) new.log after → SameValues old new
       → Drives old before queue capacity (Look proc) → Drives new after queue capacity (Look proc)
   tick_drives proc moment n records same kept =

@@ -1,4 +1,6 @@
-use Rattle.gmp_cli.proofs.Handing.{asleep_minds, never_parks}
+use Rattle.std.proofs.Common.{◌≡◌}
+use Rattle.gmp_book.specs.declared.ledger.Parking.TheVariants as parks
+use Rattle.gmp_cli.proofs.Handing.{never_parks}
 use Rattle.gmp_cli.proofs.machine.Machine.park.Goals as goal
 
 pub unreachable-requires : goal.unreachable-requires
@@ -8,5 +10,8 @@ unreachable-requires c =
 pub returns-in-AllAsleep-clause-minds : goal.returns-in-AllAsleep-clause-minds
 returns-in-AllAsleep-clause-minds c = λ until. (
   λ e. cc,
-  λ minds. absurd (asleep_minds c.args.self.now.book c.park.new.self c.args.self.now.pass c.park.new.pass c.args.self.now.queue.items c.args.self.now.queue.capacity c.in-Ok.answer until c.in-AllAsleep.is c.in-Ok.ensures.entry c.requires.drives minds),
+  λ minds.
+      let asleep : c.in-Ok.answer ≡ parks.AllAsleep = c.in-AllAsleep.is in
+      let mind : c.in-Ok.answer ≡ parks.Mind until = (c.in-Ok.ensures.minds until).1 minds in
+      cc,
 )
