@@ -4,8 +4,9 @@ use Rattle.std.proofs.lemmas.Bool.{false≢true}
 use Rattle.std.proofs.lemmas.Grind.{common_steps}
 use Rattle.std.proofs.lemmas.List.{length-map, length-replicate}
 use Rattle.std.proofs.lemmas.Option.{slice_get_within}
-use Rattle.std.specs.Prelude.{is_none, unwrap_or}
+use Rattle.std.specs.Prelude.{is_none, is_some, unwrap_or}
 use Rattle.std.specs.List.{list_any}
+use Rattle.std.specs.Option.{option_map}
 use Rattle.gmp_base.specs.declared.ask.Fault.TheVariants as fault
 use Rattle.gmp_base.specs.declared.ask.Woke.{Woke}
 use Rattle.gmp_base.specs.declared.ask.Woke.TheVariants as woke
@@ -42,15 +43,15 @@ use Rattle.gmp_seq.specs.Fits.{AreLimits}
 use Rattle.gmp_seq.specs.Machines.{Machines, Holds, Pokes, has_processor, set_holder, spins, is_held_by}
 use Rattle.gmp_seq.specs.Needs.{Needs}
 use Rattle.gmp_seq.specs.State.{dormant, first_goroutine}
-use Rattle.gmp_seq.specs.Step.{Closes, Communicates, Deals, Makes, Selects, Step, Tells, served_by, told_of}
-use Rattle.gmp_seq.specs.Table.{Table, IsAsleep, IsRunning, RunsNothing, all_woken, due_answer, epoch_at, next_of, set_status, made_ready, made_wait, status_at, is_out, is_running_on}
+use Rattle.gmp_seq.specs.Step.{Closes, Communicates, Deals, IsUnchanged, Makes, Selects, Step, Tells, has_work, served_by, told_of}
+use Rattle.gmp_seq.specs.Table.{Table, IsRunning, RunsNothing, all_woken, due_answer, epoch_at, minded, next_of, set_status, made_ready, made_wait, some_status, status_at, is_astir, is_out, is_parked, is_running_on}
 use Rattle.gmp_seq.specs.Waits.{Proceeds, close_answer, waiters}
 use Rattle.gmp_seq.proofs.Epochs.{at_set}
 use Rattle.gmp_seq.proofs.Needed.{held_from}
 use Rattle.gmp_seq.proofs.Waiting.{first_waits}
 use Rattle.gmp_table.proofs.Listing.{slice_get-set_same, dormant_listing, listed_fewer, cons_listing}
 use Rattle.gmp_cli.specs.Driven.{IsDriven, AreTickets, HoldsAt, NoTicket, Stand, starting, looking, claiming, running_one, dropping, parking, machine, owners, pushed, is_elsewhere}
-use Rattle.gmp_cli.proofs.Tickets.{Turns, WakesWaiting, row_with, taken_tickets, claimed_tickets, readied_tickets, parted_tickets, same_tickets, woken_tickets, all_asleep, runs_listed, runs_nothing, first_out}
+use Rattle.gmp_cli.proofs.Tickets.{Turns, WakesWaiting, row_with, taken_tickets, claimed_tickets, readied_tickets, parted_tickets, same_tickets, woken_tickets, runs_listed, runs_nothing, first_out, stirs_by_deadline}
 
 -- what is known of the goroutines stays, where they stay
 unmoved : (old new : Log) (queue : List Readiness) (capacity n : ℕ) (from to : Stand) → IsDriven old queue capacity from n → new.state.table.goroutines ≡ old.state.table.goroutines
@@ -158,16 +159,18 @@ declare_needs log p queue capacity n kept = (runs_nothing log.state.table queue 
 pub park_needs : (log : Log) (queue : List Readiness) (capacity n : ℕ) → IsDriven log queue capacity parking n → Needs machine call.Park log.state
 park_needs log queue capacity n kept = (kept.holds.0, kept.holds.1, kept.holds.3)
 
--- nobody can go on
-pub park_asleep : (log : Log) (queue : List Readiness) (capacity n : ℕ) → IsDriven log queue capacity parking n → IsAsleep log.state.table
-park_asleep log queue capacity n kept =
+-- somebody can go on exactly where a deadline is to be minded
+pub park_stirs : (log : Log) (queue : List Readiness) (capacity n : ℕ) → IsDriven log queue capacity parking n → some_status is_astir log.state.table ≡ is_some (minded log.state.table)
+park_stirs log queue capacity n kept =
     let none = kept.none refl in
-    all_asleep log.state.table (subst (λ (q : List Readiness). AreTickets log.state.table q []) none.queue_is kept.tickets) none.shelf
+    stirs_by_deadline log.state.table (subst (λ (q : List Readiness). AreTickets log.state.table q []) none.queue_is kept.tickets) none.shelf
 
-pub parked_driven : (old new : Log) (queue : List Readiness) (capacity n : ℕ) → Step old.limits machine call.Park reply.AllAsleep old.state new.state → IsDriven old queue capacity parking n
-    → IsDriven new queue capacity starting n
-parked_driven old new queue capacity n step kept =
-    let same = step.1.1.2 in
+-- no ticket is on the shelf
+pub park_idle : (log : Log) (queue : List Readiness) (capacity n : ℕ) → IsDriven log queue capacity parking n → has_work log.state ≡ false
+park_idle log queue capacity n kept = rw (kept.none refl).shelf refl
+
+pub parked_driven : (old new : Log) (queue : List Readiness) (capacity n : ℕ) → IsUnchanged old.state new.state → IsDriven old queue capacity parking n → IsDriven new queue capacity starting n
+parked_driven old new queue capacity n same kept =
     unmoved old new queue capacity n parking starting kept (rows_are new.state.table old.state.table same.0) refl refl (λ e. cc) (rw same.2 kept.holds)
 
 -- One goroutine changes
@@ -254,6 +257,24 @@ gone_driven old new p g k (reply.Ticket r) queue capacity n step kept =
 gone_driven old new p g k (reply.Fault fault.NoSuchBody) queue capacity n step kept = let on_table = step.1.2 in going old new queue capacity n p g kept on_table.0.1 on_table.2
 gone_driven old new p g k (reply.Fault fault.AlreadyStarted) queue capacity n step kept = let on_table = step.1.2 in going old new queue capacity n p g kept on_table.0.1 on_table.2
 gone_driven old new p g k _ queue capacity n step kept = absurd step.1.2.0
+
+-- one that is parked is neither out nor runs
+parked_status : (o : Option Status) → option_map is_parked o ≡ Some true → (s : Status) × (o ≡ Some s) × (is_out s ≡ false) × (is_running_on machine s ≡ false)
+parked_status None is = absurd cc
+parked_status (Some (status.Waiting w)) is = (status.Waiting w, refl, refl, refl)
+parked_status (Some _) is = absurd cc
+
+-- one that is parked is readied, or a fault changes no goroutine
+pub ready_driven : (old new : Log) (p : PNo) (g k : GNo) (answer : Reply) (queue : List Readiness) (capacity n : ℕ) → Step old.limits machine (call.Ready k) answer old.state new.state
+    → IsDriven old queue capacity (running_one p g) n → IsDriven new (pushed capacity queue (ticket_in answer)) capacity (running_one p g) n
+ready_driven old new p g k (reply.Ticket r) queue capacity n step kept =
+    let on_table = step.1.2 in
+    let readies = on_table.0 in
+    let was = parked_status (status_at old.state.table k) readies.0 in
+    rw readies.1 (readied_driven old new p g k was.0 woke.Done queue capacity n was.1 was.2 was.3 readies.2 on_table.2 kept)
+ready_driven old new p g k (reply.Fault fault.NoSuchBody) queue capacity n step kept = let on_table = step.1.2 in going old new queue capacity n p g kept on_table.0.1 on_table.2
+ready_driven old new p g k (reply.Fault fault.NotParked) queue capacity n step kept = let on_table = step.1.2 in going old new queue capacity n p g kept on_table.0.1 on_table.2
+ready_driven old new p g k _ queue capacity n step kept = absurd step.1.2.0
 
 communicated : (old new : Log) (p : PNo) (g : GNo) (c : Case) (how : Transfer) (queue : List Readiness) (capacity n : ℕ)
     → Proceeds old.state.channels (waiters old.state.table) c how new.state.channels → new.state.table ≡ served_by old.state.table c how → new.state.machines ≡ old.state.machines
@@ -374,11 +395,11 @@ pub exited_driven : (old new : Log) (p : PNo) (g : GNo) (e : Exited) (queue : Li
 exited_driven old new p g e queue capacity n step is kept =
     parted old new p g _ queue capacity n (rows_are new.state.table (set_status old.state.table g status.Dead) is) refl refl refl step.1.2.2 kept
 
-pub waited_driven : (old new : Log) (p : PNo) (g : GNo) (why : Kind) (offers : List Offer) (queue : List Readiness) (capacity n : ℕ)
-    → new.state.table ≡ made_wait old.state.table g why offers None → new.state.machines ≡ old.state.machines → IsDriven old queue capacity (running_one p g) n
+pub waited_driven : (old new : Log) (p : PNo) (g : GNo) (why : Kind) (offers : List Offer) (until : Option ℕ) (queue : List Readiness) (capacity n : ℕ)
+    → new.state.table ≡ made_wait old.state.table g why offers until → new.state.machines ≡ old.state.machines → IsDriven old queue capacity (running_one p g) n
     → IsDriven new queue capacity (looking p) n
-waited_driven old new p g why offers queue capacity n is machines kept =
-    parted old new p g _ queue capacity n (rows_are new.state.table (made_wait old.state.table g why offers None) is) refl refl refl machines kept
+waited_driven old new p g why offers until queue capacity n is machines kept =
+    parted old new p g _ queue capacity n (rows_are new.state.table (made_wait old.state.table g why offers until) is) refl refl refl machines kept
 
 -- The opening
 
@@ -417,15 +438,16 @@ opening_driven run limits n capacities within =
 
 -- The clock
 
-pub ticked_driven : (old new : Log) (p : PNo) (moment n' : ℕ) (queue : List Readiness) (capacity n : ℕ) → Step old.limits machine (call.Tick moment) (reply.Woke n') old.state new.state
-    → IsDriven old queue capacity (looking p) n → IsDriven new queue capacity (looking p) n
-ticked_driven old new p moment n' queue capacity n step kept =
+-- a tick wakes those who wait, onto the shelf
+pub ticked_driven : (old new : Log) (at : Stand) (moment n' : ℕ) (queue : List Readiness) (capacity n : ℕ) → at.idle ≡ false → Step old.limits machine (call.Tick moment) (reply.Woke n') old.state new.state
+    → IsDriven old queue capacity at n → IsDriven new queue capacity at n
+ticked_driven old new at moment n' queue capacity n busy step kept =
     let on_table = step.1.1 in
     let due = max old.state.table.clock moment in
     let rows : new.state.table.goroutines ≡ (all_woken (due_answer due) old.state.table).goroutines = ap (λ (t : Table). t.goroutines) on_table.0.0 in
     record {
-      tickets = woken_tickets (due_answer due) (due_wakes due) old.state.table new.state.table queue [] rows kept.tickets;
-      none = λ e. cc;
+      tickets = woken_tickets (due_answer due) (due_wakes due) old.state.table new.state.table (at.hand ++ queue) at.running rows kept.tickets;
+      none = λ e. absurd (false≢true (sym busy ∙ e));
       stock = ap length rows ∙ (length-map old.state.table.goroutines _ ∙ kept.stock);
       room = kept.room;
       holds = rw on_table.2 kept.holds;

@@ -1,10 +1,10 @@
 -- What the machine holds is the book's, call by call.
-use Rattle.std.proofs.Common.{◌≡◌, ℕ, zero, suc, ◌+◌, ◌<◌, ◌≤◌, Bool, true, false, List, [], ◌∷◌, Option, Some, None, length, length-set, map, replicate, set, slice_get, slice_index, is_some, refl, sym, ◌∙◌, ap, subst, arith}
-use Rattle.std.proofs.lemmas.Bool.{and_parts}
+use Rattle.std.proofs.Common.{◌≡◌, ℕ, zero, suc, ◌+◌, ◌<◌, ◌≤◌, Bool, true, false, List, [], ◌∷◌, Option, Some, None, length, length-set, map, replicate, set, slice_get, slice_index, is_some, inl, inr, refl, sym, ◌∙◌, ap, subst, arith}
+use Rattle.std.proofs.lemmas.Bool.{and_parts, false≢true}
 use Rattle.std.proofs.lemmas.Grind.{common_steps}
 use Rattle.std.proofs.lemmas.List.{get_or-set_same, length-map, length-replicate}
 use Rattle.std.specs.Option.{option_map}
-use Rattle.std.specs.Prelude.{◌↔◌, IfSome, MatchOption}
+use Rattle.std.specs.Prelude.{◌⊎◌, IfSome, MatchOption}
 use Rattle.gmp_base.specs.declared.cases.Case.{Case}
 use Rattle.gmp_base.specs.declared.cases.Case.TheVariants as case
 use Rattle.gmp_base.specs.declared.number.CNo.{CNo}
@@ -19,7 +19,7 @@ use Rattle.gmp_base.specs.declared.value.Ticket.{Ticket}
 use Rattle.gmp_base.specs.Values.{readiness_of}
 use Rattle.gmp_book.specs.declared.ledger.Exited.{Exited}
 use Rattle.gmp_book.specs.declared.ledger.Parking.{Parking}
-use Rattle.gmp_book.specs.declared.ledger.Parking.TheVariants.{AllAsleep}
+use Rattle.gmp_book.specs.declared.ledger.Parking.TheVariants as parks
 use Rattle.gmp_book.specs.declared.went.Moved.{Moved}
 use Rattle.gmp_book.specs.declared.went.Moved.TheVariants.{On, Waits}
 use Rattle.gmp_book.proofs.Bodies.{all_filled-map}
@@ -35,7 +35,6 @@ use Rattle.gmp_book.specs.Went.{is_wait, ticket_in}
 use Rattle.gmp_seq.specs.declared.call.Call.{Call}
 use Rattle.gmp_seq.specs.declared.call.Call.TheVariants as call
 use Rattle.gmp_seq.specs.declared.call.Limits.{Limits}
-use Rattle.gmp_seq.specs.declared.call.Outcome.TheVariants as outcome
 use Rattle.gmp_seq.specs.declared.call.Reply.{Reply}
 use Rattle.gmp_seq.specs.declared.call.Reply.TheVariants as reply
 use Rattle.gmp_seq.specs.declared.status.Kind.{Kind}
@@ -46,13 +45,13 @@ use Rattle.gmp_seq.specs.declared.status.Status.TheVariants as status
 use Rattle.gmp_seq.specs.Machines.{Holds, spins}
 use Rattle.gmp_seq.specs.Needs.{Needs}
 use Rattle.gmp_seq.specs.Step.{Step}
-use Rattle.gmp_seq.specs.Table.{IsAsleep, RunsNothing, is_outstanding, made_ready, made_wait, set_status}
+use Rattle.gmp_seq.specs.Table.{RunsNothing, is_outstanding, made_ready, made_wait, minded, set_status}
 use Rattle.gmp_slots.specs.Slots.{is_vacant, all_filled}
 use Rattle.gmp_cli.specs.declared.machine.Hand.{Hand}
-use Rattle.gmp_cli.specs.declared.machine.Hand.TheVariants.{Start, Look, Claim, Drop, Park, Poke, Run}
-use Rattle.gmp_cli.specs.Driven.{Drives, GoesOn, IsDriven, IsLatest, LacksOne, machine, looking, pushed, running_one}
+use Rattle.gmp_cli.specs.declared.machine.Hand.TheVariants.{Start, Look, Claim, Drop, Park, Mind, Poke, Run}
+use Rattle.gmp_cli.specs.Driven.{Drives, GoesOn, IsDriven, IsLatest, LacksOne, machine, looking, pushed, running_one, starting}
 use Rattle.gmp_cli.specs.Script.{Commands}
-use Rattle.gmp_cli.proofs.Driving.{opening_driven, started_driven, taken_driven, none_driven, claimed_driven, poked_driven, poked_on, declared_driven, declare_needs, park_asleep, parked_driven, ticked_driven, gone_driven, made_driven, dealt_driven, closed_driven, selected_driven, len_driven, cap_driven, waited_driven, yielded_driven, exited_driven, claim_needs}
+use Rattle.gmp_cli.proofs.Driving.{opening_driven, started_driven, taken_driven, none_driven, claimed_driven, poked_driven, poked_on, declared_driven, declare_needs, park_idle, park_stirs, ticked_driven, gone_driven, ready_driven, made_driven, dealt_driven, closed_driven, selected_driven, len_driven, cap_driven, waited_driven, yielded_driven, exited_driven, claim_needs}
 use Rattle.gmp_cli.proofs.Tickets.{first_out}
 
 -- Slots
@@ -236,30 +235,41 @@ module _ (old new : Contents Commands Unit) (before after : Pass) (queue : List 
         owners = rw back.owners (kept.owners.rest proc.owner);
       }
 
-  pub park_drives : (answer : Parking) → Records old.log before call.Park (parking answer) new.log after → (answer ≡ AllAsleep ↔ IsAsleep old.log.state.table) → SameValues old new
-      → Drives old before queue capacity Park → Drives new after queue capacity Start × (new.log.state.outcome ≡ Some outcome.AllAsleep)
-  park_drives answer records asleep same kept =
-      let is = asleep.1 (park_asleep old.log queue capacity (length old.bodies) kept.driven) in
-      let said = subst (λ (a : Parking). Records old.log before call.Park (parking a) new.log after) is records in
-      let step = at_machine call.Park reply.AllAsleep Park said kept in (
-        record {
-          driven = rw same.bodies (parked_driven old.log new.log queue capacity (length old.bodies) step kept.driven);
-          latest = latest_on old.log new.log before after call.Park reply.AllAsleep said kept.latest;
-          run = tt;
-          bodies = rw same.bodies kept.bodies;
-          owners = rw same.owners kept.owners;
-        },
-        step.3,
-      )
+  -- nobody else can wake it, so it is answered by a deadline, or that all are asleep
+  pub never_parks : (answer : Parking) → (answer ≡ parks.Parked) ⊎ (answer ≡ parks.Work) → Records old.log before call.Park (parking answer) new.log after → Drives old before queue capacity Park → ⊥
+  never_parks parks.Parked is records kept =
+      let answered = (at_machine call.Park reply.Parked Park records kept).1.1 in
+      let stirs = park_stirs old.log queue capacity (length old.bodies) kept.driven in
+      let minds : is_some (minded old.log.state.table) ≡ false = ap is_some answered.2 in
+      false≢true (sym minds ∙ (sym stirs ∙ answered.1))
+  never_parks parks.Work is records kept =
+      let answered = (at_machine call.Park reply.Work Park records kept).1.1 in
+      false≢true (sym (park_idle old.log queue capacity (length old.bodies) kept.driven) ∙ answered.0)
+  never_parks parks.AllAsleep (inl is) records kept = cc
+  never_parks parks.AllAsleep (inr is) records kept = cc
+  never_parks (parks.Mind until) (inl is) records kept = cc
+  never_parks (parks.Mind until) (inr is) records kept = cc
 
   pub tick_drives : (proc : Proc Unit) (moment n : ℕ) → Records old.log before (call.Tick moment) (reply.Woke n) new.log after → SameValues old new
       → Drives old before queue capacity (Look proc) → Drives new after queue capacity (Look proc)
   tick_drives proc moment n records same kept =
       let step = at_machine (call.Tick moment) (reply.Woke n) (Look proc) records kept in
       record {
-        driven = rw same.bodies (ticked_driven old.log new.log proc.p moment n queue capacity (length old.bodies) step kept.driven);
+        driven = rw same.bodies (ticked_driven old.log new.log (looking proc.p) moment n queue capacity (length old.bodies) refl step kept.driven);
         latest = latest_on old.log new.log before after (call.Tick moment) (reply.Woke n) records kept.latest;
         run = same_run (call.Tick moment) (reply.Woke n) records proc.run kept.run;
+        bodies = rw same.bodies kept.bodies;
+        owners = rw same.owners kept.owners;
+      }
+
+  pub mind_drives : (until moment n : ℕ) → Records old.log before (call.Tick moment) (reply.Woke n) new.log after → SameValues old new
+      → Drives old before queue capacity (Mind until) → Drives new after queue capacity Start
+  mind_drives until moment n records same kept =
+      let step = at_machine (call.Tick moment) (reply.Woke n) (Mind until) records kept in
+      record {
+        driven = rw same.bodies (ticked_driven old.log new.log starting moment n queue capacity (length old.bodies) refl step kept.driven);
+        latest = latest_on old.log new.log before after (call.Tick moment) (reply.Woke n) records kept.latest;
+        run = tt;
         bodies = rw same.bodies kept.bodies;
         owners = rw same.owners kept.owners;
       }
@@ -353,6 +363,12 @@ module _ (old new : Contents Commands Unit) (before after : Pass) (queue : List 
       went_drives proc held w (call.Go k) went.answer went.records went.goes same
       (gone_driven old.log new.log proc.p held.g k went.answer queue capacity (length old.bodies) (at_machine (call.Go k) went.answer (Run proc held) went.records kept) kept.driven) kept
 
+  pub ready_drives : (proc : Proc Unit) (held : Held Commands) (w : Went Commands) (k : GNo) → by.Proceeds old.log before (call.Ready k) held new.log after w → SameValues old new
+      → Drives old before queue capacity (Run proc held) → Drives new after (pushed capacity queue (option_map readiness_of w.push)) capacity (Run proc w.held)
+  ready_drives proc held w k went same kept =
+      went_drives proc held w (call.Ready k) went.answer went.records went.goes same
+      (ready_driven old.log new.log proc.p held.g k went.answer queue capacity (length old.bodies) (at_machine (call.Ready k) went.answer (Run proc held) went.records kept) kept.driven) kept
+
   pub make_drives : (proc : Proc Unit) (held : Held Commands) (w : Went Commands) (room : ℕ) → by.Proceeds old.log before (call.Make room) held new.log after w → SameValues old new
       → Drives old before queue capacity (Run proc held) → Drives new after (pushed capacity queue (option_map readiness_of w.push)) capacity (Run proc w.held)
   make_drives proc held w room went same kept =
@@ -401,46 +417,52 @@ module _ (old new : Contents Commands Unit) (before after : Pass) (queue : List 
       (dealt_driven old.log new.log proc.p held.g step.1.0 (case.Recv c) went.answer queue capacity (length old.bodies) step.1.2 moves.0 kept.driven) kept
 
   -- what a select says of itself, without the word
-  by_some_choice : (held : Held Commands) (cases : List Case) (has_default : Bool) (word : ℕ) (moved : Moved Commands)
-      → by.ProceedsByChoice old.log before cases has_default word held new.log after moved → by.ProceedsOrWaits old.log before (call.Select cases has_default None) held new.log after moved
-  by_some_choice held cases has_default word moved went = record { answer = went.answer; records = went.records; moves = went.moves }
+  by_some_choice : (held : Held Commands) (cases : List Case) (has_default : Bool) (until : Option ℕ) (word : ℕ) (moved : Moved Commands)
+      → by.ProceedsByChoice old.log before cases has_default until word held new.log after moved → by.ProceedsOrWaits old.log before (call.Select cases has_default until) held new.log after moved
+  by_some_choice held cases has_default until word moved went = record { answer = went.answer; records = went.records; moves = went.moves }
 
-  pub select_drives : (proc : Proc Unit) (held : Held Commands) (moved : Moved Commands) (w : Went Commands) (cases : List Case) (has_default : Bool) (word : ℕ) → moved ≡ On w
-      → by.ProceedsByChoice old.log before cases has_default word held new.log after moved → by.MovesBody old new held moved → Drives old before queue capacity (Run proc held)
+  pub select_drives : (proc : Proc Unit) (held : Held Commands) (moved : Moved Commands) (w : Went Commands) (cases : List Case) (has_default : Bool) (until : Option ℕ) (word : ℕ) → moved ≡ On w
+      → by.ProceedsByChoice old.log before cases has_default until word held new.log after moved → by.MovesBody old new held moved → Drives old before queue capacity (Run proc held)
       → Drives new after (pushed capacity queue (option_map readiness_of w.push)) capacity (Run proc w.held)
-  select_drives proc held moved w cases has_default word is went same kept =
+  select_drives proc held moved w cases has_default until word is went same kept =
       let moves = subst (λ (m : Moved Commands). by.Moves went.answer held m) is went.moves in
       let values = subst (λ (m : Moved Commands). by.MovesBody old new held m) is same in
-      let asked = call.Select cases has_default None in
+      let asked = call.Select cases has_default until in
       let step = at_machine asked went.answer (Run proc held) went.records kept in
       let selects = step.1.1 in
       went_drives proc held w asked went.answer went.records moves.1 values
-      (selected_driven old.log new.log proc.p held.g selects.0 cases has_default None went.answer queue capacity (length old.bodies) selects.2 moves.0 kept.driven) kept
+      (selected_driven old.log new.log proc.p held.g selects.0 cases has_default until went.answer queue capacity (length old.bodies) selects.2 moves.0 kept.driven) kept
+
+  -- The goroutine waits
 
   -- a wait leaves the machines
-  pub wait_drives : (proc : Proc Unit) (held : Held Commands) (moved : Moved Commands) (asked : Call) (why : Kind) (offers : List Offer) → moved ≡ Waits
-      → by.ProceedsOrWaits old.log before asked held new.log after moved → by.MovesBody old new held moved
-      → (moved ≡ Waits → new.log.state.table ≡ made_wait old.log.state.table held.g why offers None) → Drives old before queue capacity (Run proc held)
-      → Drives new after queue capacity (Look proc)
-  wait_drives proc held moved asked why offers is went same waits kept =
-      let answer : went.answer ≡ reply.Waits = subst (λ (m : Moved Commands). by.Moves went.answer held m) is went.moves in
-      let back : TakesBack old new held = subst (λ (m : Moved Commands). by.MovesBody old new held m) is same in
-      let records = subst (λ (r : Reply). Records old.log before asked r new.log after) answer went.records in
+  pub wait_drives : (proc : Proc Unit) (held : Held Commands) (asked : Call) (why : Kind) (offers : List Offer) (until : Option ℕ) → Records old.log before asked reply.Waits new.log after
+      → new.log.state.table ≡ made_wait old.log.state.table held.g why offers until → TakesBack old new held → Drives old before queue capacity (Run proc held) → Drives new after queue capacity (Look proc)
+  wait_drives proc held asked why offers until records waits back kept =
       let machines = waits_machines old.log.limits before.m asked old.log.state new.log.state records.step.1 in
       record {
-        driven = rw (back.bodies, length-set old.bodies held.g.0 (Some held.body)) (waited_driven old.log new.log proc.p held.g why offers queue capacity (length old.bodies) (waits is) machines kept.driven);
+        driven = rw (back.bodies, length-set old.bodies held.g.0 (Some held.body)) (waited_driven old.log new.log proc.p held.g why offers until queue capacity (length old.bodies) waits machines kept.driven);
         latest = latest_on old.log new.log before after asked reply.Waits records kept.latest;
         run = same_run asked reply.Waits records proc.run kept.run.0;
         bodies = rw back.bodies (kept.bodies.rest held.body);
         owners = rw back.owners kept.owners;
       }
 
-  pub select_wait_drives : (proc : Proc Unit) (held : Held Commands) (moved : Moved Commands) (cases : List Case) (has_default : Bool) (word : ℕ) (offers : List Offer) → moved ≡ Waits
-      → by.ProceedsByChoice old.log before cases has_default word held new.log after moved → by.MovesBody old new held moved
-      → (moved ≡ Waits → new.log.state.table ≡ made_wait old.log.state.table held.g kind.Select offers None) → Drives old before queue capacity (Run proc held)
+  pub deal_wait_drives : (proc : Proc Unit) (held : Held Commands) (moved : Moved Commands) (asked : Call) (why : Kind) (offers : List Offer) (until : Option ℕ) → moved ≡ Waits
+      → by.ProceedsOrWaits old.log before asked held new.log after moved → by.MovesBody old new held moved
+      → (moved ≡ Waits → new.log.state.table ≡ made_wait old.log.state.table held.g why offers until) → Drives old before queue capacity (Run proc held)
       → Drives new after queue capacity (Look proc)
-  select_wait_drives proc held moved cases has_default word offers is went same waits kept =
-      wait_drives proc held moved (call.Select cases has_default None) kind.Select offers is (by_some_choice held cases has_default word moved went) same waits kept
+  deal_wait_drives proc held moved asked why offers until is went same waits kept =
+      let answer : went.answer ≡ reply.Waits = subst (λ (m : Moved Commands). by.Moves went.answer held m) is went.moves in
+      let back : TakesBack old new held = subst (λ (m : Moved Commands). by.MovesBody old new held m) is same in
+      wait_drives proc held asked why offers until (subst (λ (r : Reply). Records old.log before asked r new.log after) answer went.records) (waits is) back kept
+
+  pub select_wait_drives : (proc : Proc Unit) (held : Held Commands) (moved : Moved Commands) (cases : List Case) (has_default : Bool) (until : Option ℕ) (word : ℕ) (offers : List Offer) → moved ≡ Waits
+      → by.ProceedsByChoice old.log before cases has_default until word held new.log after moved → by.MovesBody old new held moved
+      → (moved ≡ Waits → new.log.state.table ≡ made_wait old.log.state.table held.g kind.Select offers until) → Drives old before queue capacity (Run proc held)
+      → Drives new after queue capacity (Look proc)
+  select_wait_drives proc held moved cases has_default until word offers is went same waits kept =
+      deal_wait_drives proc held moved (call.Select cases has_default until) kind.Select offers until is (by_some_choice held cases has_default until word moved went) same waits kept
 
 -- The opening
 

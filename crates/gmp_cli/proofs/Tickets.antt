@@ -1,5 +1,5 @@
 -- The tickets that are out, and who runs, where one goroutine changes.
-use Rattle.std.proofs.Common.{◌≡◌, ℕ, zero, suc, ◌+◌, ◌≤◌, ◌==◌, Bool, true, false, not, ◌||◌, List, [], ◌∷◌, ◌++◌, Option, Some, None, map, set, slice_get, refl, sym, ◌∙◌, ap, arith}
+use Rattle.std.proofs.Common.{◌≡◌, ℕ, zero, suc, ◌+◌, ◌≤◌, ◌==◌, Bool, true, false, not, ◌||◌, List, [], ◌∷◌, ◌++◌, Option, Some, None, is_some, map, set, slice_get, refl, sym, ◌∙◌, ap, arith}
 use Rattle.std.proofs.lemmas.Bool.{false≢true}
 use Rattle.std.proofs.lemmas.Bool.Decides.{nat_tests}
 use Rattle.std.proofs.lemmas.List.{map-append}
@@ -17,10 +17,10 @@ use Rattle.gmp_seq.specs.declared.status.Place.TheVariants.{Shelf, Out}
 use Rattle.gmp_seq.specs.declared.status.Status.{Status}
 use Rattle.gmp_seq.specs.declared.status.Status.TheVariants as status
 use Rattle.gmp_seq.specs.Step.{Takes, Claims}
-use Rattle.gmp_seq.specs.Table.{Table, IsAsleep, IsRunning, RunsNothing, all_woken, status_at, epoch_at, made_ready, next_of, some_status, is_astir, is_out, is_shelved, is_running_on, is_waiting, woken_with}
+use Rattle.gmp_seq.specs.Table.{Table, IsRunning, RunsNothing, all_woken, deadline_of, earlier, least_of, minded, status_at, epoch_at, made_ready, next_of, some_status, is_astir, is_out, is_ready_or_running, is_shelved, is_running_on, is_waiting, woken_with}
 use Rattle.gmp_seq.specs.Needs.{IsOut}
 use Rattle.gmp_table.specs.Kept.{tally, times, passes_at, count_status, IsListing}
-use Rattle.gmp_table.proofs.Listing.{slice_get-set_same, slice_get-set_other, pushed, pushed_first, popped, passed_by, first_passes, row_of, some_listed, nobody_passes, cons_listing}
+use Rattle.gmp_table.proofs.Listing.{slice_get-set_same, slice_get-set_other, pushed, pushed_first, popped, passed_by, first_passes, row_of, some_listed, nobody_passes}
 use Rattle.gmp_cli.specs.Driven.{AreTickets, AreIssued, owners, machine, is_elsewhere}
 
 -- One row of a table changes
@@ -207,6 +207,10 @@ out_waits_not : (s : Status) → is_waiting s ≡ true → is_out s ≡ false
 out_waits_not (status.Waiting w) h = refl
 out_waits_not _ h = absurd cc
 
+elsewhere_waits_not : (s : Status) → is_waiting s ≡ true → is_elsewhere s ≡ false
+elsewhere_waits_not (status.Waiting w) h = refl
+elsewhere_waits_not _ h = absurd cc
+
 runner_waits_not : (s : Status) → is_waiting s ≡ true → is_running_on machine s ≡ false
 runner_waits_not (status.Waiting w) h = refl
 runner_waits_not _ h = absurd cc
@@ -247,19 +251,6 @@ issued_woken answer wakes old new (r ∷ tickets) is out issued = (
   issued_woken answer wakes old new tickets is out.1 issued.1,
 )
 
-elsewhere_woken : (answer : Status → Option Woke) → WakesWaiting answer → (rows : List Goroutine) → IsListing is_elsewhere rows [] → IsListing is_elsewhere (map (λ (x : Goroutine). woken_with (answer x.status) x) rows) []
-elsewhere_woken answer wakes [] kept = kept
-elsewhere_woken answer wakes (x ∷ rows) kept =
-    let n = sum_by-cons (λ (z : Goroutine). tally (is_elsewhere z.status)) x rows in
-    let here : is_elsewhere x.status ≡ false = nobody_passes is_elsewhere (x ∷ rows) 0 kept in
-    let rest : IsListing is_elsewhere rows [] = record { all = omega (arith, n, kept.all, ap tally here); each = λ i. kept.each (suc i) } in
-    by_answer (answer x.status) (elsewhere_woken answer wakes rows rest)
-  where
-    by_answer : (o : Option Woke) → IsListing is_elsewhere (map (λ (z : Goroutine). woken_with (answer z.status) z) rows) []
-        → IsListing is_elsewhere (woken_with o x ∷ map (λ (z : Goroutine). woken_with (answer z.status) z) rows) []
-    by_answer None below = cons_listing is_elsewhere x _ (nobody_passes is_elsewhere (x ∷ rows) 0 kept) below
-    by_answer (Some told) below = cons_listing is_elsewhere (woken_with (Some told) x) _ refl below
-
 -- nobody that is out, runs, or is elsewhere is woken
 pub woken_tickets : (answer : Status → Option Woke) → WakesWaiting answer → (old new : Table) (tickets : List Readiness) (running : List GNo) → new.goroutines ≡ (all_woken answer old).goroutines
     → AreTickets old tickets running → AreTickets new tickets running
@@ -269,7 +260,7 @@ woken_tickets answer wakes old new tickets running is kept =
       outs = rw is (listing_map is_out _ (woken_same is_out answer wakes out_waits_not (λ told. refl)) old.goroutines (owners tickets) kept.outs);
       issued = issued_woken answer wakes old new tickets is (all_out old tickets outs_each) kept.issued;
       runs = rw is (listing_map (is_running_on machine) _ (woken_same (is_running_on machine) answer wakes runner_waits_not (λ told. refl)) old.goroutines running kept.runs);
-      others = rw is (elsewhere_woken answer wakes old.goroutines kept.others);
+      others = rw is (listing_map is_elsewhere _ (woken_same is_elsewhere answer wakes elsewhere_waits_not (λ told. refl)) old.goroutines [] kept.others);
     }
 
 -- Who runs, and which ticket is out
@@ -303,38 +294,48 @@ first_out t r tickets running kept =
         (answer, at ∙ (ap (λ (s : Status). row_as s x.epoch) is ∙ ap (λ (n : ℕ). row_as (status.Ready Out answer) n) epoch))
     by_status x at _ is e = absurd cc
 
--- Nobody can go on
+-- Who goes on by a deadline
 
--- where nobody is on the shelf, out, run by the machine or elsewhere, all are asleep
-pub all_asleep : (t : Table) → AreTickets t [] [] → some_status is_shelved t ≡ false → IsAsleep t
-all_asleep t kept shelf =
-    asleep_rows t.goroutines shelf (some_listed is_out t.goroutines [] kept.outs) (some_listed (is_running_on machine) t.goroutines [] kept.runs) (some_listed is_elsewhere t.goroutines [] kept.others)
+-- one that is neither on the shelf, out, run by the machine nor elsewhere is neither ready nor runs, and goes on where it has a deadline
+stirs_alone : (s : Status) → is_shelved s ≡ false → is_out s ≡ false → is_running_on machine s ≡ false → is_elsewhere s ≡ false
+    → (is_ready_or_running s ≡ false) × (is_astir s ≡ is_some (deadline_of s))
+stirs_alone status.Dormant h o r e = (refl, refl)
+stirs_alone (status.Ready Shelf told) h o r e = absurd cc
+stirs_alone (status.Ready Out told) h o r e = absurd cc
+stirs_alone (status.Running m) h o r e = absurd (not_both (machine.0 == m.0) r e)
   where
-    either : (a b : Bool) → (a || b) ≡ false → (a ≡ false) × (b ≡ false)
-    either false false h = (refl, refl)
-    either true b h = absurd cc
-    either false true h = absurd cc
+    not_both : (b : Bool) → b ≡ false → not b ≡ false → ⊥
+    not_both true r e = cc
+    not_both false r e = cc
+stirs_alone (status.Calling m) h o r e = absurd cc
+stirs_alone (status.Waiting w) h o r e = (refl, refl)
+stirs_alone status.Dead h o r e = (refl, refl)
 
-    by_status : (s : Status) → is_shelved s ≡ false → is_out s ≡ false → is_running_on machine s ≡ false → is_elsewhere s ≡ false → is_astir s ≡ false
-    by_status status.Dormant h o r e = refl
-    by_status (status.Ready Shelf told) h o r e = absurd cc
-    by_status (status.Ready Out told) h o r e = absurd cc
-    by_status (status.Running m) h o r e = absurd (not_both (machine.0 == m.0) r e)
-      where
-        not_both : (b : Bool) → b ≡ false → not b ≡ false → ⊥
-        not_both true r e = cc
-        not_both false r e = cc
-    by_status (status.Calling m) h o r e = absurd cc
-    by_status (status.Waiting w) h o r e = e
-    by_status status.Dead h o r e = refl
+either : (a b : Bool) → (a || b) ≡ false → (a ≡ false) × (b ≡ false)
+either false false h = (refl, refl)
+either true b h = absurd cc
+either false true h = absurd cc
 
-    asleep_rows : (rows : List Goroutine) → list_any (λ (x : Goroutine). is_shelved x.status) rows ≡ false → list_any (λ (x : Goroutine). is_out x.status) rows ≡ false
-        → list_any (λ (x : Goroutine). is_running_on machine x.status) rows ≡ false → list_any (λ (x : Goroutine). is_elsewhere x.status) rows ≡ false
-        → list_any (λ (x : Goroutine). is_astir x.status) rows ≡ false
-    asleep_rows [] h o r e = refl
-    asleep_rows (x ∷ rows) h o r e =
-        let h' = either (is_shelved x.status) (list_any (λ (z : Goroutine). is_shelved z.status) rows) h in
-        let o' = either (is_out x.status) (list_any (λ (z : Goroutine). is_out z.status) rows) o in
-        let r' = either (is_running_on machine x.status) (list_any (λ (z : Goroutine). is_running_on machine z.status) rows) r in
-        let e' = either (is_elsewhere x.status) (list_any (λ (z : Goroutine). is_elsewhere z.status) rows) e in
-        rw (by_status x.status h'.0 o'.0 r'.0 e'.0) (asleep_rows rows h'.1 o'.1 r'.1 e'.1)
+some_earlier : (a b : Option ℕ) → is_some (earlier a b) ≡ (is_some a || is_some b)
+some_earlier None b = refl
+some_earlier (Some x) None = refl
+some_earlier (Some x) (Some y) = refl
+
+rows_stir : (rows : List Goroutine) → list_any (λ (x : Goroutine). is_shelved x.status) rows ≡ false → list_any (λ (x : Goroutine). is_out x.status) rows ≡ false
+    → list_any (λ (x : Goroutine). is_running_on machine x.status) rows ≡ false → list_any (λ (x : Goroutine). is_elsewhere x.status) rows ≡ false
+    → (list_any (λ (x : Goroutine). is_ready_or_running x.status) rows ≡ false) × (list_any (λ (x : Goroutine). is_astir x.status) rows ≡ is_some (least_of rows))
+rows_stir [] h o r e = (refl, refl)
+rows_stir (x ∷ rows) h o r e =
+    let h' = either (is_shelved x.status) (list_any (λ (z : Goroutine). is_shelved z.status) rows) h in
+    let o' = either (is_out x.status) (list_any (λ (z : Goroutine). is_out z.status) rows) o in
+    let r' = either (is_running_on machine x.status) (list_any (λ (z : Goroutine). is_running_on machine z.status) rows) r in
+    let e' = either (is_elsewhere x.status) (list_any (λ (z : Goroutine). is_elsewhere z.status) rows) e in
+    let first = stirs_alone x.status h'.0 o'.0 r'.0 e'.0 in
+    let rest = rows_stir rows h'.1 o'.1 r'.1 e'.1 in
+    (rw first.0 rest.0, rw (first.1, rest.1) (sym (some_earlier (deadline_of x.status) (least_of rows))))
+
+-- where nobody is on the shelf, out, run by the machine or elsewhere, somebody can go on exactly where a deadline is to be minded
+pub stirs_by_deadline : (t : Table) → AreTickets t [] [] → some_status is_shelved t ≡ false → some_status is_astir t ≡ is_some (minded t)
+stirs_by_deadline t kept shelf =
+    let rows = rows_stir t.goroutines shelf (some_listed is_out t.goroutines [] kept.outs) (some_listed (is_running_on machine) t.goroutines [] kept.runs) (some_listed is_elsewhere t.goroutines [] kept.others) in
+    rw rows.0 rows.1

@@ -1,5 +1,5 @@
 -- What one machine keeps while it drives a run.
-use Rattle.std.specs.Prelude.{◌≡◌, ℕ, ◌+◌, ◌≤◌, ◌<◌, ◌==◌, Bool, true, false, not, Option, None, Some, List, [], ◌∷◌, ◌++◌, length, map, slice_set, is_some}
+use Rattle.std.specs.Prelude.{◌≡◌, ℕ, ◌+◌, ◌≤◌, ◌<◌, ◌==◌, Bool, true, false, not, Option, None, Some, List, [], ◌∷◌, ◌++◌, length, map, slice_set, nat_lt}
 use Rattle.circular_buffer.specs.Buffer.{keep_last}
 use Rattle.gmp_base.specs.declared.ask.Ask.{Ask}
 use Rattle.gmp_base.specs.declared.ask.Ask.TheVariants as ask
@@ -18,17 +18,17 @@ use Rattle.gmp_seq.specs.declared.call.Call.{Call}
 use Rattle.gmp_seq.specs.declared.call.Call.TheVariants as call
 use Rattle.gmp_seq.specs.declared.call.Entry.{Entry}
 use Rattle.gmp_seq.specs.declared.status.Status.{Status}
-use Rattle.gmp_seq.specs.declared.status.Status.TheVariants.{Running, Calling, Waiting}
+use Rattle.gmp_seq.specs.declared.status.Status.TheVariants.{Running, Calling}
 use Rattle.gmp_seq.specs.Fits.{AreLimits}
 use Rattle.gmp_seq.specs.Machines.{Machines, Holds, IsAwake, has_processor, set_holder, some_idle, spins}
 use Rattle.gmp_seq.specs.Run.{IsLegal}
 use Rattle.gmp_seq.specs.State.{State}
-use Rattle.gmp_seq.specs.Table.{Table, epoch_at, is_out, is_running_on, is_shelved, some_status}
+use Rattle.gmp_seq.specs.Table.{Table, due_answer, epoch_at, how_many_woken, is_out, is_running_on, is_shelved, some_status}
 use Rattle.gmp_slots.specs.Slots.{is_vacant, all_filled}
 use Rattle.gmp_table.specs.Kept.{IsListing}
 use Rattle.gmp_cli.specs.declared.machine.Hand.{Hand}
 use Rattle.gmp_cli.specs.declared.machine.Machine.{Machine}
-use Rattle.gmp_cli.specs.declared.machine.Hand.TheVariants.{Start, Look, Claim, Drop, Park, Poke, Run}
+use Rattle.gmp_cli.specs.declared.machine.Hand.TheVariants.{Start, Look, Claim, Drop, Park, Mind, Poke, Run}
 
 -- What callers see
 
@@ -55,6 +55,10 @@ pub record GoesOnByChoice (cases : List Case) (word : ℕ) (old new : Log) : Typ
   pub last : new.history ≡ old.history ++ entry ∷ []
   pub choice : IsChoice old.state cases word entry.reply
 
+-- the clock at this moment wakes somebody
+abbrev pub wakes_some : Table → ℕ → Bool
+wakes_some t now = nat_lt 0 (how_many_woken (due_answer now) t)
+
 -- the call that a script's ask makes
 abbrev pub call_of : Ask → Call
 call_of ask.Yield = call.Yield
@@ -66,6 +70,9 @@ call_of (ask.Close c) = call.Close c
 call_of (ask.Len c) = call.Len c
 call_of (ask.Cap c) = call.Cap c
 call_of (ask.Select cases has_default until) = call.Select cases has_default until
+call_of (ask.Sleep until) = call.Sleep until
+call_of ask.Park = call.Gopark
+call_of (ask.Ready g) = call.Ready g
 call_of _ = call.Exit
 
 -- the report tells a run that was opened so: its history is legal, and its outcome is that of the state that the history leads to
@@ -121,11 +128,10 @@ abbrev pub AreIssued : Table → List Readiness → Type 0
 AreIssued t [] = Unit {0}
 AreIssued t (r ∷ tickets) = (epoch_at t r.g ≡ r.epoch) × AreIssued t tickets
 
--- it may come to be ready though the machine does nothing: another machine has it, or it waits with a deadline
+-- another machine has it, or a blocking call
 abbrev pub is_elsewhere : Status → Bool
 is_elsewhere (Running m) = not (machine.0 == m.0)
 is_elsewhere (Calling m) = true
-is_elsewhere (Waiting w) = is_some w.until
 is_elsewhere _ = false
 
 -- the tickets that are out are these, each once; the machine runs this goroutine, if one; and nobody is elsewhere
@@ -172,6 +178,7 @@ stand_of (Run proc held) = running_one proc.p held.g
 stand_of (Poke proc held) = running_one proc.p held.g
 stand_of (Drop proc) = dropping proc.p
 stand_of Park = parking
+stand_of (Mind until) = starting
 
 -- is it about to poke
 abbrev pub is_poke : Hand → Bool

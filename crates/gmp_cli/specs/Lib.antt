@@ -1,3 +1,4 @@
+pub mod Clock
 pub mod Lines
 pub mod Numbers
 pub mod Said

@@ -1,6 +1,7 @@
 //! The program `gmp` as functions: its command line, its input, its scripts, and how it ends.
 #![tactic(auto)]
 
+mod clock;
 mod commands;
 mod digits;
 mod ended;

@@ -8,7 +8,9 @@ ghost use Rattle.gmp_book.specs.Log.{opening_log};
 ghost use Rattle.gmp_seq.specs.Fits.{AreLimits};
 
 mod asking;
+mod timing;
 
+use crate::clock::Clock;
 use crate::commands::ScriptBody;
 use circular_buffer::HeapCircularBuffer;
 use gmp_base::{Held, Pass, Proc, Readiness, Refusal, Ticket};
@@ -21,9 +23,6 @@ const RUN: u64 = 0;
 
 /// After so many claims the machine looks at the clock.
 const TURNS: u8 = 16;
-
-/// What the clock reads.
-const READING: u64 = 0;
 
 /// What the machine holds, by where it stands in its program.
 pub(crate) enum Hand {
@@ -41,6 +40,8 @@ pub(crate) enum Hand {
     Drop(Proc<()>),
     /// It holds nothing, and parks.
     Park,
+    /// It holds nothing, and has nothing to do before this deadline, in nanoseconds.
+    Mind(u64),
 }
 
 /// The machine: its book, its pass, and its own queue, first in, first out.
@@ -52,8 +53,9 @@ pub(crate) struct Machine {
     queue: HeapCircularBuffer<Readiness>,
     /// Claims since the last tick, up to 16.
     turns: u8,
-    /// A tick woke somebody, and no other machine was told yet. No goroutine of a script waits with a deadline yet, so it stays false.
+    /// A tick woke somebody, or a deadline was minded, and no other machine was told yet.
     fresh: bool,
+    clock: Clock,
     /// The word that each select draws.
     word: u64,
 }
@@ -98,8 +100,8 @@ fn give_proc(book: &mut Book<ScriptBody, ()>, proc: Proc<()>)
 }
 
 impl Machine {
+    ghost use Rattle.gmp_cli.specs.Clock.{unread};
     ghost use Rattle.gmp_cli.specs.Driven.{Driving, GoesOn, IsReportOf};
-    ghost use Rattle.gmp_seq.specs.declared.call.Outcome.{Outcome};
 
     /// The machine before its first call.
     pub(crate) fn open(
@@ -107,12 +109,14 @@ impl Machine {
         limits: Limits,
         capacities: &[u32],
         bodies: Vec<ScriptBody>,
+        readings: Vec<u64>,
         word: u64,
     ) -> Result<Self, Refusal>
         requires { limits.machines ≡ 1 }
         ensures within { IfOk result (λ _. AreLimits limits (length bodies.items) capacities.now) }
         ensures log { IfOk result (λ m. m.book.log ≡ opening_log RUN limits (length bodies.items) capacities.now) }
         ensures drives { IfOk result (λ m. Driving m Hand.Start) }
+        ensures clock { IfOk result (λ m. m.clock ≡ unread readings.items) }
         ensures word { IfOk result (λ m. m.word ≡ word) }
         ensures why { IfErr result (λ why. (why ≡ BadLimits) ⊎ (why ≡ OutOfMemory)) }
         ensures limits { IfErr result (λ why. why ≡ BadLimits → ¬ (AreLimits limits (length bodies.items) capacities.now)) }
@@ -142,6 +146,7 @@ impl Machine {
                     queue,
                     turns: 0,
                     fresh: false,
+                    clock: Clock::of(readings),
                     word,
                 })
             }
@@ -175,6 +180,7 @@ impl Machine {
             queue: _,
             turns: _,
             fresh: _,
+            clock: _,
             word: _,
         } = self;
         pass.open();
@@ -192,11 +198,12 @@ impl Machine {
             queue: _,
             turns: _,
             fresh: _,
+            clock: _,
             word: _,
         } = self;
         pass.open();
         match hand {
-            Hand::Start | Hand::Park => {}
+            Hand::Start | Hand::Park | Hand::Mind(_) => {}
             Hand::Look(proc) | Hand::Drop(proc) => give_proc(&mut book, proc),
             Hand::Claim(proc, ticket) => {
                 give_ticket(&mut book, ticket);
@@ -228,6 +235,7 @@ impl Machine {
             Hand::Poke(proc, held) => Ok(self.poke(proc, held)),
             Hand::Drop(proc) => Ok(self.give_up(proc)),
             Hand::Park => Ok(self.park()),
+            Hand::Mind(until) => Ok(self.mind(until)),
         }
     }
 
@@ -260,23 +268,6 @@ impl Machine {
         }
     }
 
-    /// Tells the book the clock's reading.
-    fn tick(&mut self, proc: Proc<()>) -> Hand
-        requires ongoing { self.old.book.log.state.outcome ≡ None }
-        requires drives { Driving self.old (Hand.Look proc) }
-        ensures drives { Driving self.new result }
-        ensures goes { GoesOn self.old.book.log self.new.book.log }
-    {
-        match self.book.tick(&mut self.pass, READING) {
-            Ok(woken) => {
-                self.turns = 0;
-                self.fresh |= woken > 0;
-                Hand::Look(proc)
-            }
-            Err(_) => unreachable!(),
-        }
-    }
-
     /// Takes a ticket from the shelf, where one is on it.
     fn take(&mut self, proc: Proc<()>) -> Hand
         requires ongoing { self.old.book.log.state.outcome ≡ None }
@@ -301,20 +292,6 @@ impl Machine {
     {
         match self.book.declare(&mut self.pass, proc) {
             Ok(()) => Hand::Park,
-            Err(_) => unreachable!(),
-        }
-    }
-
-    /// Parks: with no other machine and no deadline all are asleep then, which ends the run.
-    fn park(&mut self) -> Hand
-        requires ongoing { self.old.book.log.state.outcome ≡ None }
-        requires drives { Driving self.old Hand.Park }
-        ensures drives { Driving self.new result }
-        ensures goes { GoesOn self.old.book.log self.new.book.log }
-        ensures asleep { self.new.book.log.state.outcome ≡ Some Outcome.AllAsleep }
-    {
-        match self.book.park(&mut self.pass) {
-            Ok(_) => Hand::Start,
             Err(_) => unreachable!(),
         }
     }

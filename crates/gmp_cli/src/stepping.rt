@@ -44,7 +44,8 @@ fn run(alloc: Global, limits: Limits, script: Script, word: u64) -> Result<Trace
         return Err(Ended::bad_limits());
     }
     let Script { capacities, bodies } = script;
-    let machine = match Machine::open(alloc, limits, &capacities, bodies, word) {
+    let readings = Vec::new(alloc);
+    let machine = match Machine::open(alloc, limits, &capacities, bodies, readings, word) {
         Ok(machine) => machine,
         Err(Refusal::BadLimits) => return Err(Ended::bad_limits()),
         Err(_) => return Err(Ended::out_of_memory()),

@@ -11,7 +11,7 @@ use std::alloc::{AllocError, Global};
 impl Machine {
     ghost use Rattle.gmp_cli.specs.Driven.{Driving, Drives, GoesOn, GoesOnBy, GoesOnByChoice, call_of, is_poke, pushed};
     ghost use Rattle.gmp_cli.specs.Script.{next_ask};
-    ghost use Rattle.gmp_seq.specs.declared.call.Call.TheVariants.{Cap, Close, Exit, Go, Len, Make, Recv, Select, Send, Yield};
+    ghost use Rattle.gmp_seq.specs.declared.call.Call.TheVariants.{Cap, Close, Exit, Go, Gopark, Len, Make, Ready, Recv, Select, Send, Sleep, Yield};
 
     /// Resumes the body, and makes the call that it asks for.
     pub(super) fn resume(
@@ -39,11 +39,14 @@ impl Machine {
             Ask::Close(c) => Ok(self.close_channel(proc, held, c)),
             Ask::Len(c) => Ok(self.len(proc, held, c)),
             Ask::Cap(c) => Ok(self.cap(proc, held, c)),
-            Ask::Select(cases, has_default, None) => {
-                Ok(self.select(proc, held, &cases, has_default))
+            Ask::Select(cases, has_default, until) => {
+                Ok(self.select(proc, held, &cases, has_default, until))
             }
-            // A body of a script asks nothing else.
-            _ => unreachable!(),
+            Ask::Sleep(until) => Ok(self.sleep(proc, held, until)),
+            Ask::Park => Ok(self.park_g(proc, held)),
+            Ask::Ready(g) => Ok(self.ready(proc, held, g)),
+            // A body of a script asks for no blocking call.
+            Ask::Block => unreachable!(),
         }
     }
 
@@ -95,6 +98,48 @@ impl Machine {
     {
         match self.book.exit(&mut self.pass, held) {
             Ok(_) => Hand::Look(proc),
+            Err(_) => unreachable!(),
+        }
+    }
+
+    /// The goroutine waits until this moment, in nanoseconds.
+    fn sleep(&mut self, proc: Proc<()>, held: Held<ScriptBody>, until: u64) -> Hand
+        requires ongoing { self.old.book.log.state.outcome ≡ None }
+        requires drives { Driving self.old (Hand.Run proc held) }
+        ensures drives { Driving self.new result }
+        ensures goes { GoesOn self.old.book.log self.new.book.log }
+        ensures call { GoesOnBy (Sleep until) self.old.book.log self.new.book.log }
+    {
+        match self.book.sleep(&mut self.pass, held, until) {
+            Ok(()) => Hand::Look(proc),
+            Err(_) => unreachable!(),
+        }
+    }
+
+    /// The goroutine waits until another one readies it.
+    fn park_g(&mut self, proc: Proc<()>, held: Held<ScriptBody>) -> Hand
+        requires ongoing { self.old.book.log.state.outcome ≡ None }
+        requires drives { Driving self.old (Hand.Run proc held) }
+        ensures drives { Driving self.new result }
+        ensures goes { GoesOn self.old.book.log self.new.book.log }
+        ensures call { GoesOnBy Gopark self.old.book.log self.new.book.log }
+    {
+        match self.book.park_g(&mut self.pass, held) {
+            Ok(()) => Hand::Look(proc),
+            Err(_) => unreachable!(),
+        }
+    }
+
+    /// Readies a goroutine that is parked.
+    fn ready(&mut self, proc: Proc<()>, held: Held<ScriptBody>, g: GNo) -> Hand
+        requires ongoing { self.old.book.log.state.outcome ≡ None }
+        requires drives { Driving self.old (Hand.Run proc held) }
+        ensures drives { Driving self.new result }
+        ensures goes { GoesOn self.old.book.log self.new.book.log }
+        ensures call { GoesOnBy (Ready g) self.old.book.log self.new.book.log }
+    {
+        match self.book.ready(&mut self.pass, held, g) {
+            Ok(went) => self.settle(proc, went, 0),
             Err(_) => unreachable!(),
         }
     }
@@ -172,24 +217,25 @@ impl Machine {
         }
     }
 
-    /// Takes, of the cases that can proceed, the one that the word chooses; where none can, the default, or waits for any.
+    /// Takes, of the cases that can proceed, the one that the word chooses; where none can, the default, or waits for any until the deadline.
     fn select(
         &mut self,
         proc: Proc<()>,
         held: Held<ScriptBody>,
         cases: &Cases,
         has_default: bool,
+        until: Option<u64>,
     ) -> Hand
         requires ongoing { self.old.book.log.state.outcome ≡ None }
         requires drives { Driving self.old (Hand.Run proc held) }
         ensures drives { Driving self.new result }
         ensures goes { GoesOn self.old.book.log self.new.book.log }
-        ensures call { GoesOnBy (Select cases.now has_default None) self.old.book.log self.new.book.log }
+        ensures call { GoesOnBy (Select cases.now has_default until) self.old.book.log self.new.book.log }
         ensures choice { GoesOnByChoice cases.now self.old.word self.old.book.log self.new.book.log }
     {
         match self
             .book
-            .select(&mut self.pass, held, cases, has_default, self.word)
+            .select(&mut self.pass, held, cases, has_default, until, self.word)
         {
             Ok(moved) => match moved {
                 Moved::On(went) => self.settle(proc, went, 0),

@@ -1,10 +1,17 @@
-use Rattle.gmp_cli.proofs.Handing.{park_drives}
+use Rattle.std.proofs.Common.{◌≡◌}
+use Rattle.gmp_book.specs.declared.ledger.Parking.TheVariants as parks
+use Rattle.gmp_cli.proofs.Handing.{never_parks}
 use Rattle.gmp_cli.proofs.machine.Machine.park.Goals as goal
 
-pub returns-clause-drives : goal.returns-clause-drives
-returns-clause-drives c =
-    (park_drives c.args.self.now.book c.park.new.self c.args.self.now.pass c.park.new.pass c.args.self.now.queue.items c.args.self.now.queue.capacity c.in-Ok.field-0 c.in-Ok.ensures.entry c.in-Ok.ensures.asleep c.in-Ok.ensures.values c.requires.drives).0
+pub unreachable-requires : goal.unreachable-requires
+unreachable-requires c =
+    never_parks c.args.self.now.book c.park.new.self c.args.self.now.pass c.park.new.pass c.args.self.now.queue.items c.args.self.now.queue.capacity c.in-Ok.answer c.in-Parked.is c.in-Ok.ensures.entry c.requires.drives
 
-pub returns-clause-asleep : goal.returns-clause-asleep
-returns-clause-asleep c =
-    (park_drives c.args.self.now.book c.park.new.self c.args.self.now.pass c.park.new.pass c.args.self.now.queue.items c.args.self.now.queue.capacity c.in-Ok.field-0 c.in-Ok.ensures.entry c.in-Ok.ensures.asleep c.in-Ok.ensures.values c.requires.drives).1
+pub returns-in-AllAsleep-clause-minds : goal.returns-in-AllAsleep-clause-minds
+returns-in-AllAsleep-clause-minds c = λ until. (
+  λ e. cc,
+  λ minds.
+      let asleep : c.in-Ok.answer ≡ parks.AllAsleep = c.in-AllAsleep.is in
+      let mind : c.in-Ok.answer ≡ parks.Mind until = (c.in-Ok.ensures.minds until).1 minds in
+      cc,
+)
