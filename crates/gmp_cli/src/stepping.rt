@@ -43,7 +43,11 @@ fn run(alloc: Global, limits: Limits, script: Script, word: u64) -> Result<Trace
     if limits.procs != 1 || limits.machines != 1 {
         return Err(Ended::bad_limits());
     }
-    let Script { capacities, bodies } = script;
+    let Script {
+        capacities,
+        readings: _,
+        bodies,
+    } = script;
     let machine = match Machine::open(alloc, limits, &capacities, bodies, word) {
         Ok(machine) => machine,
         Err(Refusal::BadLimits) => return Err(Ended::bad_limits()),
