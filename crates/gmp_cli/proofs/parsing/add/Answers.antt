@@ -41,7 +41,7 @@ pub returns-then-not-is_empty-clause-bad : goal.returns-then-not-is_empty-clause
 returns-then-not-is_empty-clause-bad c =
     let some : 0 < length c.args.script.now.bodies.items = grind (arith, common_steps) in
     λ h before s cs rs b. no_script_with_late before c.args.line.now (line.Channel c.in-Some-Channel.capacity) c.args.script.now.capacities.items c.args.script.now.readings.items cs rs
-        c.args.script.now.bodies.items b (search rules) refl some s
+    c.args.script.now.bodies.items b (search rules) refl some s
 
 pub returns-in_ok-push-in-Some-Channel-clause-good :
     goal.returns-in_ok-push-in-Some-Channel-clause-good
@@ -51,9 +51,15 @@ returns-in_ok-push-in-Some-Channel-clause-good c =
     let m = script_with_channel before c.args.line.now c.in-Some-Channel.capacity c.args.script.now.capacities.items c.args.script.now.readings.items (search rules) (rw none at s) in
     search (rules, m, none)
 
-pub returns-in_ok-extend_from_slice-clause-good : goal.returns-in_ok-extend_from_slice-clause-good
-returns-in_ok-extend_from_slice-clause-good c =
+pub returns-in_ok-extend_from_slice-in-Some-Clock-clause-good : goal.returns-in_ok-extend_from_slice-in-Some-Clock-clause-good
+returns-in_ok-extend_from_slice-in-Some-Clock-clause-good c =
     let none : c.args.script.now.bodies.items ≡ [] = grind (arith, common_steps) in
     λ h before s.
     let m = script_with_clock before c.args.line.now c.in-Some-Clock.readings c.args.script.now.capacities.items c.args.script.now.readings.items (search rules) (rw none at s) in
     search (rules, m, none)
+
+pub returns-then-not-is_empty-2-clause-bad : goal.returns-then-not-is_empty-2-clause-bad
+returns-then-not-is_empty-2-clause-bad c =
+    let some : 0 < length c.args.script.now.bodies.items = grind (arith, common_steps) in
+    λ h before s cs rs b. no_script_with_late before c.args.line.now (line.Clock c.in-Some-Clock.readings) c.args.script.now.capacities.items c.args.script.now.readings.items cs rs
+    c.args.script.now.bodies.items b (search rules) refl some s
