@@ -1,12 +1,12 @@
 -- What one line more makes of a script.
 use Rattle.std.proofs.Common.{◌≡◌, ℕ, Bool, true, false, ◌||◌, List, [], ◌∷◌, ◌++◌, map, length, ◌<◌, refl, ap, sym, ◌∙◌, Option, Some, None, All, append-nil, rules, arith}
-use Rattle.std.specs.List.{slice_split, filter, list_any}
+use Rattle.std.specs.List.{slice_split, filter, flat_map, list_all, list_any}
 use Rattle.std.proofs.lemmas.List.{map-append}
 use Rattle.std.proofs.lemmas.List.Elements.{filter-append, All-append, All-nil, All-cons, All-head, All-tail}
-use Rattle.std.proofs.lemmas.List.Folds.{list_any-append}
-use Rattle.std.proofs.lemmas.Grind.{common_steps}
+use Rattle.std.proofs.lemmas.List.Folds.{list_all-append, list_any-append}
+use Rattle.std.proofs.lemmas.Grind.{common_steps, flat_map-append}
 use Rattle.gmp_cli.proofs.Parts.{onto_last, onto_last-append, slice_split-push_yes, slice_split-push_no}
-use Rattle.gmp_cli.specs.Lines.{said_by, says_body, says_something, parts, opens_with_again, announced, written, IsScript}
+use Rattle.gmp_cli.specs.Lines.{said_by, says_body, says_something, parts, opens_with_again, written, is_opening, capacities_in, readings_in, IsScript}
 use Rattle.gmp_cli.specs.Script.{Commands, begins_again}
 use Rattle.gmp_cli.specs.declared.commands.Command.{Command}
 use Rattle.gmp_cli.specs.declared.commands.Command.TheVariants as command
@@ -42,9 +42,9 @@ abbrev is_bad : Option Line → Bool
 is_bad None = true
 is_bad _ = false
 
-abbrev is_channel : Option Line → Bool
-is_channel (Some (line.Channel n)) = true
-is_channel _ = false
+abbrev is_of_opening : Option Line → Bool
+is_of_opening (Some x) = is_opening x
+is_of_opening None = false
 
 abbrev is_command : Option Line → Bool
 is_command (Some (line.Command c)) = true
@@ -58,6 +58,15 @@ none_written : (p : Option Line → Bool) → ((c : Command) → p (Some (line.C
 none_written p h [] = refl
 none_written p h (b ∷ bodies) = rw (none_among p (λ c. Some (line.Command c)) h b.commands) (none_written p h bodies)
 
+none_opening : (p : Option Line → Bool) → ((n : ℕ) → p (Some (line.Channel n)) ≡ false) → ((ns : List ℕ) → p (Some (line.Clock ns)) ≡ false)
+    → (xs : List Line) → list_all is_opening xs ≡ true → list_any p (map Some xs) ≡ false
+none_opening p h k [] e = refl
+none_opening p h k (line.Channel n ∷ xs) e = rw (h n) (none_opening p h k xs e)
+none_opening p h k (line.Clock ns ∷ xs) e = rw (k ns) (none_opening p h k xs e)
+none_opening p h k (line.Nothing ∷ xs) e = cc
+none_opening p h k (line.Body ∷ xs) e = cc
+none_opening p h k (line.Command c ∷ xs) e = cc
+
 one_at_last : {X : Type 0} (p : X → Bool) (xs : List X) (x : X) → p x ≡ true → list_any p (xs ++ x ∷ []) ≡ true
 one_at_last p xs x e = list_any-append p xs (x ∷ []) ∙ grind (arith, common_steps)
 
@@ -66,13 +75,31 @@ one_onto_last p [] s e = rw e refl
 one_onto_last p (part ∷ []) s e = rw (one_at_last p part s e) refl
 one_onto_last p (part ∷ next ∷ ps) s e = grind (arith, common_steps, one_onto_last p (next ∷ ps) s e)
 
+opening_kept : (x : Line) → is_opening x ≡ true → filter says_something (Some x ∷ []) ≡ Some x ∷ []
+opening_kept (line.Channel n) o = refl
+opening_kept (line.Clock ns) o = refl
+opening_kept line.Nothing o = cc
+opening_kept line.Body o = refl
+opening_kept (line.Command c) o = refl
+
+opening_body : (x : Line) → is_opening x ≡ true → says_body (Some x) ≡ false
+opening_body (line.Channel n) o = refl
+opening_body (line.Clock ns) o = refl
+opening_body line.Nothing o = refl
+opening_body line.Body o = cc
+opening_body (line.Command c) o = refl
+
+-- the parts of a script, with one more line of an opening
+parts-opening : (before : List (List ℕ)) (l : List ℕ) (x : Line) → said_by l ≡ Some x → is_opening x ≡ true → parts (before ++ l ∷ []) ≡ onto_last (Some x) (parts before)
+parts-opening before l x e o = parts-more before l (Some x) e (opening_kept x o) (opening_body x o)
+
 -- Lines that make no script
 
 -- a line that says nothing that a script may say
-pub no_script_with_bad : (before : List (List ℕ)) (l : List ℕ) (cs : List ℕ) (bodies : List Commands) → said_by l ≡ None → IsScript (before ++ l ∷ []) cs bodies → ⊥
-no_script_with_bad before l cs bodies e s =
+pub no_script_with_bad : (before : List (List ℕ)) (l cs rs : List ℕ) (bodies : List Commands) → said_by l ≡ None → IsScript (before ++ l ∷ []) cs rs bodies → ⊥
+no_script_with_bad before l cs rs bodies e s =
     let h : list_any (list_any is_bad) (parts (before ++ l ∷ [])) ≡ true = ap (list_any (list_any is_bad)) (parts-more before l None e refl refl) ∙ one_onto_last is_bad (parts before) None refl in
-    let first : list_any is_bad (announced cs) ≡ false = none_among is_bad (λ n. Some (line.Channel n)) (λ n. refl) cs in
+    let first : list_any is_bad (map Some s.opening) ≡ false = none_opening is_bad (λ n. refl) (λ ns. refl) s.opening s.opens in
     let others = none_written is_bad (λ c. refl) bodies in
     let n : list_any (list_any is_bad) (parts (before ++ l ∷ [])) ≡ false = ap (list_any (list_any is_bad)) s.made ∙ rw first others in
     cc
@@ -86,33 +113,34 @@ rest_of [] = []
 rest_of (part ∷ ps) = ps
 
 -- a command before the first body
-pub no_script_with_first : (before : List (List ℕ)) (l : List ℕ) (c : Command) (cs new : List ℕ) (bodies : List Commands) → said_by l ≡ Some (line.Command c)
-    → IsScript before cs [] → IsScript (before ++ l ∷ []) new bodies → ⊥
-no_script_with_first before l c cs new bodies e old s =
+pub no_script_with_first : (before : List (List ℕ)) (l : List ℕ) (c : Command) (cs rs cs' rs' : List ℕ) (bodies : List Commands) → said_by l ≡ Some (line.Command c)
+    → IsScript before cs rs [] → IsScript (before ++ l ∷ []) cs' rs' bodies → ⊥
+no_script_with_first before l c cs rs cs' rs' bodies e old s =
     let x : Option Line = Some (line.Command c) in
-    let is : parts (before ++ l ∷ []) ≡ (announced cs ++ x ∷ []) ∷ [] = parts-more before l x e refl refl ∙ ap (onto_last x) old.made in
-    let h : list_any is_command (first_of (parts (before ++ l ∷ []))) ≡ true = ap (λ ps. list_any is_command (first_of ps)) is ∙ one_at_last is_command (announced cs) x refl in
-    let n : list_any is_command (first_of (parts (before ++ l ∷ []))) ≡ false = ap (λ ps. list_any is_command (first_of ps)) s.made ∙ none_among is_command (λ n. Some (line.Channel n)) (λ n. refl) new in
+    let is : parts (before ++ l ∷ []) ≡ (map Some old.opening ++ x ∷ []) ∷ [] = parts-more before l x e refl refl ∙ ap (onto_last x) old.made in
+    let h : list_any is_command (first_of (parts (before ++ l ∷ []))) ≡ true = ap (λ ps. list_any is_command (first_of ps)) is ∙ one_at_last is_command (map Some old.opening) x refl in
+    let n : list_any is_command (first_of (parts (before ++ l ∷ []))) ≡ false = ap (λ ps. list_any is_command (first_of ps)) s.made ∙ none_opening is_command (λ n. refl) (λ ns. refl) s.opening s.opens in
     cc
 
--- a channel after the first body
-pub no_script_with_late : (before : List (List ℕ)) (l : List ℕ) (k : ℕ) (cs new : List ℕ) (there bodies : List Commands) → said_by l ≡ Some (line.Channel k)
-    → 0 < length there → IsScript before cs there → IsScript (before ++ l ∷ []) new bodies → ⊥
-no_script_with_late before l k cs new [] bodies e some old s = absurd (omega (arith, some))
-no_script_with_late before l k cs new (b ∷ there) bodies e some old s =
-    let x : Option Line = Some (line.Channel k) in
-    let is : parts (before ++ l ∷ []) ≡ announced cs ∷ onto_last x (written b ∷ map written there) = parts-more before l x e refl refl ∙ ap (onto_last x) old.made in
-    let h : list_any (list_any is_channel) (rest_of (parts (before ++ l ∷ []))) ≡ true = ap (λ ps. list_any (list_any is_channel) (rest_of ps)) is ∙ one_onto_last is_channel (written b ∷ map written there) x refl in
-    let n : list_any (list_any is_channel) (rest_of (parts (before ++ l ∷ []))) ≡ false = ap (λ ps. list_any (list_any is_channel) (rest_of ps)) s.made ∙ none_written is_channel (λ c. refl) bodies in
+-- a line of an opening after the first body
+pub no_script_with_late : (before : List (List ℕ)) (l : List ℕ) (x : Line) (cs rs cs' rs' : List ℕ) (there bodies : List Commands) → said_by l ≡ Some x → is_opening x ≡ true
+    → 0 < length there → IsScript before cs rs there → IsScript (before ++ l ∷ []) cs' rs' bodies → ⊥
+no_script_with_late before l x cs rs cs' rs' [] bodies e o some old s = absurd (omega (arith, some))
+no_script_with_late before l x cs rs cs' rs' (b ∷ there) bodies e o some old s =
+    let is : parts (before ++ l ∷ []) ≡ map Some old.opening ∷ onto_last (Some x) (written b ∷ map written there) = parts-opening before l x e o ∙ ap (onto_last (Some x)) old.made in
+    let h : list_any (list_any is_of_opening) (rest_of (parts (before ++ l ∷ []))) ≡ true =
+    ap (λ ps. list_any (list_any is_of_opening) (rest_of ps)) is ∙ one_onto_last is_of_opening (written b ∷ map written there) (Some x) o in
+    let n : list_any (list_any is_of_opening) (rest_of (parts (before ++ l ∷ []))) ≡ false =
+    ap (λ ps. list_any (list_any is_of_opening) (rest_of ps)) s.made ∙ none_written is_of_opening (λ c. refl) bodies in
     cc
 
 -- the parts of a script to whose last body a command comes
-parts-last : (before : List (List ℕ)) (l : List ℕ) (c : Command) (cs : List ℕ) (front : List Commands) (b : Commands) → said_by l ≡ Some (line.Command c)
-    → IsScript before cs (front ++ b ∷ []) → parts (before ++ l ∷ []) ≡ (announced cs ∷ map written front) ++ (written b ++ Some (line.Command c) ∷ []) ∷ []
-parts-last before l c cs front b e old =
+parts-last : (before : List (List ℕ)) (l : List ℕ) (c : Command) (cs rs : List ℕ) (front : List Commands) (b : Commands) → said_by l ≡ Some (line.Command c)
+    → (old : IsScript before cs rs (front ++ b ∷ [])) → parts (before ++ l ∷ []) ≡ (map Some old.opening ∷ map written front) ++ (written b ++ Some (line.Command c) ∷ []) ∷ []
+parts-last before l c cs rs front b e old =
     parts-more before l (Some (line.Command c)) e refl refl
-    ∙ ap (onto_last (Some (line.Command c))) (old.made ∙ ap (λ m. announced cs ∷ m) (map-append written front (b ∷ [])))
-    ∙ onto_last-append (Some (line.Command c)) (announced cs ∷ map written front) (written b)
+    ∙ ap (onto_last (Some (line.Command c))) (old.made ∙ ap (λ m. map Some old.opening ∷ m) (map-append written front (b ∷ [])))
+    ∙ onto_last-append (Some (line.Command c)) (map Some old.opening ∷ map written front) (written b)
 
 opens-push : (cs : List Command) (c : Command) → opens_with_again (map (λ d. Some (line.Command d)) cs ++ Some (line.Command c) ∷ []) ≡ begins_again (cs ++ c ∷ [])
 opens-push [] command.Again = refl
@@ -120,17 +148,21 @@ opens-push [] _ = refl
 opens-push (command.Again ∷ cs) c = refl
 opens-push (_ ∷ cs) c = refl
 
-opens_announced : (cs : List ℕ) → opens_with_again (announced cs) ≡ false
-opens_announced [] = refl
-opens_announced (n ∷ cs) = refl
+opens_opening : (xs : List Line) → list_all is_opening xs ≡ true → opens_with_again (map Some xs) ≡ false
+opens_opening [] e = refl
+opens_opening (line.Channel n ∷ xs) e = refl
+opens_opening (line.Clock ns ∷ xs) e = refl
+opens_opening (line.Nothing ∷ xs) e = refl
+opens_opening (line.Body ∷ xs) e = refl
+opens_opening (line.Command c ∷ xs) e = cc
 
 -- `again` as the first command of a body
-pub no_script_with_again : (before : List (List ℕ)) (l : List ℕ) (c : Command) (cs new : List ℕ) (front : List Commands) (b : Commands) (bodies : List Commands)
+pub no_script_with_again : (before : List (List ℕ)) (l : List ℕ) (c : Command) (cs rs cs' rs' : List ℕ) (front : List Commands) (b : Commands) (bodies : List Commands)
     → said_by l ≡ Some (line.Command c) → begins_again (b.commands ++ c ∷ []) ≡ true
-    → IsScript before cs (front ++ b ∷ []) → IsScript (before ++ l ∷ []) new bodies → ⊥
-no_script_with_again before l c cs new front b bodies e a old s =
-    let h : list_any opens_with_again (parts (before ++ l ∷ [])) ≡ true = ap (list_any opens_with_again) (parts-last before l c cs front b e old)
-    ∙ one_at_last opens_with_again (announced cs ∷ map written front) (written b ++ Some (line.Command c) ∷ []) (opens-push b.commands c ∙ a) in
+    → IsScript before cs rs (front ++ b ∷ []) → IsScript (before ++ l ∷ []) cs' rs' bodies → ⊥
+no_script_with_again before l c cs rs cs' rs' front b bodies e a old s =
+    let h : list_any opens_with_again (parts (before ++ l ∷ [])) ≡ true = ap (list_any opens_with_again) (parts-last before l c cs rs front b e old)
+    ∙ one_at_last opens_with_again (map Some old.opening ∷ map written front) (written b ++ Some (line.Command c) ∷ []) (opens-push b.commands c ∙ a) in
     let n = s.begin in
     cc
 
@@ -141,39 +173,62 @@ last_All : {X : Type 0} (P : X → Type 0) (xs : List X) (x y : X) → All P (xs
 last_All P [] x y h k = All-cons P y [] (k (All-head P x [] h)) (All-nil P)
 last_All P (z ∷ xs) x y h k = All-cons P z (xs ++ y ∷ []) (All-head P z (xs ++ x ∷ []) h) (last_All P xs x y (All-tail P z (xs ++ x ∷ []) h) k)
 
+flat_map-push : {X A : Type 0} (f : X → List A) (xs : List X) (x : X) → flat_map f (xs ++ x ∷ []) ≡ flat_map f xs ++ f x
+flat_map-push f xs x = flat_map-append f xs (x ∷ []) ∙ ap (λ ys. flat_map f xs ++ ys) (append-nil (f x))
+
 -- Lines that go on with a script
 
-pub script_with_channel : (before : List (List ℕ)) (l : List ℕ) (k : ℕ) (cs : List ℕ) → said_by l ≡ Some (line.Channel k)
-    → IsScript before cs [] → IsScript (before ++ l ∷ []) (cs ++ k ∷ []) []
-script_with_channel before l k cs e old =
-    let x : Option Line = Some (line.Channel k) in
-    let is : parts (before ++ l ∷ []) ≡ announced (cs ++ k ∷ []) ∷ [] = parts-more before l x e refl refl ∙ ap (onto_last x) old.made
-    ∙ ap (λ part. part ∷ []) (sym (map-append (λ n. Some (line.Channel n)) cs (k ∷ []))) in
+script_with_opening : (before : List (List ℕ)) (l : List ℕ) (x : Line) (cs rs : List ℕ) → said_by l ≡ Some x → is_opening x ≡ true
+    → IsScript before cs rs [] → IsScript (before ++ l ∷ []) (cs ++ capacities_in x) (rs ++ readings_in x) []
+script_with_opening before l x cs rs e o old =
+    let is : parts (before ++ l ∷ []) ≡ map Some (old.opening ++ x ∷ []) ∷ [] = parts-opening before l x e o ∙ ap (onto_last (Some x)) old.made
+    ∙ ap (λ part. part ∷ []) (sym (map-append Some old.opening (x ∷ []))) in
+    let all : list_all is_opening (old.opening ++ x ∷ []) ≡ true = list_all-append is_opening old.opening (x ∷ []) ∙ rw (old.opens, o) refl in
     record {
+      opening = old.opening ++ x ∷ [];
       made = is;
-      begin = ap (list_any opens_with_again) is ∙ rw (opens_announced (cs ++ k ∷ [])) refl;
+      opens = all;
+      channels = ap (λ c. c ++ capacities_in x) old.channels ∙ sym (flat_map-push capacities_in old.opening x);
+      clock = ap (λ c. c ++ readings_in x) old.clock ∙ sym (flat_map-push readings_in old.opening x);
+      begin = ap (list_any opens_with_again) is ∙ rw (opens_opening (old.opening ++ x ∷ []) all) refl;
       fresh = old.fresh;
     }
 
-pub script_with_body : (before : List (List ℕ)) (l : List ℕ) (cs : List ℕ) (bodies : List Commands) → said_by l ≡ Some line.Body
-    → IsScript before cs bodies → IsScript (before ++ l ∷ []) cs (bodies ++ record { commands = []; next = 0 } ∷ [])
-script_with_body before l cs bodies e old = record {
-  made = parts-body before l e ∙ ap (λ p. p ++ [] ∷ []) old.made ∙ ap (λ m. announced cs ∷ m) (sym (map-append written bodies (record { commands = []; next = 0 } ∷ [])));
+pub script_with_channel : (before : List (List ℕ)) (l : List ℕ) (k : ℕ) (cs rs : List ℕ) → said_by l ≡ Some (line.Channel k)
+    → IsScript before cs rs [] → IsScript (before ++ l ∷ []) (cs ++ k ∷ []) rs []
+script_with_channel before l k cs rs e old = rw (append-nil rs) at (script_with_opening before l (line.Channel k) cs rs e refl old)
+
+pub script_with_clock : (before : List (List ℕ)) (l : List ℕ) (ns cs rs : List ℕ) → said_by l ≡ Some (line.Clock ns)
+    → IsScript before cs rs [] → IsScript (before ++ l ∷ []) cs (rs ++ ns) []
+script_with_clock before l ns cs rs e old = rw (append-nil cs) at (script_with_opening before l (line.Clock ns) cs rs e refl old)
+
+pub script_with_body : (before : List (List ℕ)) (l cs rs : List ℕ) (bodies : List Commands) → said_by l ≡ Some line.Body
+    → IsScript before cs rs bodies → IsScript (before ++ l ∷ []) cs rs (bodies ++ record { commands = []; next = 0 } ∷ [])
+script_with_body before l cs rs bodies e old = record {
+  opening = old.opening;
+  made = parts-body before l e ∙ ap (λ p. p ++ [] ∷ []) old.made ∙ ap (λ m. map Some old.opening ∷ m) (sym (map-append written bodies (record { commands = []; next = 0 } ∷ [])));
+  opens = old.opens;
+  channels = old.channels;
+  clock = old.clock;
   begin = ap (list_any opens_with_again) (parts-body before l e) ∙ list_any-append opens_with_again (parts before) ([] ∷ []) ∙ ap (λ a. a || false) old.begin;
   fresh = All-append (λ b. b.next ≡ 0) bodies (record { commands = []; next = 0 } ∷ []) old.fresh (search rules);
 }
 
-pub script_with_command : (before : List (List ℕ)) (l : List ℕ) (c : Command) (cs : List ℕ) (front : List Commands) (b : Commands)
+pub script_with_command : (before : List (List ℕ)) (l : List ℕ) (c : Command) (cs rs : List ℕ) (front : List Commands) (b : Commands)
     → said_by l ≡ Some (line.Command c) → begins_again (b.commands ++ c ∷ []) ≡ false
-    → IsScript before cs (front ++ b ∷ []) → IsScript (before ++ l ∷ []) cs (front ++ record b { commands = b.commands ++ c ∷ [] } ∷ [])
-script_with_command before l c cs front b e a old = record {
-  made = parts-last before l c cs front b e old
-      ∙ ap (λ w. (announced cs ∷ map written front) ++ w ∷ []) (sym (map-append (λ d. Some (line.Command d)) b.commands (c ∷ [])))
-      ∙ ap (λ m. announced cs ∷ m) (sym (map-append written front (record b { commands = b.commands ++ c ∷ [] } ∷ [])));
+    → IsScript before cs rs (front ++ b ∷ []) → IsScript (before ++ l ∷ []) cs rs (front ++ record b { commands = b.commands ++ c ∷ [] } ∷ [])
+script_with_command before l c cs rs front b e a old = record {
+  opening = old.opening;
+  made = parts-last before l c cs rs front b e old
+      ∙ ap (λ w. (map Some old.opening ∷ map written front) ++ w ∷ []) (sym (map-append (λ d. Some (line.Command d)) b.commands (c ∷ [])))
+      ∙ ap (λ m. map Some old.opening ∷ m) (sym (map-append written front (record b { commands = b.commands ++ c ∷ [] } ∷ [])));
+  opens = old.opens;
+  channels = old.channels;
+  clock = old.clock;
   begin =
-      let n : list_any opens_with_again ((announced cs ∷ map written front) ++ written b ∷ []) ≡ false =
-      ap (list_any opens_with_again) (sym (old.made ∙ ap (λ m. announced cs ∷ m) (map-append written front (b ∷ [])))) ∙ old.begin in
+      let n : list_any opens_with_again ((map Some old.opening ∷ map written front) ++ written b ∷ []) ≡ false =
+      ap (list_any opens_with_again) (sym (old.made ∙ ap (λ m. map Some old.opening ∷ m) (map-append written front (b ∷ [])))) ∙ old.begin in
       let o : opens_with_again (written b ++ Some (line.Command c) ∷ []) ≡ false = opens-push b.commands c ∙ a in
-      ap (list_any opens_with_again) (parts-last before l c cs front b e old) ∙ none_at_last opens_with_again (announced cs ∷ map written front) (written b) _ n o;
+      ap (list_any opens_with_again) (parts-last before l c cs rs front b e old) ∙ none_at_last opens_with_again (map Some old.opening ∷ map written front) (written b) _ n o;
   fresh = last_All (λ b. b.next ≡ 0) front b (record b { commands = b.commands ++ c ∷ [] }) old.fresh (λ h. h);
 }

@@ -41,14 +41,16 @@ RunsOnOne limits bodies capacities = (limits.procs ≡ 1) × (limits.machines �
 -- one machine with one processor may not run the script that was read
 pub record IsOutOfLimits (limits : Limits) (all : List ℕ) : Type 0 where
   pub capacities : List ℕ
+  pub readings : List ℕ
   pub bodies : List Commands
-  pub script : IsScript (lines all) capacities bodies
+  pub script : IsScript (lines all) capacities readings bodies
   pub out : ¬ (RunsOnOne limits (length bodies) capacities)
 
 -- the trace has as many goroutines as the script that was read has bodies, and at its opening the script's channels
 pub record IsStockOf (all : List ℕ) (x : Content) : Type 0 where
+  pub readings : List ℕ
   pub bodies : List Commands
-  pub script : IsScript (lines all) x.capacities bodies
+  pub script : IsScript (lines all) x.capacities readings bodies
   pub stock : x.bodies ≡ length bodies
 
 -- what was written is the text of such a trace, of one machine with one processor, and the status tells its end

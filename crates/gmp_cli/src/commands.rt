@@ -15,8 +15,12 @@ pub enum Command {
     Close(Option<CNo>),
     Len(Option<CNo>),
     Cap(Option<CNo>),
-    /// The cases, and whether there is a default.
-    Select(Cases, bool),
+    /// The cases, whether there is a default, and the moment at which the wait ends, in nanoseconds.
+    Select(Cases, bool, Option<u64>),
+    /// The moment until which it sleeps, in nanoseconds.
+    Sleep(u64),
+    Park,
+    Ready(GNo),
     Exit,
     /// No ask: goes on with the body's first command.
     Again,
@@ -48,7 +52,12 @@ impl Command {
             Command::Close(c) => Ask::Close(*c),
             Command::Len(c) => Ask::Len(*c),
             Command::Cap(c) => Ask::Cap(*c),
-            Command::Select(cases, has_default) => Ask::Select(cases.copied(), *has_default, None),
+            Command::Select(cases, has_default, until) => {
+                Ask::Select(cases.copied(), *has_default, *until)
+            }
+            Command::Sleep(until) => Ask::Sleep(*until),
+            Command::Park => Ask::Park,
+            Command::Ready(g) => Ask::Ready(*g),
             Command::Exit | Command::Again => Ask::Exit,
         }
     }
@@ -140,9 +149,13 @@ impl Body for ScriptBody {
     }
 }
 
-/// A script: the capacities of its opening channels, from channel 0, and its bodies, from that of goroutine 0.
+/// A script.
 #[derive(Debug, Drop)]
 pub struct Script {
+    /// The capacities of its opening channels, from channel 0.
     pub capacities: Vec<u32>,
+    /// The clock's readings in nanoseconds, in order.
+    pub readings: Vec<u64>,
+    /// Its bodies, from that of goroutine 0.
     pub bodies: Vec<ScriptBody>,
 }

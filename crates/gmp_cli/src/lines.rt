@@ -3,10 +3,13 @@
 ghost use Rattle.std.specs.Prelude.{◌≡◌, IfOk, map};
 ghost use Rattle.gmp_cli.specs.Lines.{words, value, below, goroutine, capacity, channel, said_alone, said_with, said_with_two, said_by_few, said_by_words, said_by};
 
+mod clocks;
 mod selects;
 
 use crate::commands::Command;
 use crate::digits::number;
+pub use crate::lines::clocks::Readings;
+use crate::lines::clocks::clocked;
 use crate::lines::selects::selected;
 use gmp_base::{CNo, GNo};
 use std::alloc::{AllocError, Global};
@@ -20,6 +23,8 @@ pub enum Line {
     Body,
     /// One more channel of this capacity is there at the opening.
     Channel(u32),
+    /// The clock reads so, after what it read by the lines before.
+    Clock(Readings),
     Command(Command),
 }
 
@@ -79,6 +84,8 @@ fn alone(word: &[u8]) -> Option<Line>
         Some(Line::Body)
     } else if word == b"yield".as_slice() {
         Some(Line::Command(Command::Yield))
+    } else if word == b"park".as_slice() {
+        Some(Line::Command(Command::Park))
     } else if word == b"exit".as_slice() {
         Some(Line::Command(Command::Exit))
     } else if word == b"again".as_slice() {
@@ -106,6 +113,10 @@ fn with(word: &[u8], k: &[u8]) -> Option<Line>
         Some(Line::Command(Command::Len(channel(k)?)))
     } else if word == b"cap".as_slice() {
         Some(Line::Command(Command::Cap(channel(k)?)))
+    } else if word == b"ready".as_slice() {
+        Some(Line::Command(Command::Ready(goroutine(k)?)))
+    } else if word == b"sleep".as_slice() {
+        Some(Line::Command(Command::Sleep(value(k)?)))
     } else {
         None
     }
@@ -141,6 +152,7 @@ fn by_words(alloc: Global, words: &[&[u8]]) -> Result<Option<Line>, AllocError>
 {
     match words {
         [first, offers @ ..] if *first == b"select".as_slice() => selected(alloc, offers),
+        [first, readings @ ..] if *first == b"clock".as_slice() => clocked(alloc, readings),
         words => Ok(by_few(words)),
     }
 }

@@ -15,10 +15,12 @@ use std::io::Read;
 
 /// Adds what the line says to the script of the lines before it, or answers false where it is bad.
 fn add(alloc: Global, script: &mut Script, line: &[u8]) -> Result<bool, AllocError>
-    ensures good { IfOk result (λ good. good ≡ true → (before : List (List ℕ)) → IsScript before script.old.capacities.items script.old.bodies.items
-        → IsScript (before ++ line.now ∷ []) script.new.capacities.items script.new.bodies.items) }
-    ensures bad { IfOk result (λ good. good ≡ false → (before : List (List ℕ)) → IsScript before script.old.capacities.items script.old.bodies.items
-        → (cs : List ℕ) (b : List Commands) → ¬ (IsScript (before ++ line.now ∷ []) cs b)) }
+    ensures good { IfOk result (λ good. good ≡ true → (before : List (List ℕ))
+        → IsScript before script.old.capacities.items script.old.readings.items script.old.bodies.items
+        → IsScript (before ++ line.now ∷ []) script.new.capacities.items script.new.readings.items script.new.bodies.items) }
+    ensures bad { IfOk result (λ good. good ≡ false → (before : List (List ℕ))
+        → IsScript before script.old.capacities.items script.old.readings.items script.old.bodies.items
+        → (cs rs : List ℕ) (b : List Commands) → ¬ (IsScript (before ++ line.now ∷ []) cs rs b)) }
 {
     match line_of(alloc, line)? {
         None => Ok(false),
@@ -32,6 +34,13 @@ fn add(alloc: Global, script: &mut Script, line: &[u8]) -> Result<bool, AllocErr
                 return Ok(false);
             }
             script.capacities.push(capacity)?;
+            Ok(true)
+        }
+        Some(Line::Clock(readings)) => {
+            if !script.bodies.is_empty() {
+                return Ok(false);
+            }
+            script.readings.extend_from_slice(readings.as_slice())?;
             Ok(true)
         }
         Some(Line::Command(command)) => {
@@ -50,12 +59,13 @@ fn add(alloc: Global, script: &mut Script, line: &[u8]) -> Result<bool, AllocErr
 /// The script that a text is.
 fn parsed(alloc: Global, text: &[u8]) -> Result<Script, Ended>
     requires { length text.now ≤ 1048576 }
-    ensures ok { IfOk result (λ s. IsScript (lines text.now) s.capacities.items s.bodies.items) }
+    ensures ok { IfOk result (λ s. IsScript (lines text.now) s.capacities.items s.readings.items s.bodies.items) }
     ensures kinds { IfErr result (λ e. is_of_script e.said ≡ true) }
     ensures first { IfErr result (λ e. (line : ℕ) → e.said ≡ BadLine line → IsFirstBad (lines text.now) line) }
 {
     let mut script = Script {
         capacities: Vec::new(alloc),
+        readings: Vec::new(alloc),
         bodies: Vec::new(alloc),
     };
     let mut number = 0u64;
@@ -72,7 +82,7 @@ fn parsed(alloc: Global, text: &[u8]) -> Result<Script, Ended>
 ///
 /// An error says which: too long, unreadable, the first bad line, or out of memory.
 pub fn script<R: Read>(alloc: Global, reader: &mut R) -> Result<Script, Ended>
-    ensures ok { IfOk result (λ s. IfSome (R.remaining reader.old) (λ all. IsScript (lines all) s.capacities.items s.bodies.items)) }
+    ensures ok { IfOk result (λ s. IfSome (R.remaining reader.old) (λ all. IsScript (lines all) s.capacities.items s.readings.items s.bodies.items)) }
 
     ensures kinds { IfErr result (λ e. (is_of_input e.said || is_of_script e.said) ≡ true) }
     ensures first { IfErr result (λ e. (line : ℕ) → e.said ≡ BadLine line

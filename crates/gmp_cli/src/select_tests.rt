@@ -7,8 +7,8 @@ use std::alloc::Global;
 use std::process::Abort;
 use std::test::Fail;
 
-/// What the last command of main asks, if it is a select without a deadline: its cases, and whether it has a default.
-fn select_of(rt: &impl Abort, alloc: Global, text: &str) -> Result<String, Fail> {
+/// What the last command of main asks, if it is a select: its cases, whether it has a default, and until when it waits.
+pub(crate) fn select_of(rt: &impl Abort, alloc: Global, text: &str) -> Result<String, Fail> {
     let mut bodies = match script(alloc, &mut text.as_bytes()) {
         Ok(script) => script.bodies,
         Err(e) => panic!(rt; "{text}: {e:?}"),
@@ -17,14 +17,14 @@ fn select_of(rt: &impl Abort, alloc: Global, text: &str) -> Result<String, Fail>
         panic!(rt; "{text}: no body");
     };
     match body.commands() {
-        [Command::Yield, Command::Select(cases, has_default)] => {
+        [Command::Yield, Command::Select(cases, has_default, until)] => {
             let cases = cases.as_slice();
-            let command = format!(in alloc; "{cases:?} {has_default}")?;
+            let command = format!(in alloc; "{cases:?} {has_default} {until:?}")?;
             let _ = body.resume(Woke::First);
             match body.resume(Woke::Done) {
-                Ask::Select(cases, has_default, None) => {
+                Ask::Select(cases, has_default, until) => {
                     let cases = cases.as_slice();
-                    let ask = format!(in alloc; "{cases:?} {has_default}")?;
+                    let ask = format!(in alloc; "{cases:?} {has_default} {until:?}")?;
                     assert_eq!(rt; ask.as_str(), command.as_str(), "{text}");
                     Ok(command)
                 }
@@ -38,36 +38,39 @@ fn select_of(rt: &impl Abort, alloc: Global, text: &str) -> Result<String, Fail>
 #[test]
 fn selects_are_read(rt: HostRuntime) -> Result<(), Fail> {
     for (line, want) in [
-        ("select", "[] false"),
-        ("select default", "[] true"),
-        ("  select   default  ", "[] true"),
-        ("select recv:0", "[Recv(Some(CNo(0)))] false"),
-        ("select recv:nil", "[Recv(None)] false"),
-        ("select recv:00065535", "[Recv(Some(CNo(65535)))] false"),
-        ("select send:0:4", "[Send(Some(CNo(0)), 4)] false"),
+        ("select", "[] false None"),
+        ("select default", "[] true None"),
+        ("  select   default  ", "[] true None"),
+        ("select recv:0", "[Recv(Some(CNo(0)))] false None"),
+        ("select recv:nil", "[Recv(None)] false None"),
+        (
+            "select recv:00065535",
+            "[Recv(Some(CNo(65535)))] false None",
+        ),
+        ("select send:0:4", "[Send(Some(CNo(0)), 4)] false None"),
         (
             "select send:nil:18446744073709551615",
-            "[Send(None, 18446744073709551615)] false",
+            "[Send(None, 18446744073709551615)] false None",
         ),
         (
             "select send:00000000000000000001:00000000000000000002",
-            "[Send(Some(CNo(1)), 2)] false",
+            "[Send(Some(CNo(1)), 2)] false None",
         ),
         (
             "select recv:nil send:nil:1 default",
-            "[Recv(None), Send(None, 1)] true",
+            "[Recv(None), Send(None, 1)] true None",
         ),
         (
             "select recv:0   send:0:4 recv:0",
-            "[Recv(Some(CNo(0))), Send(Some(CNo(0)), 4), Recv(Some(CNo(0)))] false",
+            "[Recv(Some(CNo(0))), Send(Some(CNo(0)), 4), Recv(Some(CNo(0)))] false None",
         ),
         (
             "select recv:0 recv:1 recv:2 send:3:30 send:4:40 recv:5 recv:6 send:7:70",
-            "[Recv(Some(CNo(0))), Recv(Some(CNo(1))), Recv(Some(CNo(2))), Send(Some(CNo(3)), 30), Send(Some(CNo(4)), 40), Recv(Some(CNo(5))), Recv(Some(CNo(6))), Send(Some(CNo(7)), 70)] false",
+            "[Recv(Some(CNo(0))), Recv(Some(CNo(1))), Recv(Some(CNo(2))), Send(Some(CNo(3)), 30), Send(Some(CNo(4)), 40), Recv(Some(CNo(5))), Recv(Some(CNo(6))), Send(Some(CNo(7)), 70)] false None",
         ),
         (
             "select recv:0 recv:1 recv:2 recv:3 recv:4 recv:5 recv:6 send:nil:7 default",
-            "[Recv(Some(CNo(0))), Recv(Some(CNo(1))), Recv(Some(CNo(2))), Recv(Some(CNo(3))), Recv(Some(CNo(4))), Recv(Some(CNo(5))), Recv(Some(CNo(6))), Send(None, 7)] true",
+            "[Recv(Some(CNo(0))), Recv(Some(CNo(1))), Recv(Some(CNo(2))), Recv(Some(CNo(3))), Recv(Some(CNo(4))), Recv(Some(CNo(5))), Recv(Some(CNo(6))), Send(None, 7)] true None",
         ),
     ] {
         let text = format!(in rt.alloc(); "chan 1\nbody\nyield\n{line}")?;
@@ -85,8 +88,6 @@ fn bad_selects_are_refused(rt: HostRuntime) -> Result<(), Fail> {
         "select default recv:0",
         "select recv:0 default send:0:1",
         "select default default",
-        "select recv:0 until 5",
-        "select until 5",
         "select send:0",
         "select send:0:1:2",
         "select send:0:",

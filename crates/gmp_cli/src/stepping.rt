@@ -43,8 +43,11 @@ fn run(alloc: Global, limits: Limits, script: Script, word: u64) -> Result<Trace
     if limits.procs != 1 || limits.machines != 1 {
         return Err(Ended::bad_limits());
     }
-    let Script { capacities, bodies } = script;
-    let readings = Vec::new(alloc);
+    let Script {
+        capacities,
+        bodies,
+        readings,
+    } = script;
     let machine = match Machine::open(alloc, limits, &capacities, bodies, readings, word) {
         Ok(machine) => machine,
         Err(Refusal::BadLimits) => return Err(Ended::bad_limits()),

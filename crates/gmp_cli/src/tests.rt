@@ -168,7 +168,13 @@ fn input_has_a_limit(rt: HostRuntime) -> Result<(), Fail> {
 /// The capacities and the bodies of the script that a text is, or its first bad line.
 pub(crate) fn scripted(rt: &impl Abort, alloc: Global, text: &str) -> Result<String, Fail> {
     match script(alloc, &mut text.as_bytes()) {
-        Ok(Script { capacities, bodies }) => {
+        Ok(
+            Script {
+                capacities,
+                bodies,
+                ..
+            },
+        ) => {
             let mut commands = Vec::new(alloc);
             for body in &bodies {
                 commands.push(body.commands())?;
@@ -211,9 +217,6 @@ fn scripts_are_read(rt: HostRuntime) -> Result<(), Fail> {
         ("body\nlen nil\nagain", "[] [[Len(None), Again]]"),
         ("body\n\tyield", "line 2"),
         ("body\r\nyield", "line 1"),
-        ("clock 1\nbody", "line 1"),
-        ("body\npark\nsleep 1", "line 2"),
-        ("body\nready 1", "line 2"),
         ("body\nblock 1", "line 2"),
         ("Body", "line 1"),
     ] {

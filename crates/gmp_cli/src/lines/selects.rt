@@ -2,7 +2,7 @@
 
 ghost use Rattle.std.specs.Prelude.{◌≡◌, ◌==◌, IfOk, map};
 ghost use Rattle.std.specs.List.{slice_split};
-ghost use Rattle.gmp_cli.specs.Lines.{case_by_parts, case_of, cases_of, select_of, selected};
+ghost use Rattle.gmp_cli.specs.Lines.{case_by_parts, case_of, cases_of, select_of, offered, selected};
 
 use crate::commands::Command;
 use crate::lines::{Line, channel, value};
@@ -52,11 +52,26 @@ fn cases(alloc: Global, words: &[&[u8]]) -> Result<Option<Cases>, AllocError>
 }
 
 /// The select of the cases that the words name.
-fn select(alloc: Global, words: &[&[u8]], has_default: bool) -> Result<Option<Line>, AllocError>
-    ensures { IfOk result (λ said. said ≡ select_of (map (λ word. word.now) words.now) has_default) }
+fn select(
+    alloc: Global,
+    words: &[&[u8]],
+    has_default: bool,
+    until: Option<u64>,
+) -> Result<Option<Line>, AllocError>
+    ensures { IfOk result (λ said. said ≡ select_of (map (λ word. word.now) words.now) has_default until) }
 {
     let named = cases(alloc, words)?;
-    Ok(named.map(|cases| Line::Command(Command::Select(cases, has_default))))
+    Ok(named.map(|cases| Line::Command(Command::Select(cases, has_default, until))))
+}
+
+/// The select of what the words offer: cases, and at the end a default where there is one.
+fn offered(alloc: Global, words: &[&[u8]], until: Option<u64>) -> Result<Option<Line>, AllocError>
+    ensures { IfOk result (λ said. said ≡ offered (map (λ word. word.now) words.now) until) }
+{
+    match words {
+        [offers @ .., last] if *last == b"default".as_slice() => select(alloc, offers, true, until),
+        offers => select(alloc, offers, false, until),
+    }
 }
 
 /// What a line says that has these words after `select`.
@@ -64,7 +79,12 @@ pub(super) fn selected(alloc: Global, words: &[&[u8]]) -> Result<Option<Line>, A
     ensures { IfOk result (λ said. said ≡ selected (map (λ word. word.now) words.now)) }
 {
     match words {
-        [offers @ .., last] if *last == b"default".as_slice() => select(alloc, offers, true),
-        offers => select(alloc, offers, false),
+        [offers @ .., until, moment] if *until == b"until".as_slice() => {
+            let Some(moment) = value(moment) else {
+                return Ok(None);
+            };
+            offered(alloc, offers, Some(moment))
+        }
+        offers => offered(alloc, offers, None),
     }
 }

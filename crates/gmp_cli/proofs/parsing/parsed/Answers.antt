@@ -20,8 +20,8 @@ returns-then-not-branch-clause-first c = λ line e.
       before = length c.loop-line.yielded;
       next = counted;
       within = t.0;
-      good = (c.loop-line.script.capacities.items, c.loop-line.script.bodies.items, c.loop-line.invariant.good);
-      bad = λ cs b s. c.in_ok-add.ensures.bad c.if-not-branch.true (take (length c.loop-line.yielded) (lines c.args.text.now)) c.loop-line.invariant.good cs b
+      good = (c.loop-line.script.capacities.items, c.loop-line.script.readings.items, c.loop-line.script.bodies.items, c.loop-line.invariant.good);
+      bad = λ cs rs b s. c.in_ok-add.ensures.bad c.if-not-branch.true (take (length c.loop-line.yielded) (lines c.args.text.now)) c.loop-line.invariant.good cs rs b
           (rw (counted, more) at s);
     }
 
