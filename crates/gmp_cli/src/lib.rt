@@ -27,6 +27,8 @@ pub use words::settings;
 #[cfg(test)]
 mod channel_tests;
 #[cfg(test)]
+mod deadline_tests;
+#[cfg(test)]
 mod script_tests;
 #[cfg(test)]
 mod select_tests;
