@@ -157,6 +157,7 @@ popped_drives book pass queue rest capacity proc r ticket first is kept =
       run = (kept.run, kept.latest.run);
       bodies = kept.bodies;
       owners = kept.owners;
+      minds = tt;
     }
 
 -- Calls
@@ -179,6 +180,7 @@ module _ (old new : Contents Commands Unit) (before after : Pass) (queue : List 
         run = same_run call.Acquire (acquired (Some proc.p)) records proc.run hands.run;
         bodies = rw hands.bodies kept.bodies;
         owners = rw hands.owners (lacks old.owners proc.p.0 proc.owner kept.owners hands.owner);
+        minds = tt;
       }
 
   pub acquired_drives : (proc : Proc Unit) (o : Option (Proc Unit)) → o ≡ Some proc → Records old.log before call.Acquire (acquired (option_map (λ x. x.p) o)) new.log after
@@ -199,6 +201,7 @@ module _ (old new : Contents Commands Unit) (before after : Pass) (queue : List 
         run = (same_run call.Take (taken (Some (readiness_of ticket))) records proc.run kept.run, same_run call.Take (taken (Some (readiness_of ticket))) records ticket.run run);
         bodies = rw same.bodies kept.bodies;
         owners = rw same.owners kept.owners;
+        minds = tt;
       }
 
   pub taken_drives : (proc : Proc Unit) (ticket : Ticket) (o : Option Ticket) → o ≡ Some ticket → queue ≡ [] → Records old.log before call.Take (taken (option_map readiness_of o)) new.log after
@@ -221,6 +224,7 @@ module _ (old new : Contents Commands Unit) (before after : Pass) (queue : List 
         run = same_run call.Take reply.Nothing records proc.run kept.run;
         bodies = rw same.bodies kept.bodies;
         owners = rw same.owners kept.owners;
+        minds = tt;
       }
 
   pub declare_drives : (proc : Proc Unit) → Records old.log before call.Declare (reply.Idle proc.p) new.log after → TakesBackOwner old new proc → Drives old before queue capacity (Drop proc)
@@ -233,6 +237,7 @@ module _ (old new : Contents Commands Unit) (before after : Pass) (queue : List 
         run = tt;
         bodies = rw back.bodies kept.bodies;
         owners = rw back.owners (kept.owners.rest proc.owner);
+        minds = tt;
       }
 
   -- nobody else can wake it, so it is answered by a deadline, or that all are asleep
@@ -260,6 +265,7 @@ module _ (old new : Contents Commands Unit) (before after : Pass) (queue : List 
         run = same_run (call.Tick moment) (reply.Woke n) records proc.run kept.run;
         bodies = rw same.bodies kept.bodies;
         owners = rw same.owners kept.owners;
+        minds = tt;
       }
 
   pub mind_drives : (until moment n : ℕ) → Records old.log before (call.Tick moment) (reply.Woke n) new.log after → SameValues old new
@@ -272,6 +278,7 @@ module _ (old new : Contents Commands Unit) (before after : Pass) (queue : List 
         run = tt;
         bodies = rw same.bodies kept.bodies;
         owners = rw same.owners kept.owners;
+        minds = tt;
       }
 
   pub claim_drives : (proc : Proc Unit) (ticket : Ticket) (held : Held Commands) → Records old.log before (call.Claim (readiness_of ticket)) reply.Held new.log after → HandsOut old new held
@@ -284,6 +291,7 @@ module _ (old new : Contents Commands Unit) (before after : Pass) (queue : List 
         run = (same_run (call.Claim (readiness_of ticket)) reply.Held records proc.run kept.run.0, same_run (call.Claim (readiness_of ticket)) reply.Held records held.run hands.run);
         bodies = rw hands.bodies (lacks old.bodies held.g.0 held.body kept.bodies hands.body);
         owners = rw hands.owners kept.owners;
+        minds = tt;
       }
 
   pub freshen_drives : (proc : Proc Unit) (ticket : Ticket) (woken : Option MNo) → Records old.log before call.Poke (poked woken) new.log after → SameValues old new
@@ -296,6 +304,7 @@ module _ (old new : Contents Commands Unit) (before after : Pass) (queue : List 
         run = (same_run call.Poke (poked woken) records proc.run kept.run.0, same_run call.Poke (poked woken) records ticket.run kept.run.1);
         bodies = rw same.bodies kept.bodies;
         owners = rw same.owners kept.owners;
+        minds = tt;
       }
 
   pub poke_drives : (proc : Proc Unit) (held : Held Commands) (woken : Option MNo) → Records old.log before call.Poke (poked woken) new.log after → SameValues old new
@@ -308,6 +317,7 @@ module _ (old new : Contents Commands Unit) (before after : Pass) (queue : List 
         run = (same_run call.Poke (poked woken) records proc.run kept.run.0, same_run call.Poke (poked woken) records held.run kept.run.1);
         bodies = rw same.bodies kept.bodies;
         owners = rw same.owners kept.owners;
+        minds = tt;
       }
 
   -- the goroutine that ran gives its body back
@@ -321,6 +331,7 @@ module _ (old new : Contents Commands Unit) (before after : Pass) (queue : List 
         run = same_run call.Yield (reply.Shelved r) records proc.run kept.run.0;
         bodies = rw back.bodies (kept.bodies.rest held.body);
         owners = rw back.owners kept.owners;
+        minds = tt;
       }
 
   pub exit_drives : (proc : Proc Unit) (held : Held Commands) (e : Exited) → Records old.log before call.Exit (left e) new.log after
@@ -333,6 +344,7 @@ module _ (old new : Contents Commands Unit) (before after : Pass) (queue : List 
         run = same_run call.Exit (left e) records proc.run kept.run.0;
         bodies = rw back.bodies (kept.bodies.rest held.body);
         owners = rw back.owners kept.owners;
+        minds = tt;
       }
 
   -- The goroutine goes on
@@ -355,6 +367,7 @@ module _ (old new : Contents Commands Unit) (before after : Pass) (queue : List 
         run = (same_run asked answer records proc.run kept.run.0, same_run asked answer records w.held.run (run ∙ kept.run.1));
         bodies = rw (g, same.bodies) kept.bodies;
         owners = rw same.owners kept.owners;
+        minds = tt;
       }
 
   pub go_drives : (proc : Proc Unit) (held : Held Commands) (w : Went Commands) (k : GNo) → by.Proceeds old.log before (call.Go k) held new.log after w → SameValues old new
@@ -446,6 +459,7 @@ module _ (old new : Contents Commands Unit) (before after : Pass) (queue : List 
         run = same_run asked reply.Waits records proc.run kept.run.0;
         bodies = rw back.bodies (kept.bodies.rest held.body);
         owners = rw back.owners kept.owners;
+        minds = tt;
       }
 
   pub deal_wait_drives : (proc : Proc Unit) (held : Held Commands) (moved : Moved Commands) (asked : Call) (why : Kind) (offers : List Offer) (until : Option ℕ) → moved ≡ Waits
@@ -490,4 +504,5 @@ opening_drives run limits capacities bodies owners may =
       run = tt;
       bodies = all_filled-map bodies;
       owners = all_filled-map owners;
+      minds = tt;
     }

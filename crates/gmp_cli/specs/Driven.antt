@@ -23,7 +23,7 @@ use Rattle.gmp_seq.specs.Fits.{AreLimits}
 use Rattle.gmp_seq.specs.Machines.{Machines, Holds, IsAwake, has_processor, set_holder, some_idle, spins}
 use Rattle.gmp_seq.specs.Run.{IsLegal}
 use Rattle.gmp_seq.specs.State.{State}
-use Rattle.gmp_seq.specs.Table.{Table, due_answer, epoch_at, how_many_woken, is_out, is_running_on, is_shelved, some_status}
+use Rattle.gmp_seq.specs.Table.{Table, due_answer, epoch_at, how_many_woken, is_out, is_running_on, is_shelved, minded, some_status}
 use Rattle.gmp_slots.specs.Slots.{is_vacant, all_filled}
 use Rattle.gmp_table.specs.Kept.{IsListing}
 use Rattle.gmp_cli.specs.declared.machine.Hand.{Hand}
@@ -214,6 +214,11 @@ OwnersBut owners (Poke proc held) = LacksOne owners proc.p.0
 OwnersBut owners (Drop proc) = LacksOne owners proc.p.0
 OwnersBut owners _ = all_filled owners ≡ true
 
+-- the deadline that it minds is the least, and nobody is ready or running
+abbrev pub Minds : Table → Hand → Type 0
+Minds t (Mind until) = minded t ≡ Some until
+Minds t _ = Unit {0}
+
 -- the machine with its book, its pass, its queue, and what it holds
 pub record Drives {T Q : Type 0} (book : Contents T Q) (pass : Pass) (queue : List Readiness) (capacity : ℕ) (hand : Hand) : Type 0 where
   pub driven : IsDriven book.log queue capacity (stand_of hand) (length book.bodies)
@@ -221,6 +226,7 @@ pub record Drives {T Q : Type 0} (book : Contents T Q) (pass : Pass) (queue : Li
   pub run : AreOfRun book.log.run hand
   pub bodies : BodiesBut book.bodies hand
   pub owners : OwnersBut book.owners hand
+  pub minds : Minds book.log.state.table hand
 
 -- the same of the machine
 abbrev pub Driving : Machine → Hand → Type 0

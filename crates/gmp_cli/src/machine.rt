@@ -1,5 +1,5 @@
 //! One machine with a processor, and its own queue of tickets: the loop of the driver's table over the book.
-ghost use Rattle.std.specs.Prelude.{◌≡◌, ◌⊎◌, true, false, None, Some, [], length, slice_set, is_none, IfOk, IfErr, OnOk};
+ghost use Rattle.std.specs.Prelude.{◌≡◌, ◌⊎◌, ℕ, true, false, None, Some, [], length, slice_set, is_none, IfOk, IfErr, OnOk};
 ghost use Rattle.gmp_base.specs.Values.{readiness_of};
 ghost use Rattle.gmp_seq.specs.Table.{is_outstanding};
 ghost use Rattle.gmp_slots.specs.Slots.{is_vacant};
@@ -100,8 +100,9 @@ fn give_proc(book: &mut Book<ScriptBody, ()>, proc: Proc<()>)
 }
 
 impl Machine {
-    ghost use Rattle.gmp_cli.specs.Clock.{unread};
-    ghost use Rattle.gmp_cli.specs.Driven.{Driving, GoesOn, IsReportOf};
+    ghost use Rattle.gmp_cli.specs.Clock.{reading, unread};
+    ghost use Rattle.gmp_cli.specs.Driven.{Driving, GoesOn, GoesOnBy, IsReportOf};
+    ghost use Rattle.gmp_seq.specs.declared.call.Call.TheVariants.{Tick};
 
     /// The machine before its first call.
     pub(crate) fn open(
@@ -226,6 +227,8 @@ impl Machine {
         requires drives { Driving self.old hand }
         ensures drives { IfOk result (Driving self.new) }
         ensures goes { OnOk result (GoesOn self.old.book.log self.new.book.log) }
+        // Where it minds a deadline it tells the book what its clock reads.
+        ensures minds { (until : ℕ) → hand ≡ Hand.Mind until → OnOk result (GoesOnBy (Tick (reading self.old.clock (Some until))) self.old.book.log self.new.book.log) }
     {
         match hand {
             Hand::Start => Ok(self.start()),
