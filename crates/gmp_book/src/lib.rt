@@ -2,8 +2,8 @@
 //!
 //! What the calls cost, where g is the number of goroutines and h the length of the history:
 //!
-//! - `take`, `put`, `claim`, `go`, `yield_to`, `exit`, `make`, `len`, `cap`, `sleep`, `park_g`, `ready`, `declare` are constant in g and h: a row of the status
-//!   table, an end of the shelf, a place of bodies, one entry. A `claim` looks at the processors too, 32 at most.
+//! - `take`, `put`, `claim`, `go`, `yield_to`, `exit`, `make`, `len`, `cap`, `sleep`, `park_g`, `ready`, `declare` are constant in g and
+//!   h: a row of the status table, an end of the shelf, a place of bodies, one entry. A `claim` looks at the processors too, 32 at most.
 //! - `send` and `recv` look at the offers of those who wait on channels, 8 a goroutine at most, and at no goroutine.
 //! - `park` answers from counts; where nobody is ready or running and a deadline stands, it looks at all goroutines for the least.
 //! - `close` and `tick` look at all goroutines once for each that they wake, and once more.

@@ -222,7 +222,7 @@ impl StatusTable {
         Readiness { g, epoch }
     }
 
-    /// Makes a goroutine ready on the shelf, last: one that yields.
+    /// Makes a goroutine ready on the shelf, last: one that yields, or that a close or a tick wakes.
     pub fn requeue(&mut self, g: GNo, woke: Woke) -> Readiness
         requires off { IsOffShelf self.old.table g }
         requires young { epoch_at self.old.table g < 2 ^ 63 }
