@@ -1,1 +1,3 @@
 pub mod Masks
+pub mod Marking
+pub mod Holding

@@ -58,10 +58,10 @@ impl Numbers {
     }
 
     /// How many numbers are in the set.
-    pub(crate) fn len(&self) -> u32
+    pub(crate) fn len(&self) -> usize
         ensures { result ≡ count_by (λ b. b) self.now }
     {
-        self.bits.count_ones()
+        self.bits.count_ones() as usize
     }
 
     /// The least number in the set.
