@@ -20,7 +20,7 @@ not_parked mode (inl is) = ap is_parked is
 not_parked mode (inr is) = ap is_parked is
 
 -- 1 where it holds
-abbrev number_of : Bool → ℕ
+abbrev pub number_of : Bool → ℕ
 number_of b = cond b 1 0
 
 -- some element passes where the passing ones are not 0
@@ -47,7 +47,7 @@ pub flag_told : (holders : List (Option MNo)) (modes : List Mode) (holding spinn
 flag_told holders modes holding spinning m kept =
     sym (list_any-count_by (is_held_by m) holders ∙ (ap (λ n. not (n == 0)) (kept.held m) ∙ number_of_told (flag_of holding m)))
 
-flag-set_same : (flags : List Bool) (k : ℕ) (m : MNo) (b : Bool) → k < length flags → m.0 ≡ k → flag_of (set flags k b) m ≡ b
+pub flag-set_same : (flags : List Bool) (k : ℕ) (m : MNo) (b : Bool) → k < length flags → m.0 ≡ k → flag_of (set flags k b) m ≡ b
 flag-set_same flags k m b within same =
     unwrap_or-slice_get (set flags k b) m.0 false ∙ (ap (λ i. get_or (set flags k b) i false) same ∙ get_or-set_same flags k b false within)
 

@@ -10,3 +10,6 @@ mod numbers;
 mod processors;
 
 pub use machines::Machines;
+
+#[cfg(test)]
+mod tests;

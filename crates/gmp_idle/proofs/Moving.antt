@@ -1,0 +1,183 @@
+-- What each call does to the machines, by the first idle processor and the first parked machine.
+use Rattle.std.proofs.Common.{◌≡◌, ℕ, ◌*◌, ◌<◌, ◌≤◌, ◌==◌, ◌⊎◌, Bool, true, false, not, cond, ◌&&◌, Option, Some, None, List, length, get_or, replicate, set, refl, sym, ap, subst, ◌∙◌, inl, inr, arith}
+use Rattle.std.specs.Prelude.{count_by, is_none, position, slice_get, unwrap_or}
+use Rattle.std.specs.List.{list_any}
+use Rattle.std.proofs.lemmas.Bool.{cases_lt}
+use Rattle.std.proofs.lemmas.List.{get_or-replicate, get_or_past, length-replicate, length-set, set_comm}
+use Rattle.std.proofs.lemmas.List.Folds.{list_any_at, sum_by-replicate}
+use Rattle.std.proofs.lemmas.List.Quantifiers.{position-Some}
+use Rattle.std.proofs.lemmas.Option.{slice_get-get_or, slice_get_within, unwrap_or-slice_get}
+use Rattle.gmp_base.specs.declared.number.MNo.{MNo}
+use Rattle.gmp_base.specs.declared.number.PNo.{PNo}
+use Rattle.gmp_seq.specs.declared.call.Reply.TheVariants as reply
+use Rattle.gmp_seq.specs.declared.status.Mode.{Mode}
+use Rattle.gmp_seq.specs.declared.status.Mode.TheVariants.{Awake, Parked, Calling}
+use Rattle.gmp_seq.specs.Machines.{Machines, Enters, Holds, IsAwake, IsIdle, IsParked, Pokes, has_processor, how_many_spin, is_held_by, is_parked, set_holder, set_mode, some_idle, some_parked, wants_poke}
+use Rattle.gmp_seq.proofs.Epochs.{slice_get-set_same}
+use Rattle.gmp_idle.specs.Kept.{IsKept, flag_of}
+use Rattle.gmp_idle.specs.Replies.{poked}
+use Rattle.gmp_idle.specs.Tables.{Wakes}
+use Rattle.gmp_idle.proofs.Holding.{flag-set_same, flag_told, given_up, holder_within, list_any-count_by, number_of, taken, turned}
+use Rattle.gmp_idle.proofs.Marking.{not-not}
+
+-- The first ones
+
+nobody : (holder : Option MNo) → is_none holder ≡ true → holder ≡ None
+nobody None e = refl
+nobody (Some m) e = absurd cc
+
+pub first_idle : (holders : List (Option MNo)) (i : ℕ) → position is_none holders ≡ Some i → slice_get holders i ≡ Some None
+first_idle holders i first =
+    let none : Option MNo = None in
+    let there = position-Some is_none holders i none first in
+    slice_get-get_or holders i none there.0 ∙ ap Some (nobody (get_or holders i none) there.1)
+
+parked_mode : (mode : Mode) → is_parked mode ≡ true → mode ≡ Parked
+parked_mode Parked e = refl
+parked_mode _ e = absurd cc
+
+pub first_parked : (modes : List Mode) (i : ℕ) → position is_parked modes ≡ Some i → slice_get modes i ≡ Some Parked
+first_parked modes i first =
+    let there = position-Some is_parked modes i Parked first in
+    slice_get-get_or modes i Parked there.0 ∙ ap Some (parked_mode (get_or modes i Parked) there.1)
+
+some_is_parked : (modes : List Mode) (i : ℕ) → position is_parked modes ≡ Some i → list_any is_parked modes ≡ true
+some_is_parked modes i first =
+    let there = position-Some is_parked modes i Parked first in
+    list_any_at is_parked modes i Parked there.0 there.1
+
+-- What is kept
+
+-- nobody holds a processor, and no machine is in a blocking call
+pub kept_at_first : (procs machines : ℕ) → IsKept (replicate procs None) (replicate machines Awake) (replicate machines false) (replicate machines false)
+kept_at_first procs machines = record {
+  flags = length-replicate machines false ∙ sym (length-replicate machines Awake);
+  spinners = length-replicate machines false ∙ sym (length-replicate machines Awake);
+  held = λ m. none_held m ∙ ap number_of (sym (unset m));
+  callers = λ m calls. unset m;
+}
+  where
+    none_held : (m : MNo) → count_by (is_held_by m) (replicate procs None) ≡ 0
+    none_held m =
+        let none : Option MNo = None in
+        let counted = sum_by-replicate (λ h. number_of (is_held_by m h)) procs none in
+        omega (arith, counted)
+
+    unset : (m : MNo) → flag_of (replicate machines false) m ≡ false
+    unset m = unwrap_or-slice_get (replicate machines false) m.0 false ∙ by_place (cases_lt m.0 machines)
+      where
+        by_place : (m.0 < machines) ⊎ (machines ≤ m.0) → get_or (replicate machines false) m.0 false ≡ false
+        by_place (inl below) = get_or-replicate machines m.0 false false below
+        by_place (inr past) =
+            let long = length-replicate machines false in
+            get_or_past (replicate machines false) m.0 false (omega arith)
+
+module _ (holders : List (Option MNo)) (modes : List Mode) (holding spinning : List Bool) (kept : IsKept holders modes holding spinning) where
+  -- a machine that is awake and holds no processor takes the first idle one
+  pub kept_taken : (m : MNo) (i : ℕ) → slice_get modes m.0 ≡ Some Awake → list_any (is_held_by m) holders ≡ false → position is_none holders ≡ Some i
+      → IsKept (set holders i (Some m)) modes (set holding m.0 true) spinning
+  kept_taken m i awake bare first =
+      taken holders modes holding spinning kept m i (first_idle holders i first) (flag_told holders modes holding spinning m kept ∙ bare)
+      (slice_get_within modes m.0 Awake awake) busy
+    where
+      busy : (n : MNo) → slice_get modes n.0 ≡ Some Calling → n.0 ≡ m.0 → ⊥
+      busy n calls same =
+          let here : slice_get modes m.0 ≡ Some Calling = ap (slice_get modes) (sym same) ∙ calls in
+          cc
+
+  pub kept_woken : (r : Option MNo) (woken : List Mode) → Wakes r modes woken → IsKept holders woken holding spinning
+  kept_woken None woken wakes = rw wakes.1 kept
+  kept_woken (Some n) woken wakes = rw wakes.1 (turned holders modes holding spinning kept n Awake (λ e. absurd cc))
+
+-- the machine gives up its processor, another may wake, and the machine is in a blocking call
+pub kept_entered : (holders : List (Option MNo)) (modes : List Mode) (holding spinning : List Bool) → IsKept holders modes holding spinning
+    → (m : MNo) (i : ℕ) (r : Option MNo) (woken : List Mode) → slice_get holders i ≡ Some (Some m) → Wakes r modes woken
+    → IsKept (set holders i None) (set woken m.0 Calling) (set holding m.0 false) spinning
+kept_entered holders modes holding spinning kept m i r woken holds wakes =
+    let within = holder_within holders modes holding spinning kept m i holds in
+    let free = given_up holders modes holding spinning kept m i holds in
+    let after = kept_woken (set holders i None) modes (set holding m.0 false) spinning free r woken wakes in
+    turned (set holders i None) woken (set holding m.0 false) spinning after m Calling (λ e. flag-set_same holding m.0 m false within refl)
+
+-- a machine comes back from its blocking call, and takes the first idle processor
+pub kept_left : (holders : List (Option MNo)) (modes : List Mode) (holding spinning : List Bool) → IsKept holders modes holding spinning
+    → (m : MNo) (i : ℕ) → slice_get modes m.0 ≡ Some Calling → position is_none holders ≡ Some i
+    → IsKept (set holders i (Some m)) (set modes m.0 Awake) (set holding m.0 true) spinning
+kept_left holders modes holding spinning kept m i calls first =
+    let awake = slice_get-set_same modes m.0 Awake Calling calls in
+    let back = turned holders modes holding spinning kept m Awake (λ e. absurd cc) in
+    let bare = sym (flag_told holders modes holding spinning m kept) ∙ kept.callers m calls in
+    kept_taken holders (set modes m.0 Awake) holding spinning back m i awake bare first
+
+-- The relations
+
+no_first : (b c : Bool) → (false && b && c) ≡ false
+no_first b c = refl
+
+no_second : (a c : Bool) → (a && false && c) ≡ false
+no_second true c = refl
+no_second false c = refl
+
+no_third : (a b : Bool) → (a && b && false) ≡ false
+no_third true true = refl
+no_third true false = refl
+no_third false b = refl
+
+-- nobody spins where no flag is true
+spinners : (w : Machines) → (how_many_spin w == 0) ≡ not (list_any (λ b. b) w.spinning)
+spinners w = sym (not-not (how_many_spin w == 0)) ∙ ap not (sym (list_any-count_by (λ b. b) w.spinning))
+
+pub unwanted_for_spinners : (w : Machines) → list_any (λ b. b) w.spinning ≡ true → wants_poke w ≡ false
+unwanted_for_spinners w some =
+    ap (λ (a : Bool). a && some_idle w && some_parked w) (spinners w ∙ ap not some) ∙ no_first (some_idle w) (some_parked w)
+
+pub unwanted_with_none_idle : (w : Machines) → some_idle w ≡ false → wants_poke w ≡ false
+unwanted_with_none_idle w none = ap (λ (b : Bool). (how_many_spin w == 0) && b && some_parked w) none ∙ no_second (how_many_spin w == 0) (some_parked w)
+
+unwanted_with_none_parked : (w : Machines) → some_parked w ≡ false → wants_poke w ≡ false
+unwanted_with_none_parked w none = ap (λ (c : Bool). (how_many_spin w == 0) && some_idle w && c) none ∙ no_third (how_many_spin w == 0) (some_idle w)
+
+wanted : (w : Machines) → list_any (λ b. b) w.spinning ≡ false → some_idle w ≡ true → some_parked w ≡ true → wants_poke w ≡ true
+wanted w calm idle parked =
+    ap (λ (a : Bool). a && some_idle w && some_parked w) (spinners w ∙ ap not calm)
+    ∙ (ap (λ (b : Bool). true && b && some_parked w) idle ∙ ap (λ (c : Bool). true && true && c) parked)
+
+pub pokes : (old value : Machines) (m : MNo) (r : Option MNo) (woken : List Mode) → old ≡ value → IsAwake value m → list_any (λ b. b) old.spinning ≡ false
+    → some_idle old ≡ true → Wakes r old.modes woken
+    → Pokes m (poked r) value (record { holders = old.holders; modes = woken; spinning = old.spinning })
+pokes old value m None woken is awake calm idle wakes = (
+  awake,
+  ap wants_poke (sym is) ∙ unwanted_with_none_parked old wakes.0,
+  ap (λ (ms : List Mode). record old { modes = ms }) wakes.1 ∙ is,
+)
+pokes old value m (Some n) woken is awake calm idle wakes = (
+  awake,
+  ap wants_poke (sym is) ∙ wanted old calm idle (some_is_parked old.modes n.0 wakes.0),
+  subst (λ (w : Machines). IsParked w n) is (first_parked old.modes n.0 wakes.0),
+  ap (λ (ms : List Mode). record old { modes = ms }) wakes.1 ∙ ap (λ (w : Machines). set_mode w n Awake) is,
+)
+
+pub enters : (old value : Machines) (m : MNo) (p : PNo) (r : Option MNo) (woken : List Mode) → old ≡ value → IsAwake value m → Holds value m p
+    → Wakes r old.modes woken
+    → Enters m (reply.Entered p r) value (record { holders = set old.holders p.0 None; modes = set woken m.0 Calling; spinning = old.spinning })
+enters old value m p None woken is awake holds wakes = (
+  holds,
+  ap some_parked (sym is) ∙ wakes.0,
+  ap (λ (ms : List Mode). set_mode (record (set_holder old p None) { modes = ms }) m Calling) wakes.1
+  ∙ ap (λ (w : Machines). set_mode (set_holder w p None) m Calling) is,
+)
+enters old value m p (Some n) woken is awake holds wakes =
+    let parked = first_parked old.modes n.0 wakes.0 in
+    let here : slice_get old.modes m.0 ≡ Some Awake = subst (λ (w : Machines). IsAwake w m) (sym is) awake in
+    let turned : set woken m.0 Calling ≡ set (set old.modes m.0 Calling) n.0 Awake =
+        ap (λ ms. set ms m.0 Calling) wakes.1 ∙ set_comm old.modes n.0 m.0 Awake Calling (apart old.modes n.0 m.0 parked here) in (
+      holds,
+      subst (λ (w : Machines). IsParked w n) is parked,
+      ap (λ (ms : List Mode). record (set_holder old p None) { modes = ms }) turned
+      ∙ ap (λ (w : Machines). set_mode (set_mode (set_holder w p None) m Calling) n Awake) is,
+    )
+  where
+    apart : (modes : List Mode) (i j : ℕ) → slice_get modes i ≡ Some Parked → slice_get modes j ≡ Some Awake → i ≡ j → ⊥
+    apart modes i j parked awake same =
+        let there : slice_get modes j ≡ Some Parked = ap (slice_get modes) (sym same) ∙ parked in
+        cc
