@@ -1,16 +1,14 @@
 -- Which machines hold a processor: the flags, and how often a machine is among the holders.
-use Rattle.std.proofs.Common.{◌≡◌, ℕ, zero, suc, ◌+◌, ◌<◌, ◌≤◌, ◌==◌, ◌⊎◌, Bool, true, false, not, cond, ◌||◌, Option, Some, None, List, [], ◌∷◌, length, get_or, set, refl, sym, ap, ◌∙◌, inl, inr, arith}
+use Rattle.std.proofs.Common.{◌≡◌, ℕ, ◌+◌, ◌<◌, ◌≤◌, ◌==◌, ◌⊎◌, Bool, true, false, not, cond, ◌||◌, Option, Some, None, List, [], ◌∷◌, length, get_or, set, refl, sym, ap, ◌∙◌, inl, inr, arith}
 use Rattle.std.specs.Prelude.{count_by, slice_get, unwrap_or}
 use Rattle.std.specs.List.{list_any}
 use Rattle.std.proofs.lemmas.Bool.{cases_eq, cases_lt, eq-eqb, ne_eqb, false≢true}
-use Rattle.std.proofs.lemmas.Bool.Decides.{nat_tests}
 use Rattle.std.proofs.lemmas.List.{get_or-set_same, get_or-set_other, get_or_past, length-set}
 use Rattle.std.proofs.lemmas.List.Sums.{sum_by-cons, sum_by-set}
 use Rattle.std.proofs.lemmas.Option.{get_or_from_slice_get, slice_get_within, unwrap_or-slice_get}
 use Rattle.gmp_base.specs.declared.number.MNo.{MNo}
-use Rattle.gmp_base.specs.declared.number.PNo.{PNo}
 use Rattle.gmp_seq.specs.declared.status.Mode.{Mode}
-use Rattle.gmp_seq.specs.declared.status.Mode.TheVariants.{Awake, Parked, Calling}
+use Rattle.gmp_seq.specs.declared.status.Mode.TheVariants.{Awake, Calling}
 use Rattle.gmp_seq.specs.Machines.{is_held_by, is_parked}
 use Rattle.gmp_seq.proofs.Epochs.{at_set}
 use Rattle.gmp_idle.specs.Kept.{IsKept, flag_of}

@@ -1,5 +1,5 @@
 -- A table, and for each of its elements a flag that says whether it passes a test.
-use Rattle.std.proofs.Common.{◌≡◌, ℕ, zero, suc, ◌+◌, ◌<◌, Bool, true, false, not, cond, ◌||◌, Option, Some, None, List, [], ◌∷◌, length, map, replicate, set, refl, sym, ap, ◌∙◌}
+use Rattle.std.proofs.Common.{◌≡◌, ℕ, zero, suc, ◌+◌, Bool, true, false, not, cond, ◌||◌, Option, Some, None, List, [], ◌∷◌, length, map, replicate, set, refl, sym, ap, ◌∙◌}
 use Rattle.std.specs.Prelude.{nat_lt}
 use Rattle.std.specs.List.{list_any, position, position_from, position_or_len, prefix_len}
 use Rattle.std.proofs.lemmas.Iterator.Adapters.{position_from-zero}

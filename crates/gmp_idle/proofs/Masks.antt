@@ -1,11 +1,11 @@
 -- Sets of small numbers, by their bits.
-use Rattle.std.proofs.Common.{◌≡◌, ℕ, zero, suc, ◌+◌, ◌-◌, ◌*◌, ◌/◌, ◌%◌, ◌<◌, ◌≤◌, ◌==◌, ◌^◌, ◌⊎◌, Bool, true, false, not, cond, Option, Some, None, List, [], ◌∷◌, length, map, replicate, get_or, set, bit_and, bit_or, w64, refl, sym, ap, ◌∙◌, inl, inr, arith}
-use Rattle.std.specs.Prelude.{count_by, count_ones, nat_lt, position, slice_get, unwrap_or}
-use Rattle.std.specs.Int.{bit_at, bit_not}
+use Rattle.std.proofs.Common.{◌≡◌, ℕ, ◌+◌, ◌-◌, ◌*◌, ◌/◌, ◌%◌, ◌<◌, ◌≤◌, ◌==◌, ◌^◌, ◌⊎◌, Bool, true, false, not, cond, Some, None, List, [], ◌∷◌, length, replicate, get_or, set, bit_and, bit_or, w64, refl, sym, ap, ◌∙◌, inl, inr, arith}
+use Rattle.std.specs.Prelude.{count_by, count_ones, position, slice_get, unwrap_or}
+use Rattle.std.specs.Int.{bit_at}
 use Rattle.std.specs.Int.Count.{count_trailing_zeros}
-use Rattle.std.specs.List.{list_any, position_or_len, range_with_len}
+use Rattle.std.specs.List.{list_any, position_or_len}
 use Rattle.std.specs.Simd.Lanes.{mask_l}
-use Rattle.std.proofs.lemmas.Bool.{cases_eq, cases_lt, lt-ltb, le-ltb, eq-eqb, ne_eqb}
+use Rattle.std.proofs.lemmas.Bool.{cases_eq, cases_lt, lt-ltb, le-ltb, ne_eqb}
 use Rattle.std.proofs.lemmas.Bool.Decides.{nat_tests}
 use Rattle.std.proofs.lemmas.List.{get_or-replicate, get_or-set_same, get_or-set_other, get_or_past, length-replicate, length-set, map-id}
 use Rattle.std.proofs.lemmas.List.FromFn.{fill_by_all, get_or-map-range_with_len, length-map-range_with_len}
@@ -107,9 +107,9 @@ least_some bits size room fits some =
     let inside : lowest bits < size = within (cases_lt (lowest bits) size) low.1 in
     let long = length-flags bits size in
     let first : least_place bits size ≡ lowest bits =
-        position_or_len_is (λ b. b) (flags bits size) (lowest bits) false (omega arith)
-        (λ k before. flag_at bits size k (omega arith) ∙ ap (λ b. b == 1) (low.2 k before))
-        (λ _. flag_at bits size (lowest bits) inside ∙ ap (λ b. b == 1) low.1) in
+    position_or_len_is (λ b. b) (flags bits size) (lowest bits) false (omega arith)
+    (λ k before. flag_at bits size k (omega arith) ∙ ap (λ b. b == 1) (low.2 k before))
+    (λ _. flag_at bits size (lowest bits) inside ∙ ap (λ b. b == 1) low.1) in
     ap Some (sym first) ∙ sym (ap (λ b. cond b (Some (least_place bits size)) None) (lt-ltb (least_place bits size) (length (flags bits size)) (omega arith)))
   where
     below_64 : (size < 64) ⊎ (64 ≤ size) → bits < 2 ^ 64
@@ -134,7 +134,7 @@ no_flag bits size i is = ap (λ n. get_or (flags n size) i false) is ∙ (ap (λ
 pub least_none : (bits size : ℕ) → bits ≡ 0 → None ≡ position (λ b. b) (flags bits size)
 least_none bits size is =
     let at_end : least_place bits size ≡ length (flags bits size) =
-        position_or_len_is (λ b. b) (flags bits size) (length (flags bits size)) false (omega arith) (λ k before. no_flag bits size k is) (λ past. absurd (omega arith)) in
+    position_or_len_is (λ b. b) (flags bits size) (length (flags bits size)) false (omega arith) (λ k before. no_flag bits size k is) (λ past. absurd (omega arith)) in
     sym (ap (λ b. cond b (Some (least_place bits size)) None) (le-ltb (least_place bits size) (length (flags bits size)) (omega arith)))
 
 -- Changes

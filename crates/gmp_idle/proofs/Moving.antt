@@ -1,9 +1,9 @@
 -- What each call does to the machines, by the first idle processor and the first parked machine.
-use Rattle.std.proofs.Common.{◌≡◌, ℕ, ◌*◌, ◌<◌, ◌≤◌, ◌==◌, ◌⊎◌, Bool, true, false, not, cond, ◌&&◌, Option, Some, None, List, length, get_or, replicate, set, refl, sym, ap, subst, ◌∙◌, inl, inr, arith}
-use Rattle.std.specs.Prelude.{count_by, is_none, position, slice_get, unwrap_or}
+use Rattle.std.proofs.Common.{◌≡◌, ℕ, ◌<◌, ◌≤◌, ◌==◌, ◌⊎◌, Bool, true, false, not, ◌&&◌, Option, Some, None, List, get_or, replicate, set, refl, sym, ap, subst, ◌∙◌, inl, inr, arith}
+use Rattle.std.specs.Prelude.{count_by, is_none, position, slice_get}
 use Rattle.std.specs.List.{list_any}
 use Rattle.std.proofs.lemmas.Bool.{cases_lt}
-use Rattle.std.proofs.lemmas.List.{get_or-replicate, get_or_past, length-replicate, length-set, set_comm}
+use Rattle.std.proofs.lemmas.List.{get_or-replicate, get_or_past, length-replicate, set_comm}
 use Rattle.std.proofs.lemmas.List.Folds.{list_any_at, sum_by-replicate}
 use Rattle.std.proofs.lemmas.List.Quantifiers.{position-Some}
 use Rattle.std.proofs.lemmas.Option.{slice_get-get_or, slice_get_within, unwrap_or-slice_get}
@@ -12,8 +12,7 @@ use Rattle.gmp_base.specs.declared.number.PNo.{PNo}
 use Rattle.gmp_seq.specs.declared.call.Reply.TheVariants as reply
 use Rattle.gmp_seq.specs.declared.status.Mode.{Mode}
 use Rattle.gmp_seq.specs.declared.status.Mode.TheVariants.{Awake, Parked, Calling}
-use Rattle.gmp_seq.specs.Machines.{Machines, Enters, Holds, IsAwake, IsIdle, IsParked, Pokes, has_processor, how_many_spin, is_held_by, is_parked, set_holder, set_mode, some_idle, some_parked, wants_poke}
-use Rattle.gmp_seq.proofs.Epochs.{slice_get-set_same}
+use Rattle.gmp_seq.specs.Machines.{Machines, Enters, Holds, IsAwake, IsParked, Pokes, how_many_spin, is_held_by, is_parked, set_holder, set_mode, some_idle, some_parked, wants_poke}
 use Rattle.gmp_idle.specs.Kept.{IsKept, flag_of}
 use Rattle.gmp_idle.specs.Replies.{poked}
 use Rattle.gmp_idle.specs.Tables.{Wakes}
@@ -89,25 +88,22 @@ module _ (holders : List (Option MNo)) (modes : List Mode) (holding spinning : L
   kept_woken None woken wakes = rw wakes.1 kept
   kept_woken (Some n) woken wakes = rw wakes.1 (turned holders modes holding spinning kept n Awake (λ e. absurd cc))
 
--- the machine gives up its processor, another may wake, and the machine is in a blocking call
-pub kept_entered : (holders : List (Option MNo)) (modes : List Mode) (holding spinning : List Bool) → IsKept holders modes holding spinning
-    → (m : MNo) (i : ℕ) (r : Option MNo) (woken : List Mode) → slice_get holders i ≡ Some (Some m) → Wakes r modes woken
-    → IsKept (set holders i None) (set woken m.0 Calling) (set holding m.0 false) spinning
-kept_entered holders modes holding spinning kept m i r woken holds wakes =
-    let within = holder_within holders modes holding spinning kept m i holds in
-    let free = given_up holders modes holding spinning kept m i holds in
-    let after = kept_woken (set holders i None) modes (set holding m.0 false) spinning free r woken wakes in
-    turned (set holders i None) woken (set holding m.0 false) spinning after m Calling (λ e. flag-set_same holding m.0 m false within refl)
+  -- a machine that gave up its processor holds none
+  pub bare_after : (m : MNo) (i : ℕ) → slice_get holders i ≡ Some (Some m) → list_any (is_held_by m) (set holders i None) ≡ false
+  bare_after m i holds =
+      let free = given_up holders modes holding spinning kept m i holds in
+      let within = holder_within holders modes holding spinning kept m i holds in
+      sym (flag_told (set holders i None) modes (set holding m.0 false) spinning m free) ∙ flag-set_same holding m.0 m false within refl
 
--- a machine comes back from its blocking call, and takes the first idle processor
-pub kept_left : (holders : List (Option MNo)) (modes : List Mode) (holding spinning : List Bool) → IsKept holders modes holding spinning
-    → (m : MNo) (i : ℕ) → slice_get modes m.0 ≡ Some Calling → position is_none holders ≡ Some i
-    → IsKept (set holders i (Some m)) (set modes m.0 Awake) (set holding m.0 true) spinning
-kept_left holders modes holding spinning kept m i calls first =
-    let awake = slice_get-set_same modes m.0 Awake Calling calls in
-    let back = turned holders modes holding spinning kept m Awake (λ e. absurd cc) in
-    let bare = sym (flag_told holders modes holding spinning m kept) ∙ kept.callers m calls in
-    kept_taken holders (set modes m.0 Awake) holding spinning back m i awake bare first
+  -- a machine that holds no processor goes into a blocking call, and another may have woken
+  pub kept_entered : (m : MNo) (r : Option MNo) (woken : List Mode) → list_any (is_held_by m) holders ≡ false → Wakes r modes woken
+      → IsKept holders (set woken m.0 Calling) holding spinning
+  kept_entered m r woken bare wakes =
+      turned holders woken holding spinning (kept_woken r woken wakes) m Calling (λ e. flag_told holders modes holding spinning m kept ∙ bare)
+
+  -- a machine in a blocking call holds no processor
+  pub bare_in_call : (m : MNo) → slice_get modes m.0 ≡ Some Calling → list_any (is_held_by m) holders ≡ false
+  bare_in_call m calls = sym (flag_told holders modes holding spinning m kept) ∙ kept.callers m calls
 
 -- The relations
 
@@ -157,24 +153,23 @@ pokes old value m (Some n) woken is awake calm idle wakes = (
   ap (λ (ms : List Mode). record old { modes = ms }) wakes.1 ∙ ap (λ (w : Machines). set_mode w n Awake) is,
 )
 
-pub enters : (old value : Machines) (m : MNo) (p : PNo) (r : Option MNo) (woken : List Mode) → old ≡ value → IsAwake value m → Holds value m p
-    → Wakes r old.modes woken
-    → Enters m (reply.Entered p r) value (record { holders = set old.holders p.0 None; modes = set woken m.0 Calling; spinning = old.spinning })
-enters old value m p None woken is awake holds wakes = (
+-- between, the machine's processor is idle, and nothing else is done
+pub enters : (between value : Machines) (m : MNo) (p : PNo) (r : Option MNo) (woken : List Mode) → between ≡ set_holder value p None → IsAwake value m
+    → Holds value m p → Wakes r between.modes woken
+    → Enters m (reply.Entered p r) value (record { holders = between.holders; modes = set woken m.0 Calling; spinning = between.spinning })
+enters between value m p None woken is awake holds wakes = (
   holds,
   ap some_parked (sym is) ∙ wakes.0,
-  ap (λ (ms : List Mode). set_mode (record (set_holder old p None) { modes = ms }) m Calling) wakes.1
-  ∙ ap (λ (w : Machines). set_mode (set_holder w p None) m Calling) is,
+  ap (λ (ms : List Mode). set_mode (record between { modes = ms }) m Calling) wakes.1 ∙ ap (λ (w : Machines). set_mode w m Calling) is,
 )
-enters old value m p (Some n) woken is awake holds wakes =
-    let parked = first_parked old.modes n.0 wakes.0 in
-    let here : slice_get old.modes m.0 ≡ Some Awake = subst (λ (w : Machines). IsAwake w m) (sym is) awake in
-    let turned : set woken m.0 Calling ≡ set (set old.modes m.0 Calling) n.0 Awake =
-        ap (λ ms. set ms m.0 Calling) wakes.1 ∙ set_comm old.modes n.0 m.0 Awake Calling (apart old.modes n.0 m.0 parked here) in (
+enters between value m p (Some n) woken is awake holds wakes =
+    let parked = first_parked between.modes n.0 wakes.0 in
+    let here : slice_get between.modes m.0 ≡ Some Awake = subst (λ (w : Machines). IsAwake w m) (sym is) awake in
+    let turned : set woken m.0 Calling ≡ set (set between.modes m.0 Calling) n.0 Awake =
+    ap (λ ms. set ms m.0 Calling) wakes.1 ∙ set_comm between.modes n.0 m.0 Awake Calling (apart between.modes n.0 m.0 parked here) in (
       holds,
       subst (λ (w : Machines). IsParked w n) is parked,
-      ap (λ (ms : List Mode). record (set_holder old p None) { modes = ms }) turned
-      ∙ ap (λ (w : Machines). set_mode (set_mode (set_holder w p None) m Calling) n Awake) is,
+      ap (λ (ms : List Mode). record between { modes = ms }) turned ∙ ap (λ (w : Machines). set_mode (set_mode w m Calling) n Awake) is,
     )
   where
     apart : (modes : List Mode) (i j : ℕ) → slice_get modes i ≡ Some Parked → slice_get modes j ≡ Some Awake → i ≡ j → ⊥

@@ -1,5 +1,5 @@
 -- What the parts of the machines keep.
-use Rattle.std.specs.Prelude.{◌≡◌, Bool, true, false, cond, count_by, Option, Some, List, length, slice_get, unwrap_or}
+use Rattle.std.specs.Prelude.{◌≡◌, Bool, false, cond, count_by, Option, Some, List, length, slice_get, unwrap_or}
 use Rattle.gmp_base.specs.declared.number.MNo.{MNo}
 use Rattle.gmp_seq.specs.declared.status.Mode.{Mode}
 use Rattle.gmp_seq.specs.declared.status.Mode.TheVariants.{Calling}

@@ -1,5 +1,5 @@
 -- What is done to the least idle processor, and to the least parked machine.
-use Rattle.std.specs.Prelude.{◌≡◌, ◌==◌, ℕ, false, Option, None, Some, List, is_none, position, slice_set}
+use Rattle.std.specs.Prelude.{◌≡◌, false, Option, None, Some, List, is_none, position, slice_set}
 use Rattle.std.specs.List.{list_any}
 use Rattle.gmp_base.specs.declared.number.MNo.{MNo}
 use Rattle.gmp_base.specs.declared.number.PNo.{PNo}

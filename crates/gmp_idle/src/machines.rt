@@ -4,7 +4,7 @@ ghost use Rattle.std.specs.Option.{option_map_or};
 ghost use Rattle.gmp_base.specs.declared.number.Readiness.{Readiness};
 ghost use Rattle.gmp_seq.specs.declared.call.Reply.{Reply};
 ghost use Rattle.gmp_seq.specs.declared.status.Mode.{Mode};
-ghost use Rattle.gmp_seq.specs.Machines.{Acquires, Declares, Enters, Holds, IsAwake, IsParked, Looks, Pokes, Returns, Spins, Unspins, has_processor, is_held_by, is_parked, may_spin, set_mode, some_idle, spins};
+ghost use Rattle.gmp_seq.specs.Machines.{Acquires, Declares, Enters, Holds, IsAwake, IsParked, Looks, Pokes, Returns, Spins, Unspins, has_processor, is_held_by, is_parked, may_spin, set_holder, set_mode, some_idle, spins};
 ghost use Rattle.gmp_idle.specs.Replies.{acquired, is_awake_mode, is_calling_mode, poked};
 
 use crate::modes::Modes;
@@ -108,14 +108,23 @@ impl Machines {
         Some(p)
     }
 
+    /// Nobody holds p from now on, which m held.
+    fn release(&mut self, m: MNo, p: PNo)
+        requires { Holds self.old m p }
+        ensures idle { self.new ≡ set_holder self.old p None }
+        ensures bare { has_processor self.new m ≡ false }
+    {
+        self.processors.release(p);
+        self.holding.remove(m.0);
+    }
+
     /// m gives up p, which it holds.
     pub fn declare(&mut self, m: MNo, p: PNo)
         requires calm { spins self.old m ≡ false }
         requires holds { Holds self.old m p }
         ensures { Declares m (Reply.Idle p) self.old self.new }
     {
-        self.processors.release(p);
-        self.holding.remove(m.0);
+        self.release(m, p)
     }
 
     /// m has nothing to do, and is to be woken.
@@ -133,8 +142,7 @@ impl Machines {
         ensures enters { Enters m (Reply.Entered p result) self.old self.new }
         ensures least { IfSome result (λ n. position is_parked self.old.modes ≡ Some n.0) }
     {
-        self.processors.release(p);
-        self.holding.remove(m.0);
+        self.release(m, p);
         let woken = self.modes.wake_least();
         self.modes.put(m, Mode::Calling);
         woken
@@ -148,9 +156,7 @@ impl Machines {
         ensures least { IfSome result (λ p. position is_none self.old.holders ≡ Some p.0) }
     {
         self.modes.put(m, Mode::Awake);
-        let p = self.processors.take(m)?;
-        self.holding.insert(m.0);
-        Some(p)
+        self.acquire(m)
     }
 
     /// Whether m may begin to spin: it doesn't spin, and fewer machines spin than there are processors.

@@ -1,4 +1,4 @@
-use Rattle.std.proofs.Common.{◌≡◌, true, false, not, refl, sym, ap, ◌∙◌}
+use Rattle.std.proofs.Common.{◌≡◌, false, not, refl, sym, ap, ◌∙◌}
 use Rattle.std.specs.List.{list_any}
 use Rattle.gmp_seq.specs.Machines.{Machines, wants_poke}
 use Rattle.gmp_idle.proofs.Marking.{not-not}
@@ -12,10 +12,10 @@ returns-then-not-is_empty-clause-pokes c =
     let old : Machines = record { holders = i.processors; modes = i.modes; spinning = i.spinning } in
     let spinners : list_any (λ b. b) i.spinning ≡ not c.is_empty.result = sym (ap not c.is_empty.ensures ∙ not-not (list_any (λ b. b) i.spinning)) in
     let unwanted : wants_poke old ≡ false =
-        elim c.then-not-is_empty.branch [
-          then-not-is_empty-via-then-not-is_empty w ↦ unwanted_for_spinners old (spinners ∙ ap not w.if-not-is_empty.true)
-        | then-not-is_empty-via-else-not-is_empty+then-not-has_idle w ↦ unwanted_with_none_idle old (sym w.has_idle.ensures ∙ w.if-not-has_idle.true)
-        ] in
+    elim c.then-not-is_empty.branch [
+      | then-not-is_empty-via-then-not-is_empty w ↦ unwanted_for_spinners old (spinners ∙ ap not w.if-not-is_empty.true)
+      | then-not-is_empty-via-else-not-is_empty+then-not-has_idle w ↦ unwanted_with_none_idle old (sym w.has_idle.ensures ∙ w.if-not-has_idle.true)
+    ] in
     (c.requires, ap wants_poke (sym c.self.view_is) ∙ unwanted, refl)
 
 pub invariant_of-self : goal.invariant_of-self

@@ -1,4 +1,4 @@
-use Rattle.std.proofs.Common.{◌<◌, ◌-◌, ◌^◌, arith}
+use Rattle.std.proofs.Common.{arith}
 use Rattle.std.proofs.lemmas.Nat.{pow_pos}
 use Rattle.gmp_idle.proofs.Masks.{flags_all, ones_of}
 use Rattle.gmp_idle.proofs.numbers.Numbers.all.Goals as goal

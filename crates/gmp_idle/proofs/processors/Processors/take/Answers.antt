@@ -1,8 +1,5 @@
-use Rattle.std.proofs.Common.{◌≡◌, Option, Some, None, List, set, refl, sym, ap, subst, ◌∙◌}
-use Rattle.std.specs.Prelude.{is_none, position}
-use Rattle.gmp_base.specs.declared.number.MNo.{MNo}
-use Rattle.gmp_base.specs.declared.number.PNo.{PNo}
-use Rattle.gmp_idle.specs.Tables.{Takes}
+use Rattle.std.proofs.Common.{Some, refl, sym, ◌∙◌}
+use Rattle.std.specs.Prelude.{is_none}
 use Rattle.gmp_idle.proofs.Marking.{first_place, marked, none_passes}
 use Rattle.gmp_idle.proofs.processors.Processors.take.Goals as goal
 
