@@ -107,48 +107,35 @@ module _ (holders : List (Option MNo)) (modes : List Mode) (holding spinning : L
 
 -- The relations
 
-no_first : (b c : Bool) → (false && b && c) ≡ false
-no_first b c = refl
-
-no_second : (a c : Bool) → (a && false && c) ≡ false
-no_second true c = refl
-no_second false c = refl
-
-no_third : (a b : Bool) → (a && b && false) ≡ false
-no_third true true = refl
-no_third true false = refl
-no_third false b = refl
-
 -- nobody spins where no flag is true
-spinners : (w : Machines) → (how_many_spin w == 0) ≡ not (list_any (λ b. b) w.spinning)
+pub spinners : (w : Machines) → (how_many_spin w == 0) ≡ not (list_any (λ b. b) w.spinning)
 spinners w = sym (not-not (how_many_spin w == 0)) ∙ ap not (sym (list_any-count_by (λ b. b) w.spinning))
 
-pub unwanted_for_spinners : (w : Machines) → list_any (λ b. b) w.spinning ≡ true → wants_poke w ≡ false
-unwanted_for_spinners w some =
-    ap (λ (a : Bool). a && some_idle w && some_parked w) (spinners w ∙ ap not some) ∙ no_first (some_idle w) (some_parked w)
+-- nobody spins, and a processor is idle
+abbrev pub may_wake : Machines → Bool
+may_wake w = (how_many_spin w == 0) && some_idle w
 
-pub unwanted_with_none_idle : (w : Machines) → some_idle w ≡ false → wants_poke w ≡ false
-unwanted_with_none_idle w none = ap (λ (b : Bool). (how_many_spin w == 0) && b && some_parked w) none ∙ no_second (how_many_spin w == 0) (some_parked w)
+pub may_wake_with : (w : Machines) (calm : Bool) → (how_many_spin w == 0) ≡ calm → may_wake w ≡ (calm && some_idle w)
+may_wake_with w calm e = ap (λ (a : Bool). a && some_idle w) e
 
-unwanted_with_none_parked : (w : Machines) → some_parked w ≡ false → wants_poke w ≡ false
-unwanted_with_none_parked w none = ap (λ (c : Bool). (how_many_spin w == 0) && some_idle w && c) none ∙ no_third (how_many_spin w == 0) (some_idle w)
+both : (a b c : Bool) → (a && b && c) ≡ ((a && b) && c)
+both true b c = refl
+both false b c = refl
 
-wanted : (w : Machines) → list_any (λ b. b) w.spinning ≡ false → some_idle w ≡ true → some_parked w ≡ true → wants_poke w ≡ true
-wanted w calm idle parked =
-    ap (λ (a : Bool). a && some_idle w && some_parked w) (spinners w ∙ ap not calm)
-    ∙ (ap (λ (b : Bool). true && b && some_parked w) idle ∙ ap (λ (c : Bool). true && true && c) parked)
+wants : (w : Machines) (may some : Bool) → may_wake w ≡ may → some_parked w ≡ some → wants_poke w ≡ (may && some)
+wants w may some e parked =
+    both (how_many_spin w == 0) (some_idle w) (some_parked w) ∙ (ap (λ (a : Bool). a && some_parked w) e ∙ ap (λ (a : Bool). may && a) parked)
 
-pub pokes : (old value : Machines) (m : MNo) (r : Option MNo) (woken : List Mode) → old ≡ value → IsAwake value m → list_any (λ b. b) old.spinning ≡ false
-    → some_idle old ≡ true → Wakes r old.modes woken
+pub pokes : (old value : Machines) (m : MNo) (r : Option MNo) (woken : List Mode) → old ≡ value → IsAwake value m → may_wake old ≡ true → Wakes r old.modes woken
     → Pokes m (poked r) value (record { holders = old.holders; modes = woken; spinning = old.spinning })
-pokes old value m None woken is awake calm idle wakes = (
+pokes old value m None woken is awake may wakes = (
   awake,
-  ap wants_poke (sym is) ∙ unwanted_with_none_parked old wakes.0,
+  ap wants_poke (sym is) ∙ wants old true false may wakes.0,
   ap (λ (ms : List Mode). record old { modes = ms }) wakes.1 ∙ is,
 )
-pokes old value m (Some n) woken is awake calm idle wakes = (
+pokes old value m (Some n) woken is awake may wakes = (
   awake,
-  ap wants_poke (sym is) ∙ wanted old calm idle (some_is_parked old.modes n.0 wakes.0),
+  ap wants_poke (sym is) ∙ wants old true true may (some_is_parked old.modes n.0 wakes.0),
   subst (λ (w : Machines). IsParked w n) is (first_parked old.modes n.0 wakes.0),
   ap (λ (ms : List Mode). record old { modes = ms }) wakes.1 ∙ ap (λ (w : Machines). set_mode w n Awake) is,
 )

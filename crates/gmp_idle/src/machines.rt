@@ -1,10 +1,10 @@
 //! Machines, the processors that they hold, and which of them spin.
-ghost use Rattle.std.specs.Prelude.{◌≡◌, ◌⊎◌, ◌≤◌, false, None, Some, is_none, position, replicate, slice_get, IfNone, IfOk, IfSome};
+ghost use Rattle.std.specs.Prelude.{◌≡◌, ◌⊎◌, ◌≤◌, ◌==◌, ◌&&◌, false, None, Some, is_none, position, replicate, slice_get, IfNone, IfOk, IfSome};
 ghost use Rattle.std.specs.Option.{option_map_or};
 ghost use Rattle.gmp_base.specs.declared.number.Readiness.{Readiness};
 ghost use Rattle.gmp_seq.specs.declared.call.Reply.{Reply};
 ghost use Rattle.gmp_seq.specs.declared.status.Mode.{Mode};
-ghost use Rattle.gmp_seq.specs.Machines.{Acquires, Declares, Enters, Holds, IsAwake, IsParked, Looks, Pokes, Returns, Spins, Unspins, has_processor, is_held_by, is_parked, may_spin, set_holder, set_mode, some_idle, spins};
+ghost use Rattle.gmp_seq.specs.Machines.{Acquires, Declares, Enters, Holds, IsAwake, IsParked, Looks, Pokes, Returns, Spins, Unspins, has_processor, how_many_spin, is_held_by, is_parked, may_spin, set_holder, set_mode, some_idle, spins};
 ghost use Rattle.gmp_idle.specs.Replies.{acquired, is_awake_mode, is_calling_mode, poked};
 
 use crate::modes::Modes;
@@ -186,13 +186,20 @@ impl Machines {
         self.spinning.remove(m.0);
     }
 
+    /// Whether a machine may be woken: nobody spins, and a processor is idle.
+    fn may_wake(&self) -> bool
+        ensures { result ≡ ((how_many_spin self.now == 0) && some_idle self.now) }
+    {
+        self.spinning.is_empty() && self.processors.has_idle()
+    }
+
     /// m wakes the least parked machine, where nobody spins and a processor is idle.
     pub fn poke(&mut self, m: MNo) -> Option<MNo>
         requires { IsAwake self.old m }
         ensures pokes { Pokes m (poked result) self.old self.new }
         ensures least { IfSome result (λ n. position is_parked self.old.modes ≡ Some n.0) }
     {
-        if !self.spinning.is_empty() || !self.processors.has_idle() {
+        if !self.may_wake() {
             return None;
         }
         self.modes.wake_least()
