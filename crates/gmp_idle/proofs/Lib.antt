@@ -1,0 +1,5 @@
+pub mod Masks
+pub mod Marking
+pub mod Holding
+pub mod Moving
+pub mod Told

@@ -1,0 +1,73 @@
+//! What each machine does.
+ghost use Rattle.std.specs.Prelude.{◌≡◌, ◌≤◌, ◌<◌, length, replicate, slice_get, slice_set, IfOk};
+ghost use Rattle.gmp_seq.specs.declared.status.Mode.{Mode};
+ghost use Rattle.gmp_idle.specs.Tables.{Wakes};
+
+use crate::numbers::Numbers;
+use gmp_base::MNo;
+use gmp_seq::Mode;
+use std::alloc::{AllocError, Global};
+use std::marker::Model;
+
+/// What each machine does. A contract sees the list of it.
+///
+/// Each call but `awake` is constant.
+#[derive(Drop)]
+pub(crate) struct Modes {
+    modes: Vec<Mode>,
+    /// Those that are parked.
+    parked: Numbers,
+}
+
+impl Model for Modes {
+    ghost use Rattle.std.specs.Prelude.{◌≡◌, List, map};
+    ghost use Rattle.gmp_seq.specs.declared.status.Mode.{Mode};
+    ghost use Rattle.gmp_seq.specs.Machines.{is_parked};
+
+    ghost Value = { List Mode };
+
+    ghost view = { λ w. w.modes.items };
+
+    ghost invariant = { λ w. w.parked ≡ map is_parked w.modes.items };
+}
+
+impl Modes {
+    /// All machines are awake. The cost is linear.
+    pub(crate) fn awake(alloc: Global, machines: u8) -> Result<Self, AllocError>
+        requires { machines ≤ 64 }
+        ensures { IfOk result (λ w. w ≡ replicate machines Mode.Awake) }
+    {
+        Ok(Modes {
+            modes: vec![in alloc; Mode::Awake; machines as usize]?,
+            parked: Numbers::none(machines),
+        })
+    }
+
+    /// What m does, where there is such a machine.
+    pub(crate) fn of(&self, m: MNo) -> Option<Mode>
+        ensures { result ≡ slice_get self.now m.0 }
+    {
+        self.modes.get(m.0 as usize).copied()
+    }
+
+    /// m does this from now on.
+    pub(crate) fn put(&mut self, m: MNo, mode: Mode)
+        requires { m.0 < length self.old }
+        ensures { self.new ≡ slice_set self.old m.0 mode }
+    {
+        match mode {
+            Mode::Parked => self.parked.insert(m.0),
+            Mode::Awake | Mode::Calling => self.parked.remove(m.0),
+        }
+        self.modes[m.0 as usize] = mode;
+    }
+
+    /// Wakes the least parked machine.
+    pub(crate) fn wake_least(&mut self) -> Option<MNo>
+        ensures { Wakes result self.old self.new }
+    {
+        let m = MNo(self.parked.least()?);
+        self.put(m, Mode::Awake);
+        Some(m)
+    }
+}

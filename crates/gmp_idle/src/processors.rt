@@ -1,0 +1,88 @@
+//! Processors, and the machines that hold them.
+ghost use Rattle.std.specs.Prelude.{◌≡◌, ◌≤◌, ◌<◌, false, None, is_none, length, replicate, slice_get, slice_set, IfOk};
+ghost use Rattle.std.specs.List.{list_any};
+ghost use Rattle.std.specs.Option.{option_map_or};
+ghost use Rattle.gmp_seq.specs.Machines.{is_held_by};
+ghost use Rattle.gmp_idle.specs.Tables.{Takes};
+
+use crate::numbers::Numbers;
+use gmp_base::{MNo, PNo};
+use std::alloc::{AllocError, Global};
+use std::marker::Model;
+
+/// Who holds each processor. A contract sees the list of the holders.
+///
+/// Each call but `idle` is constant.
+#[derive(Drop)]
+pub(crate) struct Processors {
+    holders: Vec<Option<MNo>>,
+    /// Those that nobody holds.
+    idle: Numbers,
+}
+
+impl Model for Processors {
+    ghost use Rattle.std.specs.Prelude.{◌≡◌, List, Option, is_none, map};
+    ghost use Rattle.gmp_base.specs.declared.number.MNo.{MNo as Machine};
+
+    ghost Value = { List (Option Machine) };
+
+    ghost view = { λ w. w.holders.items };
+
+    ghost invariant = { λ w. w.idle ≡ map is_none w.holders.items };
+}
+
+impl Processors {
+    /// Nobody holds any of the processors. The cost is linear.
+    pub(crate) fn idle(alloc: Global, procs: u8) -> Result<Self, AllocError>
+        requires some { 1 ≤ procs }
+        requires room { procs ≤ 64 }
+        ensures { IfOk result (λ w. w ≡ replicate procs None) }
+    {
+        Ok(Processors {
+            holders: vec![in alloc; None; procs as usize]?,
+            idle: Numbers::all(procs),
+        })
+    }
+
+    pub(crate) fn len(&self) -> usize
+        ensures { result ≡ length self.now }
+    {
+        self.holders.len()
+    }
+
+    /// Whether nobody holds some processor.
+    pub(crate) fn has_idle(&self) -> bool
+        ensures { result ≡ list_any is_none self.now }
+    {
+        !self.idle.is_empty()
+    }
+
+    /// Whether m holds p.
+    pub(crate) fn holds(&self, m: MNo, p: PNo) -> bool
+        ensures { result ≡ option_map_or (is_held_by m) (slice_get self.now p.0) false }
+    {
+        match self.holders.get(p.0 as usize) {
+            Some(Some(n)) => m.0 == n.0,
+            _ => false,
+        }
+    }
+
+    /// Lets m hold the least idle processor.
+    pub(crate) fn take(&mut self, m: MNo) -> Option<PNo>
+        ensures { Takes m result self.old self.new }
+    {
+        let p = self.idle.least()?;
+        self.idle.remove(p);
+        self.holders[p as usize] = Some(m);
+        Some(PNo(p))
+    }
+
+    /// Nobody holds p from now on.
+    pub(crate) fn release(&mut self, p: PNo)
+        requires { p.0 < length self.old }
+        ensures { self.new ≡ slice_set self.old p.0 None }
+    {
+        self.idle.insert(p.0);
+        self.holders[p.0 as usize] = None;
+    }
+}
