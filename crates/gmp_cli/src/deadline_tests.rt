@@ -8,10 +8,10 @@ use std::test::Fail;
 /// The entries of machine 0 from the fourth on, a line for each of these calls with its reply.
 fn entries(alloc: Global, calls: &[&str]) -> Result<String, Fail> {
     let mut text = String::new(alloc);
-    let mut k = 3;
+    let mut k = 3u64;
     for call in calls {
         text.push_str(format!(in alloc; "{k} 0.{k} {call}\n")?.as_str())?;
-        k += 1;
+        k = k.saturating_add(1);
     }
     Ok(text)
 }
