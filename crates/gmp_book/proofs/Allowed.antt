@@ -1,6 +1,6 @@
 -- What a call needs holds where no line refuses it.
 use Rattle.std.proofs.Common.{◌≡◌, ℕ, ◌+◌, ◌<◌, ◌≤◌, Bool, true, false, not, ◌&&◌, ◌==◌, Option, None, Some, [], ◌∷◌, length, slice_get, refl, sym, ap, ◌∙◌, arith}
-use Rattle.std.proofs.lemmas.Bool.{eqb-true, or_parts, and_parts}
+use Rattle.std.proofs.lemmas.Bool.{eqb-true, false≢true, or_parts, and_parts}
 use Rattle.std.proofs.lemmas.Grind.{common_steps}
 use Rattle.std.specs.List.{list_any}
 use Rattle.std.specs.Option.{option_map_or}
@@ -24,7 +24,8 @@ use Rattle.gmp_seq.specs.State.{State}
 use Rattle.gmp_seq.specs.Table.{Table, IsRunning, IsCalling, RunsNothing, is_out, is_outstanding, is_running_on, status_at}
 use Rattle.gmp_book.specs.declared.handed.Handed.TheVariants as handed
 use Rattle.gmp_book.specs.Log.{Log, Enters, Records}
-use Rattle.gmp_book.specs.Refusals.{IsAllowed, IsCurrent, is_awake, is_awake_mode, is_busy, is_calling_on, is_anothers, is_spent}
+use Rattle.gmp_idle.specs.Replies.{is_awake_mode, is_calling_mode}
+use Rattle.gmp_book.specs.Refusals.{IsAllowed, IsCurrent, is_awake, is_busy, is_calling_on, is_anothers, is_spent}
 
 not_false : (b : Bool) → not b ≡ false → b ≡ true
 not_false true e = refl
@@ -110,6 +111,10 @@ module _ (log : Log) (pass : Pass) where
 
   pub unspin_needs : IsAllowed log pass call.Unspin [] → Needs pass.m call.Unspin log.state
   unspin_needs allowed = awake log.state pass.m allowed.free
+
+  -- in no blocking call
+  pub woken_needs : IsAllowed log pass call.Woken [] → slice_get log.state.machines.modes pass.m.0 ≡ Some mode.Calling → ⊥
+  woken_needs allowed calling = false≢true (sym allowed.free ∙ ap (λ (o : Option Mode). option_map_or is_calling_mode o false) calling)
 
   bare : is_busy log.state pass.m call.Bare ≡ false → IsBare log.state.machines pass.m
   bare free =

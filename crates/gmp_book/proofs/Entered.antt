@@ -15,6 +15,7 @@ use Rattle.gmp_seq.specs.declared.call.Outcome.{Outcome}
 use Rattle.gmp_seq.specs.declared.call.Limits.{Limits}
 use Rattle.gmp_seq.specs.declared.call.Reply.{Reply}
 use Rattle.gmp_seq.specs.declared.call.Reply.TheVariants as reply
+use Rattle.gmp_seq.specs.declared.status.Mode.{Mode}
 use Rattle.gmp_seq.specs.declared.status.Mode.TheVariants.{Awake}
 use Rattle.gmp_seq.specs.Laws.{IsInOrder}
 use Rattle.gmp_seq.specs.Machines.{Machines, Holds, IsAwake}
@@ -37,19 +38,23 @@ use Rattle.gmp_book.specs.Written.{Written, HasRoomFor}
 pub in_order : (log : Log) (space : ℕ) → IsKept log space → IsInOrder log.limits log.state
 in_order log space kept = legal_in_order log.limits log.bodies log.capacities log.history log.state kept.within kept.legal
 
--- a machine that is awake has a count
-pub awake_counted : (log : Log) (space : ℕ) (m : MNo) → IsKept log space → IsAwake log.state.machines m → m.0 < length log.state.counts
-awake_counted log space m kept awake =
+-- the machine is there, in this mode
+abbrev pub HasMode : Machines → MNo → Mode → Type 0
+HasMode w m mode = slice_get w.modes m.0 ≡ Some mode
+
+-- a machine that is there has a count
+pub machine_counted : (log : Log) (space : ℕ) (m : MNo) (mode : Mode) → IsKept log space → HasMode log.state.machines m mode → m.0 < length log.state.counts
+machine_counted log space m mode kept there =
     let sizes = legal_sizes log.limits log.bodies log.capacities log.history log.state kept.within kept.legal in
-    let within = slice_get_within log.state.machines.modes m.0 Awake awake in
+    let within = slice_get_within log.state.machines.modes m.0 mode there in
     omega (arith, within, sizes.modes, sizes.counts)
 
--- a machine that is awake is there
-pub awake_machine : (old now : Log) (space : ℕ) (m : MNo) → old ≡ now → IsKept old space → IsAwake now.state.machines m → m.0 < old.limits.machines
-awake_machine old now space m is kept awake =
-    let wakes : IsAwake old.state.machines m = subst (λ (l : Log). IsAwake l.state.machines m) (sym is) awake in
+-- a machine that is there is one of the limits' machines
+pub machine_there : (old now : Log) (space : ℕ) (m : MNo) (mode : Mode) → old ≡ now → IsKept old space → HasMode now.state.machines m mode → m.0 < old.limits.machines
+machine_there old now space m mode is kept there =
+    let here : HasMode old.state.machines m mode = subst (λ (l : Log). HasMode l.state.machines m mode) (sym is) there in
     let sizes = legal_sizes old.limits old.bodies old.capacities old.history old.state kept.within kept.legal in
-    let within = slice_get_within old.state.machines.modes m.0 Awake wakes in
+    let within = slice_get_within old.state.machines.modes m.0 mode here in
     omega (arith, within, sizes.modes)
 
 -- a machine that runs a goroutine is awake
@@ -62,15 +67,15 @@ young old now space g is kept =
     let order = in_order old space kept in
     omega (arith, order.epochs g, order.entries, kept.within.entries.1)
 
--- while the run lasts there is room for an entry of a machine that is awake
-pub has_room : (old now : Log) (journal : Written) (m : MNo) → old ≡ now → IsKept old journal.room → journal.entries ≡ old.history → journal.counts ≡ old.state.counts
-    → now.state.outcome ≡ None → IsAwake now.state.machines m → HasRoomFor journal m
-has_room old now journal m is kept entries counts ongoing awake =
+-- while the run lasts there is room for an entry of a machine that is there
+pub has_room_in : (old now : Log) (journal : Written) (m : MNo) (mode : Mode) → old ≡ now → IsKept old journal.room → journal.entries ≡ old.history → journal.counts ≡ old.state.counts
+    → now.state.outcome ≡ None → HasMode now.state.machines m mode → HasRoomFor journal m
+has_room_in old now journal m mode is kept entries counts ongoing there =
     let lasts : old.state.outcome ≡ None = ap (λ (l : Log). l.state.outcome) is ∙ ongoing in
-    let wakes : IsAwake old.state.machines m = subst (λ (l : Log). IsAwake l.state.machines m) (sym is) awake in
+    let here : HasMode old.state.machines m mode = subst (λ (l : Log). HasMode l.state.machines m mode) (sym is) there in
     let within = (in_order old journal.room kept).ongoing lasts in
     let total = legal_total old.limits old.bodies old.capacities old.history old.state kept.legal in
-    let counted = awake_counted old journal.room m kept wakes in
+    let counted = machine_counted old journal.room m mode kept here in
     let most : slice_index old.state.counts m.0 ≤ sum old.state.counts = get_or-le-sum_by (λ (n : ℕ). n) old.state.counts m.0 0 counted in
     record {
       space = rw entries (omega (arith, within, total, kept.room));
@@ -78,17 +83,22 @@ has_room old now journal m is kept entries counts ongoing awake =
       few = rw counts (omega (arith, most, within, kept.within.entries.1));
     }
 
+-- the same of a machine that is awake
+pub has_room : (old now : Log) (journal : Written) (m : MNo) → old ≡ now → IsKept old journal.room → journal.entries ≡ old.history → journal.counts ≡ old.state.counts
+    → now.state.outcome ≡ None → IsAwake now.state.machines m → HasRoomFor journal m
+has_room old now journal m is kept entries counts ongoing awake = has_room_in old now journal m Awake is kept entries counts ongoing awake
+
 -- the run is longer by one step
-pub kept_on : (old now : Log) (space space' : ℕ) (m : MNo) (call : Call) (reply : Reply) (history : List Entry) (state : State) (shelf : List GNo) → old ≡ now → IsKept old space → now.state.outcome ≡ None
-    → IsAwake now.state.machines m → Effect old.limits m call reply old.state state
+pub kept_on_in : (old now : Log) (space space' : ℕ) (m : MNo) (mode : Mode) (call : Call) (reply : Reply) (history : List Entry) (state : State) (shelf : List GNo) → old ≡ now → IsKept old space → now.state.outcome ≡ None
+    → HasMode now.state.machines m mode → Effect old.limits m call reply old.state state
     → history ≡ old.history ++ record { m = m; k = slice_index old.state.counts m.0; call = call; reply = reply } ∷ []
     → state.counts ≡ slice_set old.state.counts m.0 (slice_index old.state.counts m.0 + 1)
     → state.outcome ≡ outcome_after old.limits reply state.counts → space' ≡ space
     → IsKept (record old { history = history; state = state; shelf = shelf }) space'
-kept_on old now space space' m call reply history state shelf is kept ongoing awake effect written counts outcome same =
+kept_on_in old now space space' m mode call reply history state shelf is kept ongoing there effect written counts outcome same =
     let lasts : old.state.outcome ≡ None = ap (λ (l : Log). l.state.outcome) is ∙ ongoing in
-    let wakes : IsAwake old.state.machines m = subst (λ (l : Log). IsAwake l.state.machines m) (sym is) awake in
-    let counted = awake_counted old space m kept wakes in
+    let here : HasMode old.state.machines m mode = subst (λ (l : Log). HasMode l.state.machines m mode) (sym is) there in
+    let counted = machine_counted old space m mode kept here in
     let number : slice_get old.state.counts m.0 ≡ Some (slice_index old.state.counts m.0) = slice_get-get_or old.state.counts m.0 0 counted in
     let e : Entry = record { m = m; k = slice_index old.state.counts m.0; call = call; reply = reply } in
     let one : Run old.limits old.state (e ∷ []) state = (state, (number, (lasts, effect, counts, outcome)), refl) in
@@ -98,6 +108,16 @@ kept_on old now space space' m call reply history state shelf is kept ongoing aw
       within = kept.within;
       room = rw same kept.room;
     }
+
+-- the same of a machine that is awake
+pub kept_on : (old now : Log) (space space' : ℕ) (m : MNo) (call : Call) (reply : Reply) (history : List Entry) (state : State) (shelf : List GNo) → old ≡ now → IsKept old space → now.state.outcome ≡ None
+    → IsAwake now.state.machines m → Effect old.limits m call reply old.state state
+    → history ≡ old.history ++ record { m = m; k = slice_index old.state.counts m.0; call = call; reply = reply } ∷ []
+    → state.counts ≡ slice_set old.state.counts m.0 (slice_index old.state.counts m.0 + 1)
+    → state.outcome ≡ outcome_after old.limits reply state.counts → space' ≡ space
+    → IsKept (record old { history = history; state = state; shelf = shelf }) space'
+kept_on old now space space' m call reply history state shelf is kept ongoing awake effect written counts outcome same =
+    kept_on_in old now space space' m Awake call reply history state shelf is kept ongoing awake effect written counts outcome same
 
 -- the same of a machine that runs a goroutine
 pub runner_wakes : (old now : Log) (space : ℕ) (m : MNo) (g : GNo) → old ≡ now → IsKept old space → IsRunning now.state.table g m → IsAwake now.state.machines m
@@ -124,11 +144,15 @@ sized_on limits p q sized same = record {
   machines = same.machines ∙ sized.machines;
 }
 
--- a machine that is awake is one of those that the goroutines know
-pub awake_there : (old now : Log) (space : ℕ) (p : Present) (m : MNo) → old ≡ now → IsKept old space → IsSized old.limits p → IsAwake now.state.machines m → m.0 < p.machines
-awake_there old now space p m is kept sized awake =
-    let there = awake_machine old now space m is kept awake in
+-- a machine that is there is one of those that the goroutines know
+pub known_in : (old now : Log) (space : ℕ) (p : Present) (m : MNo) (mode : Mode) → old ≡ now → IsKept old space → IsSized old.limits p → HasMode now.state.machines m mode → m.0 < p.machines
+known_in old now space p m mode is kept sized here =
+    let there = machine_there old now space m mode is kept here in
     omega (arith, there, sized.machines)
+
+-- the same of one that is awake
+pub awake_there : (old now : Log) (space : ℕ) (p : Present) (m : MNo) → old ≡ now → IsKept old space → IsSized old.limits p → IsAwake now.state.machines m → m.0 < p.machines
+awake_there old now space p m is kept sized awake = known_in old now space p m Awake is kept sized awake
 
 -- a state of these goroutines and channels with these machines, counts and outcome
 abbrev pub state_in : Present → Machines → List ℕ → Option Outcome → State

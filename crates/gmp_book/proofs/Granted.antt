@@ -15,6 +15,7 @@ use Rattle.gmp_seq.specs.declared.call.Call.TheVariants as call
 use Rattle.gmp_seq.specs.declared.call.Outcome.{Outcome}
 use Rattle.gmp_seq.specs.declared.status.Goroutine.{Goroutine}
 use Rattle.gmp_seq.specs.declared.status.Mode.{Mode}
+use Rattle.gmp_seq.specs.declared.status.Mode.TheVariants as mode
 use Rattle.gmp_seq.specs.declared.status.Status.{Status}
 use Rattle.gmp_seq.specs.Machines.{Machines, IsAwake, IsBare, Holds, is_held_by, spins}
 use Rattle.gmp_seq.specs.Needs.{Needs, IsOut}
@@ -25,7 +26,8 @@ use Rattle.gmp_book.specs.declared.handed.Handed.TheVariants as handed
 use Rattle.gmp_slots.specs.Slots.{all_filled}
 use Rattle.gmp_book.specs.Book.{Contents, surrender_lines, report_lines}
 use Rattle.gmp_book.specs.Log.{Log, calls_of}
-use Rattle.gmp_book.specs.Refusals.{IsAllowed, IsCurrent, Line, first_refusal, turn_lines, need_lines, refusal_of, is_awake, is_awake_mode, is_busy, is_calling_on, lacks_processor, is_foreign, is_spent, is_anothers, run_of}
+use Rattle.gmp_idle.specs.Replies.{is_awake_mode, is_calling_mode}
+use Rattle.gmp_book.specs.Refusals.{IsAllowed, IsCurrent, Line, first_refusal, turn_lines, need_lines, refusal_of, is_awake, is_busy, is_calling_on, lacks_processor, is_foreign, is_spent, is_anothers, run_of}
 
 -- none of the lines holds
 abbrev NoneHolds : List Line → Type 0
@@ -132,6 +134,14 @@ module _ (log : Log) (pass : Pass) (run : pass.run ≡ log.run) (current : IsCur
 
   pub unspin_granted : Needs pass.m call.Unspin log.state → refusal_of log pass call.Unspin [] ≡ None
   unspin_granted needs = granted call.Unspin [] refl (awake_test log.state pass.m needs) refl refl refl
+
+  -- in no blocking call
+  pub woken_granted : (slice_get log.state.machines.modes pass.m.0 ≡ Some mode.Calling → ⊥) → refusal_of log pass call.Woken [] ≡ None
+  woken_granted here = granted call.Woken [] refl (by_mode (slice_get log.state.machines.modes pass.m.0) refl) refl refl refl where
+    by_mode : (o : Option Mode) → slice_get log.state.machines.modes pass.m.0 ≡ o → option_map_or is_calling_mode o false ≡ false
+    by_mode (Some mode.Calling) at = absurd (here at)
+    by_mode (Some _) at = refl
+    by_mode None at = refl
 
   bare_free : IsBare log.state.machines pass.m → is_busy log.state pass.m call.Bare ≡ false
   bare_free bare = or_false _ _ (or_false _ _ (awake_test log.state pass.m bare.0) bare.1) bare.2

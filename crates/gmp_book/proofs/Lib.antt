@@ -1,7 +1,5 @@
-pub mod Places
 pub mod Running
 pub mod Entered
-pub mod Holding
 pub mod Answered
 pub mod Allowed
 pub mod Bodies
@@ -12,3 +10,4 @@ pub mod Arrivals
 pub mod Ties
 pub mod Talking
 pub mod Choices
+pub mod Calls

@@ -26,7 +26,7 @@ use Rattle.gmp_seq.specs.declared.status.Transfer.TheVariants.{Failed, Handed, S
 use Rattle.gmp_seq.specs.declared.status.Wait.{Wait}
 use Rattle.gmp_seq.specs.State.{dormant, first_goroutine}
 use Rattle.gmp_seq.specs.Step.{Takes, Puts, Claims, Starts, Readies, served_by}
-use Rattle.gmp_seq.specs.Table.{Table, IsRunning, RunsNothing, status_at, epoch_at, is_running_on, some_status, set_status, made_ready, made_wait}
+use Rattle.gmp_seq.specs.Table.{Table, IsCalling, IsRunning, RunsNothing, status_at, epoch_at, is_running_on, some_status, set_status, made_ready, made_wait}
 use Rattle.gmp_seq.specs.Waits.{Channel, Proceeds, waiters}
 use Rattle.gmp_seq.proofs.Asleep.{fails_at}
 use Rattle.gmp_seq.proofs.Epochs.{at_set}
@@ -56,7 +56,7 @@ status_at_row gs i j x m at same runs =
 running_is : (m n : MNo) → status.Running m ≡ status.Running n → m.0 ≡ n.0
 running_is m n e = let same : m ≡ n = cc in ap (λ (x : MNo). x.0) same
 
-running_on : (m : MNo) (s : Status) → is_running_on m s ≡ true → s ≡ status.Running m
+pub running_on : (m : MNo) (s : Status) → is_running_on m s ≡ true → s ≡ status.Running m
 running_on m (status.Running n) h = ap status.Running (same_machine n m (sym (eqb-true m.0 n.0 h)))
 running_on m _ h = absurd (false≢true h)
 
@@ -219,6 +219,17 @@ module _ (t : Table) (machines : ℕ) (runners : List (Option GNo)) (kept : AreR
   pub exits_runners : (m : MNo) (g : GNo) (new : Table) → IsRunning t g m → new ≡ set_status t g status.Dead → AreRunners new machines (set runners m.0 None)
   exits_runners m g new runs is =
       freed_runners new m g (record { status = status.Dead; epoch = epoch_at t g }) runs (goroutines_are new (set_status t g status.Dead) is) (λ n e. cc)
+
+  pub enters_runners : (m : MNo) (g : GNo) (new : Table) → IsRunning t g m → new ≡ set_status t g (status.Calling m) → AreRunners new machines (set runners m.0 None)
+  enters_runners m g new runs is =
+      freed_runners new m g (record { status = status.Calling m; epoch = epoch_at t g }) runs (goroutines_are new (set_status t g (status.Calling m)) is) (λ n e. cc)
+
+  pub leaves_runners : (m : MNo) (g : GNo) (new : Table) → IsCalling t g m → new ≡ set_status t g (status.Running m) → RunsNothing t m → m.0 < machines
+      → AreRunners new machines (set runners m.0 (Some g))
+  leaves_runners m g new calls is free within =
+      let row = row_at t g (status.Calling m) calls in
+      claimed_runners new m g row.0 (record { status = status.Running m; epoch = epoch_at t g }) row.1 (goroutines_are new (set_status t g (status.Running m)) is)
+      (λ n e. let both : status.Calling m ≡ status.Running n = sym row.2 ∙ e in cc) refl (λ h runs. free_runs_none t m m h.0 free runs refl) within
 
   pub waits_runners : (m : MNo) (g : GNo) (why : Kind) (offers : List Offer) (until : Option ℕ) (new : Table) → IsRunning t g m → new ≡ made_wait t g why offers until
       → AreRunners new machines (set runners m.0 None)

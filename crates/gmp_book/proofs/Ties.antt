@@ -28,14 +28,14 @@ use Rattle.gmp_seq.specs.declared.status.Offer.{Offer}
 use Rattle.gmp_seq.specs.declared.status.Place.{Place}
 use Rattle.gmp_seq.specs.declared.status.Place.TheVariants.{Shelf, Out}
 use Rattle.gmp_seq.specs.declared.status.Status.{Status}
-use Rattle.gmp_seq.specs.declared.status.Status.TheVariants.{Dormant, Ready, Running, Waiting, Dead}
+use Rattle.gmp_seq.specs.declared.status.Status.TheVariants.{Dormant, Ready, Running, Calling, Waiting, Dead}
 use Rattle.gmp_seq.specs.declared.status.Transfer.{Transfer}
 use Rattle.gmp_seq.specs.declared.status.Transfer.TheVariants.{Failed, Handed, Stored, First, Relayed, Drained}
 use Rattle.gmp_seq.specs.declared.status.Wait.{Wait}
 use Rattle.gmp_seq.specs.declared.status.Waiter.{Waiter}
 use Rattle.gmp_seq.specs.State.{dormant, first_goroutine}
 use Rattle.gmp_seq.specs.Step.{Takes, Puts, Claims, Starts, Readies, Ticks, served_by}
-use Rattle.gmp_seq.specs.Table.{Table, IsOffShelf, IsRunning, status_at, epoch_at, is_parked, is_waiting, set_status, made_ready, made_wait}
+use Rattle.gmp_seq.specs.Table.{Table, IsOffShelf, IsCalling, IsRunning, status_at, epoch_at, is_parked, is_waiting, set_status, made_ready, made_wait}
 use Rattle.gmp_seq.specs.Waits.{Channel, Proceeds, first_on, as_waiters, first_waiters, waiters}
 use Rattle.gmp_book.specs.Served.{with_served}
 use Rattle.gmp_select.specs.Waiting.{served}
@@ -260,6 +260,15 @@ module _ (t : Table) (records : List Waiter) (bodies : ℕ) (tied : IsTied t rec
 
   pub exits_tied : (m : MNo) (g : GNo) (new : Table) → IsRunning t g m → new ≡ set_status t g Dead → IsTied new records bodies
   exits_tied m g new runs is = turns_tied g (Running m) Dead new runs refl refl is
+
+  pub enters_tied : (m : MNo) (g : GNo) (new : Table) → IsRunning t g m → new ≡ set_status t g (Calling m) → IsTied new records bodies
+  enters_tied m g new runs is = turns_tied g (Running m) (Calling m) new runs refl refl is
+
+  pub leaves_tied : (m : MNo) (g : GNo) (new : Table) → IsCalling t g m → new ≡ set_status t g (Running m) → IsTied new records bodies
+  leaves_tied m g new calls is = turns_tied g (Calling m) (Running m) new calls refl refl is
+
+  pub returns_tied : (m : MNo) (g : GNo) (told : Woke) (new : Table) → IsCalling t g m → new ≡ made_ready t g Shelf told → IsTied new records bodies
+  returns_tied m g told new calls is = rises_tied g (Calling m) Shelf told new calls refl is
 
   pub waits_tied : (m : MNo) (g : GNo) (why : Kind) (offers : List Offer) (until : Option ℕ) (new : Table) → IsRunning t g m → (why ≡ kind.Parked → offers ≡ [])
       → new ≡ made_wait t g why offers until → IsTied new (records ++ as_waiters g t.arrivals why offers) bodies

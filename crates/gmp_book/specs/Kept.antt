@@ -1,19 +1,13 @@
 -- What the parts of a book keep.
-use Rattle.std.specs.Prelude.{◌≡◌, ℕ, ◌≤◌, ◌<◌, ◌^◌, Bool, true, false, List, length, slice_get, Option, Some}
+use Rattle.std.specs.Prelude.{◌≡◌, ℕ, ◌≤◌, Bool, true, false, List, length, slice_get, Option, Some}
 use Rattle.gmp_base.specs.declared.number.GNo.{GNo}
 use Rattle.gmp_base.specs.declared.number.MNo.{MNo}
-use Rattle.gmp_seq.specs.declared.status.Mode.{Mode}
 use Rattle.gmp_seq.specs.Fits.{AreLimits}
 use Rattle.gmp_seq.specs.Run.{IsLegal}
 use Rattle.gmp_seq.specs.Table.{Table, IsRunning}
 use Rattle.gmp_book.specs.Log.{Log}
 use Rattle.gmp_book.specs.Present.{Present}
 use Rattle.gmp_seq.specs.declared.call.Limits.{Limits}
-
--- the number of each processor and machine fits its type
-pub record IsSmall (holders : List (Option MNo)) (modes : List Mode) : Type 0 where
-  pub procs : length holders < 2 ^ 8
-  pub machines : length modes < 2 ^ 8
 
 -- the history is a legal run to the present state, under limits in range, and there is room for the rest of it
 pub record IsKept (log : Log) (space : ℕ) : Type 0 where

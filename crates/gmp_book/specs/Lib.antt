@@ -12,3 +12,4 @@ pub mod Present
 pub mod Choice
 pub mod Served
 pub mod Shelf
+pub mod Returns

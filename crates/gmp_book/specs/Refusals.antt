@@ -1,5 +1,5 @@
 -- When a call is refused, and why.
-use Rattle.std.specs.Prelude.{◌≡◌, ◌⊎◌, ℕ, ◌==◌, ◌<◌, ◌≤◌, Bool, true, false, not, ◌||◌, if◌then◌else◌, nat_lt, nat_le, is_some, List, [], ◌∷◌, ◌++◌, length, slice_get, Option, Some, None, Result, Ok, Err}
+use Rattle.std.specs.Prelude.{◌≡◌, ◌⊎◌, ℕ, ◌==◌, ◌<◌, ◌≤◌, Bool, false, not, ◌||◌, if◌then◌else◌, nat_lt, nat_le, is_some, List, [], ◌∷◌, ◌++◌, length, slice_get, Option, Some, None, Result, Ok, Err}
 use Rattle.std.specs.List.{list_any}
 use Rattle.std.specs.Option.{option_map_or}
 use Rattle.gmp_base.specs.declared.number.MNo.{MNo}
@@ -7,19 +7,19 @@ use Rattle.gmp_base.specs.declared.pass.Pass.{Pass}
 use Rattle.gmp_base.specs.declared.refusal.Refusal.{Refusal}
 use Rattle.gmp_base.specs.declared.refusal.Refusal.TheVariants.{Over, WrongRun, OutOfTurn, Behind, NotOutstanding, NoProcessor, Busy, NotHeld, OutOfMemory}
 use Rattle.gmp_base.specs.declared.refusal.Refused.{Refused}
+use Rattle.gmp_base.specs.declared.value.Called.{Called}
 use Rattle.gmp_base.specs.declared.value.Held.{Held}
 use Rattle.gmp_base.specs.declared.value.Proc.{Proc}
 use Rattle.gmp_base.specs.declared.value.Ticket.{Ticket}
 use Rattle.gmp_base.specs.Values.{readiness_of}
 use Rattle.gmp_seq.specs.declared.call.Call.{Call}
 use Rattle.gmp_seq.specs.declared.call.Call.TheVariants as call
-use Rattle.gmp_seq.specs.declared.status.Mode.{Mode}
-use Rattle.gmp_seq.specs.declared.status.Mode.TheVariants as mode
 use Rattle.gmp_seq.specs.declared.status.Status.{Status}
 use Rattle.gmp_seq.specs.declared.status.Status.TheVariants as status
 use Rattle.gmp_seq.specs.Machines.{has_processor, is_held_by, spins}
 use Rattle.gmp_seq.specs.State.{State}
 use Rattle.gmp_seq.specs.Table.{is_outstanding, is_running_on, some_status, status_at}
+use Rattle.gmp_idle.specs.Replies.{is_awake_mode, is_calling_mode}
 use Rattle.gmp_book.specs.declared.handed.Handed.{Handed}
 use Rattle.gmp_book.specs.declared.handed.Handed.TheVariants as handed
 use Rattle.gmp_book.specs.Log.{Log, calls_of}
@@ -35,6 +35,12 @@ by_held h = handed.Held h.run h.g ∷ []
 abbrev pub by_proc : {Q : Type 0} → Proc Q → List Handed
 by_proc p = handed.Proc p.run p.p ∷ []
 
+abbrev pub by_held_and_proc : {T Q : Type 0} → Held T → Proc Q → List Handed
+by_held_and_proc h p = handed.Held h.run h.g ∷ handed.Proc p.run p.p ∷ []
+
+abbrev pub by_called : {T : Type 0} → Called T → List Handed
+by_called c = handed.Called c.run c.g ∷ []
+
 -- the run that a value names
 abbrev pub run_of : Handed → ℕ
 run_of (handed.Ticket run r) = run
@@ -48,14 +54,6 @@ run_of (handed.Proc run p) = run
 abbrev pub is_foreign : Log → Pass → List Handed → Bool
 is_foreign log pass values =
     not (pass.run == log.run) || nat_le log.limits.machines pass.m.0 || list_any (λ v. not (run_of v == log.run)) values
-
-abbrev pub is_awake_mode : Mode → Bool
-is_awake_mode mode.Awake = true
-is_awake_mode _ = false
-
-abbrev pub is_calling_mode : Mode → Bool
-is_calling_mode mode.Calling = true
-is_calling_mode _ = false
 
 -- neither parked nor in a blocking call
 abbrev pub is_awake : State → MNo → Bool

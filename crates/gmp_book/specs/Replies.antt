@@ -2,7 +2,6 @@
 use Rattle.std.specs.Prelude.{◌≡◌, true, false, Option, None, Some, Result, Ok, Err}
 use Rattle.gmp_base.specs.declared.ask.Fault.{Fault}
 use Rattle.gmp_base.specs.declared.number.MNo.{MNo}
-use Rattle.gmp_base.specs.declared.number.PNo.{PNo}
 use Rattle.gmp_base.specs.declared.number.Readiness.{Readiness}
 use Rattle.gmp_seq.specs.declared.call.Reply.{Reply}
 use Rattle.gmp_seq.specs.declared.call.Reply.TheVariants as reply
@@ -16,10 +15,6 @@ use Rattle.gmp_book.specs.declared.ledger.Exited.TheVariants as exited
 use Rattle.gmp_book.specs.declared.ledger.Parking.{Parking}
 use Rattle.gmp_book.specs.declared.ledger.Parking.TheVariants as parks
 
-abbrev pub acquired : Option PNo → Reply
-acquired (Some p) = reply.Proc p
-acquired None = reply.Nothing
-
 abbrev pub taken : Option Readiness → Reply
 taken (Some r) = reply.Ticket r
 taken None = reply.Nothing
@@ -31,10 +26,6 @@ started (Err fault) = reply.Fault fault
 abbrev pub left : Exited → Reply
 left exited.Dead = reply.Dead
 left exited.MainEnded = reply.MainEnded
-
-abbrev pub poked : Option MNo → Reply
-poked (Some m) = reply.Wakes m
-poked None = reply.Nothing
 
 abbrev pub parking : Parking → Reply
 parking parks.Parked = reply.Parked

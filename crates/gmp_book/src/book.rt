@@ -12,11 +12,14 @@ ghost use Rattle.gmp_seq.specs.Table.{IsAsleep, IsReady, made_ready, minded, nex
 ghost use Rattle.gmp_base.specs.Values.{readiness_of};
 ghost use Rattle.gmp_book.specs.Log.{Records};
 ghost use Rattle.gmp_book.specs.Refusals.{refusal_of, why_refused, refusal_in, by_ticket, by_held, by_proc};
-ghost use Rattle.gmp_book.specs.Replies.{acquired, taken, left, parking, poked};
+ghost use Rattle.gmp_idle.specs.Replies.{acquired, poked};
+ghost use Rattle.gmp_book.specs.Replies.{taken, left, parking};
 
+mod calling;
 mod communicating;
 mod ending;
 mod pausing;
+mod spinning;
 
 use crate::ledger::{Exited, Ledger, Parking};
 use crate::opening::{Unopened, first_passes, may_open};

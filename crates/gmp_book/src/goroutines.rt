@@ -13,6 +13,7 @@ ghost use Rattle.gmp_book.specs.Shelf.{Shelves, Wakes};
 ghost use Rattle.gmp_book.specs.Present.{OnlyTable, opening_present};
 ghost use Rattle.gmp_book.specs.Replies.{taken, started};
 
+mod calling;
 mod communicating;
 mod pausing;
 mod selecting;

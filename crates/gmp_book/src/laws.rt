@@ -1,11 +1,12 @@
 //! Laws of the book's refusals. Each is the contract of a function that does nothing.
-ghost use Rattle.std.specs.Prelude.{◌≡◌, ℕ, Bool, false, Option, List, [], ◌∷◌};
+ghost use Rattle.std.specs.Prelude.{◌≡◌, ℕ, Bool, false, Option, Some, List, [], ◌∷◌, slice_get};
 ghost use Rattle.gmp_base.specs.declared.cases.Case.{Case};
 ghost use Rattle.gmp_base.specs.declared.number.CNo.{CNo};
 ghost use Rattle.gmp_base.specs.declared.number.GNo.{GNo};
 ghost use Rattle.gmp_base.specs.declared.number.PNo.{PNo};
 ghost use Rattle.gmp_base.specs.declared.number.Readiness.{Readiness};
-ghost use Rattle.gmp_seq.specs.declared.call.Call.TheVariants.{Acquire, Take, Put, Claim, Go, Yield, Exit, Make, Send, Recv, Select, Sleep, Gopark, Ready, Close, Len, Cap, Enter, Leave, Spin, Unspin, Declare, Bare, Park, Poke, Tick};
+ghost use Rattle.gmp_seq.specs.declared.call.Call.TheVariants.{Acquire, Take, Put, Claim, Go, Yield, Exit, Make, Send, Recv, Select, Sleep, Gopark, Ready, Close, Len, Cap, Enter, Leave, Spin, Unspin, Declare, Bare, Park, Poke, Tick, Woken};
+ghost use Rattle.gmp_seq.specs.declared.status.Mode.TheVariants.{Calling};
 ghost use Rattle.gmp_seq.specs.Needs.{Needs};
 ghost use Rattle.gmp_seq.specs.Machines.{Holds, spins};
 ghost use Rattle.gmp_seq.specs.Table.{IsRunning, IsCalling, RunsNothing};
@@ -14,8 +15,8 @@ ghost use Rattle.gmp_book.specs.Laws.{GrantedWhere};
 
 /// A call by a pass that may call, with values of the book's run, is granted exactly where the scheduler's needs are met: a ticket
 /// that is out, a goroutine that the machine runs or calls for, a processor that it holds, and a machine whose state allows it. A
-/// `make` that is granted may still want memory. The law speaks also of `spin`, `unspin`, `bare`, `enter` and `leave`, which the book
-/// is to have, since the lines that refuse them stand already.
+/// `make` that is granted may still want memory. Whether it is awake each machine may ask that is
+/// in no blocking call.
 pub fn granted_where_needed()
     ensures acquire { GrantedWhere Acquire (λ run. []) (λ s m. Needs m Acquire s) }
     ensures take { GrantedWhere Take (λ run. []) (λ s m. Needs m Take s) }
@@ -37,6 +38,7 @@ pub fn granted_where_needed()
     ensures poke { GrantedWhere Poke (λ run. []) (λ s m. Needs m Poke s) }
     ensures spin { GrantedWhere Spin (λ run. []) (λ s m. Needs m Spin s) }
     ensures unspin { GrantedWhere Unspin (λ run. []) (λ s m. Needs m Unspin s) }
+    ensures woken { GrantedWhere Woken (λ run. []) (λ s m. slice_get s.machines.modes m.0 ≡ Some Calling → ⊥) }
     ensures bare { GrantedWhere Bare (λ run. []) (λ s m. Needs m Bare s) }
     ensures park { GrantedWhere Park (λ run. []) (λ s m. Needs m Park s) }
     ensures declare { (p : PNo) → GrantedWhere Declare (λ run. Proc run p ∷ []) (λ s m. RunsNothing s.table m × (spins s.machines m ≡ false) × Holds s.machines m p) }

@@ -11,20 +11,24 @@ ghost use Rattle.gmp_seq.specs.Step.{outcome_after};
 ghost use Rattle.gmp_seq.specs.Table.{IsReady, IsRunning, is_outstanding, next_of, set_status, made_ready};
 ghost use Rattle.gmp_book.specs.Written.{HasRoomFor};
 ghost use Rattle.gmp_book.specs.Log.{Enters, opening_log};
-ghost use Rattle.gmp_book.specs.Replies.{acquired, taken, started, left, poked};
+ghost use Rattle.gmp_idle.specs.Replies.{acquired, poked};
+ghost use Rattle.gmp_book.specs.Replies.{taken, started, left};
 
+mod calling;
 mod communicating;
 mod passing;
 mod pausing;
 mod refusing;
 mod resting;
 mod selecting;
+mod spinning;
 
 use crate::goroutines::Goroutines;
 use crate::journal::Journal;
-use crate::machines::Machines;
 use crate::replies;
+pub(crate) use calling::Resumed;
 use gmp_base::{Fault, GNo, MNo, PNo, Readiness, Woke};
+use gmp_idle::Machines;
 use gmp_seq::{Call, Entry, Limits, Outcome, Reply};
 use std::alloc::{AllocError, Global};
 use std::marker::Model;

@@ -1,15 +1,17 @@
 //! The reply that each answer stands for.
 ghost use Rattle.std.specs.Prelude.{◌≡◌};
 ghost use Rattle.gmp_seq.specs.Step.{woke_after};
+ghost use Rattle.gmp_idle.specs.Replies as told;
 ghost use Rattle.gmp_book.specs.Replies as replies;
+ghost use Rattle.gmp_book.specs.Returns as returns;
 ghost use Rattle.gmp_book.specs.Went.{closed_in, is_wait, sender_in, ticket_in, ticket_of};
 
-use crate::ledger::{Exited, Parking};
+use crate::ledger::{Exited, Parking, Resumed};
 use gmp_base::{Fault, MNo, PNo, Readiness, Woke};
 use gmp_seq::{Relay, Reply, Taken};
 
 pub(crate) fn acquired(p: Option<PNo>) -> Reply
-    ensures { result ≡ replies.acquired p }
+    ensures { result ≡ told.acquired p }
 {
     match p {
         Some(p) => Reply::Proc(p),
@@ -45,7 +47,7 @@ pub(crate) fn left(exited: Exited) -> Reply
 }
 
 pub(crate) fn poked(m: Option<MNo>) -> Reply
-    ensures { result ≡ replies.poked m }
+    ensures { result ≡ told.poked m }
 {
     match m {
         Some(m) => Reply::Wakes(m),
@@ -61,6 +63,15 @@ pub(crate) fn parking(answer: Parking) -> Reply
         Parking::Work => Reply::Work,
         Parking::Mind(until) => Reply::Mind(until),
         Parking::AllAsleep => Reply::AllAsleep,
+    }
+}
+
+pub(crate) fn resumed(how: Resumed) -> Reply
+    ensures { result ≡ returns.resumed how }
+{
+    match how {
+        Resumed::Runs(p) => Reply::Runs(p),
+        Resumed::Shelved(r) => Reply::Shelved(r),
     }
 }
 

@@ -1,4 +1,4 @@
-//! Tests of the book: runs and refusals through its public calls. It has no code of its own, so that the book is checked without them.
+//! Tests of the book: how it is opened, whole runs, each refusal, and want of memory. It has no code of its own.
 #![tactic(auto)]
 
 #[cfg(test)]

@@ -19,7 +19,9 @@ use Rattle.gmp_base.specs.declared.number.PNo.{PNo}
 use Rattle.gmp_base.specs.declared.number.Readiness.{Readiness}
 use Rattle.gmp_book.specs.declared.ledger.Exited.{Exited}
 use Rattle.gmp_book.specs.Log.{Log, opening_log}
-use Rattle.gmp_book.specs.Replies.{acquired, left, poked}
+use Rattle.gmp_idle.specs.Replies.{acquired, poked}
+use Rattle.gmp_book.specs.Refusals.{is_calling_on}
+use Rattle.gmp_book.specs.Replies.{left}
 use Rattle.gmp_book.specs.Went.{is_wait, ticket_in}
 use Rattle.gmp_seq.specs.declared.call.Call.TheVariants as call
 use Rattle.gmp_seq.specs.declared.call.Limits.{Limits}
@@ -55,28 +57,29 @@ use Rattle.gmp_cli.proofs.Tickets.{Turns, WakesWaiting, row_with, taken_tickets,
 
 -- what is known of the goroutines stays, where they stay
 unmoved : (old new : Log) (queue : List Readiness) (capacity n : ℕ) (from to : Stand) → IsDriven old queue capacity from n → new.state.table.goroutines ≡ old.state.table.goroutines
-    → to.hand ≡ from.hand → to.running ≡ from.running → (to.idle ≡ true → NoTicket new.state.table queue) → HoldsAt to.holding new.state.machines → IsDriven new queue capacity to n
-unmoved old new queue capacity n from to kept same hand runs none holds = record {
-  tickets = rw (hand, runs) (same_tickets old.state.table new.state.table (from.hand ++ queue) from.running same kept.tickets);
+    → to.hand ≡ from.hand → to.running ≡ from.running → to.calling ≡ from.calling → (to.idle ≡ true → NoTicket new.state.table queue) → HoldsAt to.calling to.holding new.state.machines
+    → IsDriven new queue capacity to n
+unmoved old new queue capacity n from to kept same hand runs calls none holds = record {
+  tickets = rw (hand, runs, calls) (same_tickets old.state.table new.state.table (from.hand ++ queue) from.running from.calling same kept.tickets);
   none = none;
   stock = rw same kept.stock;
   room = kept.room;
   holds = holds;
 }
 
-rows_are : (new t : Table) → new ≡ t → new.goroutines ≡ t.goroutines
+pub rows_are : (new t : Table) → new ≡ t → new.goroutines ≡ t.goroutines
 rows_are new t is = ap (λ (u : Table). u.goroutines) is
 
 -- where it goes on holding its processor, and may have tickets
 going : (old new : Log) (queue : List Readiness) (capacity n : ℕ) (p : PNo) (g : GNo) → IsDriven old queue capacity (running_one p g) n → new.state.table ≡ old.state.table
     → new.state.machines ≡ old.state.machines → IsDriven new queue capacity (running_one p g) n
 going old new queue capacity n p g kept table machines =
-    unmoved old new queue capacity n (running_one p g) (running_one p g) kept (rows_are new.state.table old.state.table table) refl refl (λ e. cc) (rw machines kept.holds)
+    unmoved old new queue capacity n (running_one p g) (running_one p g) kept (rows_are new.state.table old.state.table table) refl refl refl (λ e. cc) (rw machines kept.holds)
 
 -- Machines
 
 -- a list without the place of p
-set_none : (holders : List (Option MNo)) (i : ℕ) (h : Option MNo) → list_any (is_held_by machine) holders ≡ false → list_any (is_held_by machine) (set (set holders i h) i None) ≡ false
+pub set_none : (holders : List (Option MNo)) (i : ℕ) (h : Option MNo) → list_any (is_held_by machine) holders ≡ false → list_any (is_held_by machine) (set (set holders i h) i None) ≡ false
 set_none [] i h none = none
 set_none (x ∷ xs) zero h none = by_first (is_held_by machine x) none
   where
@@ -91,7 +94,7 @@ set_none (x ∷ xs) (suc i) h none = by_first (is_held_by machine x) refl none (
     by_first true is e rest = absurd cc
 
 -- where a place is emptied one is idle
-set_idle : (holders : List (Option MNo)) (i : ℕ) → i < length holders → list_any is_none (set holders i None) ≡ true
+pub set_idle : (holders : List (Option MNo)) (i : ℕ) → i < length holders → list_any is_none (set holders i None) ≡ true
 set_idle [] i within = absurd (omega arith)
 set_idle (x ∷ xs) zero within = refl
 set_idle (x ∷ xs) (suc i) within = by_first (is_none x) (set_idle xs i (omega (arith, within)))
@@ -111,7 +114,7 @@ started_driven old new (Some p) queue capacity n q same step kept =
     let none : has_processor (set_holder new.state.machines p None) machine ≡ false = rw is (set_none old.state.machines.holders p.0 (Some machine) kept.holds.1) in
     let e : p ≡ q = cc in
     subst (λ (r : PNo). IsDriven new queue capacity (looking r) n) e
-    (unmoved old new queue capacity n starting (looking p) kept (rows_are new.state.table old.state.table step.1.1) refl refl (λ e. cc)
+    (unmoved old new queue capacity n starting (looking p) kept (rows_are new.state.table old.state.table step.1.1) refl refl refl (λ e. cc)
     (rw is kept.holds.0, held, none, rw is kept.holds.3))
 
 -- one is idle, so the machine gets a processor
@@ -121,7 +124,7 @@ starts_some old new queue capacity n step kept =
     false≢true (sym acquires.2 ∙ kept.holds.2)
 
 -- a poke leaves the machine awake with its processor
-poke_holds : (p : Option MNo) (q : PNo) (old new : Machines) → Pokes machine (poked p) old new → HoldsAt (Some q) old → HoldsAt (Some q) new
+poke_holds : (p : Option MNo) (q : PNo) (old new : Machines) → Pokes machine (poked p) old new → HoldsAt [] (Some q) old → HoldsAt [] (Some q) new
 poke_holds None q old new pokes holds = rw pokes.2 holds
 poke_holds (Some n) q old new pokes holds =
     let is = pokes.3 in
@@ -131,13 +134,13 @@ poke_holds (Some n) q old new pokes holds =
 pub poked_driven : (old new : Log) (p : Option MNo) (q : PNo) (r : Readiness) (queue : List Readiness) (capacity n : ℕ) → Step old.limits machine call.Poke (poked p) old.state new.state
     → IsDriven old queue capacity (claiming q r) n → IsDriven new queue capacity (claiming q r) n
 poked_driven old new p q r queue capacity n step kept =
-    unmoved old new queue capacity n (claiming q r) (claiming q r) kept (rows_are new.state.table old.state.table step.1.1) refl refl (λ e. cc)
+    unmoved old new queue capacity n (claiming q r) (claiming q r) kept (rows_are new.state.table old.state.table step.1.1) refl refl refl (λ e. cc)
     (poke_holds p q old.state.machines new.state.machines step.1.0 kept.holds)
 
 pub poked_on : (old new : Log) (p : Option MNo) (q : PNo) (g : GNo) (queue : List Readiness) (capacity n : ℕ) → Step old.limits machine call.Poke (poked p) old.state new.state
     → IsDriven old queue capacity (running_one q g) n → IsDriven new queue capacity (running_one q g) n
 poked_on old new p q g queue capacity n step kept =
-    unmoved old new queue capacity n (running_one q g) (running_one q g) kept (rows_are new.state.table old.state.table step.1.1) refl refl (λ e. cc)
+    unmoved old new queue capacity n (running_one q g) (running_one q g) kept (rows_are new.state.table old.state.table step.1.1) refl refl refl (λ e. cc)
     (poke_holds p q old.state.machines new.state.machines step.1.0 kept.holds)
 
 -- the processor is given up
@@ -148,7 +151,7 @@ declared_driven old new p queue capacity n step kept =
     let is = on_machines.0.2 in
     let none = kept.none refl in
     let within = slice_get_within old.state.machines.holders p.0 (Some machine) kept.holds.1 in
-    unmoved old new queue capacity n (dropping p) parking kept (rows_are new.state.table old.state.table on_machines.1) refl refl
+    unmoved old new queue capacity n (dropping p) parking kept (rows_are new.state.table old.state.table on_machines.1) refl refl refl
     (λ e. record { queue_is = none.queue_is; shelf = rw on_machines.1 none.shelf })
     (rw is kept.holds.0, rw is kept.holds.2, rw is (set_idle old.state.machines.holders p.0 within), rw is kept.holds.3)
 
@@ -163,7 +166,7 @@ park_needs log queue capacity n kept = (kept.holds.0, kept.holds.1, kept.holds.3
 pub park_stirs : (log : Log) (queue : List Readiness) (capacity n : ℕ) → IsDriven log queue capacity parking n → some_status is_astir log.state.table ≡ is_some (minded log.state.table)
 park_stirs log queue capacity n kept =
     let none = kept.none refl in
-    stirs_by_deadline log.state.table (subst (λ (q : List Readiness). AreTickets log.state.table q []) none.queue_is kept.tickets) none.shelf
+    stirs_by_deadline log.state.table (subst (λ (q : List Readiness). AreTickets log.state.table q [] []) none.queue_is kept.tickets) none.shelf
 
 -- no ticket is on the shelf
 pub park_idle : (log : Log) (queue : List Readiness) (capacity n : ℕ) → IsDriven log queue capacity parking n → has_work log.state ≡ false
@@ -171,13 +174,13 @@ park_idle log queue capacity n kept = rw (kept.none refl).shelf refl
 
 pub parked_driven : (old new : Log) (queue : List Readiness) (capacity n : ℕ) → IsUnchanged old.state new.state → IsDriven old queue capacity parking n → IsDriven new queue capacity starting n
 parked_driven old new queue capacity n same kept =
-    unmoved old new queue capacity n parking starting kept (rows_are new.state.table old.state.table same.0) refl refl (λ e. cc) (rw same.2 kept.holds)
+    unmoved old new queue capacity n parking starting kept (rows_are new.state.table old.state.table same.0) refl refl refl (λ e. cc) (rw same.2 kept.holds)
 
 -- One goroutine changes
 
 -- the machine keeps what it keeps, where a row changes and the tickets with it
-turned : (old new : Log) (queue queue' : List Readiness) (capacity n : ℕ) (from to : Stand) (g : GNo) (x y : Goroutine) → IsDriven old queue capacity from n
-    → Turns old.state.table new.state.table g x y → AreTickets new.state.table (to.hand ++ queue') to.running → (to.idle ≡ true → ⊥) → HoldsAt to.holding new.state.machines
+pub turned : (old new : Log) (queue queue' : List Readiness) (capacity n : ℕ) (from to : Stand) (g : GNo) (x y : Goroutine) → IsDriven old queue capacity from n
+    → Turns old.state.table new.state.table g x y → AreTickets new.state.table (to.hand ++ queue') to.running to.calling → (to.idle ≡ true → ⊥) → HoldsAt to.calling to.holding new.state.machines
     → IsDriven new queue' capacity to n
 turned old new queue queue' capacity n from to g x y kept turns tickets busy holds = record {
   tickets = tickets;
@@ -200,7 +203,7 @@ pub none_driven : (old new : Log) (p : PNo) (capacity n : ℕ) → Step old.limi
     → IsDriven new [] capacity (dropping p) n
 none_driven old new p capacity n step kept =
     let on_table = step.1.1 in
-    unmoved old new [] capacity n (looking p) (dropping p) kept (rows_are new.state.table old.state.table on_table.0.1) refl refl
+    unmoved old new [] capacity n (looking p) (dropping p) kept (rows_are new.state.table old.state.table on_table.0.1) refl refl refl
     (λ e. record { queue_is = refl; shelf = rw on_table.0.1 on_table.0.0 }) (rw on_table.2 kept.holds)
 
 pub claim_needs : (log : Log) (p : PNo) (r : Readiness) (queue : List Readiness) (capacity n : ℕ) → IsDriven log queue capacity (claiming p r) n → Needs machine (call.Claim r) log.state
@@ -330,7 +333,7 @@ pub closed_driven : (old new : Log) (p : PNo) (g : GNo) (c : Option CNo) (answer
 closed_driven old new p g (Some c) (reply.Closed k) queue capacity n (made, opened, channels, is, count, machines) kept =
     let rows = rows_are new.state.table (all_woken (close_answer c) old.state.table) is in
     record {
-      tickets = woken_tickets (close_answer c) (close_wakes c) old.state.table new.state.table queue (g ∷ []) rows kept.tickets;
+      tickets = woken_tickets (close_answer c) (close_wakes c) old.state.table new.state.table queue (g ∷ []) [] rows kept.tickets;
       none = λ e. cc;
       stock = ap length rows ∙ (length-map old.state.table.goroutines _ ∙ kept.stock);
       room = kept.room;
@@ -377,29 +380,29 @@ cap_driven old new p g c answer queue capacity n step kept =
 -- The goroutine runs no longer
 
 parted : (old new : Log) (p : PNo) (g : GNo) (y : Goroutine) (queue : List Readiness) (capacity n : ℕ) → new.state.table.goroutines ≡ set old.state.table.goroutines g.0 y
-    → is_out y.status ≡ false → is_running_on machine y.status ≡ false → is_elsewhere y.status ≡ false → new.state.machines ≡ old.state.machines
+    → is_out y.status ≡ false → is_running_on machine y.status ≡ false → is_calling_on machine y.status ≡ false → is_elsewhere y.status ≡ false → new.state.machines ≡ old.state.machines
     → IsDriven old queue capacity (running_one p g) n → IsDriven new queue capacity (looking p) n
-parted old new p g y queue capacity n becomes off idle here machines kept =
+parted old new p g y queue capacity n becomes off idle quiet here machines kept =
     let runs = runs_at old p g queue capacity n kept in
     let row = row_with old.state.table g (status.Running machine) runs in
     turned old new queue queue capacity n (running_one p g) (looking p) g row.row y kept (record { at = row.at; becomes = becomes })
-    (parted_tickets old.state.table new.state.table g y queue becomes runs off idle here kept.tickets) (λ e. cc) (rw machines kept.holds)
+    (parted_tickets old.state.table new.state.table g y queue becomes runs off idle quiet here kept.tickets) (λ e. cc) (rw machines kept.holds)
 
 pub yielded_driven : (old new : Log) (p : PNo) (g : GNo) (r : Readiness) (queue : List Readiness) (capacity n : ℕ) → Step old.limits machine call.Yield (reply.Shelved r) old.state new.state
     → new.state.table ≡ made_ready old.state.table g Shelf woke.Done → IsDriven old queue capacity (running_one p g) n → IsDriven new queue capacity (looking p) n
 yielded_driven old new p g r queue capacity n step is kept =
-    parted old new p g _ queue capacity n (rows_are new.state.table (made_ready old.state.table g Shelf woke.Done) is) refl refl refl step.1.2.2 kept
+    parted old new p g _ queue capacity n (rows_are new.state.table (made_ready old.state.table g Shelf woke.Done) is) refl refl refl refl step.1.2.2 kept
 
 pub exited_driven : (old new : Log) (p : PNo) (g : GNo) (e : Exited) (queue : List Readiness) (capacity n : ℕ) → Step old.limits machine call.Exit (left e) old.state new.state
     → new.state.table ≡ set_status old.state.table g status.Dead → IsDriven old queue capacity (running_one p g) n → IsDriven new queue capacity (looking p) n
 exited_driven old new p g e queue capacity n step is kept =
-    parted old new p g _ queue capacity n (rows_are new.state.table (set_status old.state.table g status.Dead) is) refl refl refl step.1.2.2 kept
+    parted old new p g _ queue capacity n (rows_are new.state.table (set_status old.state.table g status.Dead) is) refl refl refl refl step.1.2.2 kept
 
 pub waited_driven : (old new : Log) (p : PNo) (g : GNo) (why : Kind) (offers : List Offer) (until : Option ℕ) (queue : List Readiness) (capacity n : ℕ)
     → new.state.table ≡ made_wait old.state.table g why offers until → new.state.machines ≡ old.state.machines → IsDriven old queue capacity (running_one p g) n
     → IsDriven new queue capacity (looking p) n
 waited_driven old new p g why offers until queue capacity n is machines kept =
-    parted old new p g _ queue capacity n (rows_are new.state.table (made_wait old.state.table g why offers until) is) refl refl refl machines kept
+    parted old new p g _ queue capacity n (rows_are new.state.table (made_wait old.state.table g why offers until) is) refl refl refl refl machines kept
 
 -- The opening
 
@@ -428,6 +431,7 @@ opening_driven run limits n capacities within =
         outs = cons_listing is_out first_goroutine (replicate rest dormant) refl (dormant_listing is_out rest refl);
         issued = tt;
         runs = cons_listing (is_running_on machine) first_goroutine (replicate rest dormant) refl (dormant_listing (is_running_on machine) rest refl);
+        calls = cons_listing (is_calling_on machine) first_goroutine (replicate rest dormant) refl (dormant_listing (is_calling_on machine) rest refl);
         others = cons_listing is_elsewhere first_goroutine (replicate rest dormant) refl (dormant_listing is_elsewhere rest refl);
       };
       none = λ e. cc;
@@ -446,7 +450,7 @@ ticked_driven old new at moment n' queue capacity n busy step kept =
     let due = max old.state.table.clock moment in
     let rows : new.state.table.goroutines ≡ (all_woken (due_answer due) old.state.table).goroutines = ap (λ (t : Table). t.goroutines) on_table.0.0 in
     record {
-      tickets = woken_tickets (due_answer due) (due_wakes due) old.state.table new.state.table (at.hand ++ queue) at.running rows kept.tickets;
+      tickets = woken_tickets (due_answer due) (due_wakes due) old.state.table new.state.table (at.hand ++ queue) at.running at.calling rows kept.tickets;
       none = λ e. absurd (false≢true (sym busy ∙ e));
       stock = ap length rows ∙ (length-map old.state.table.goroutines _ ∙ kept.stock);
       room = kept.room;

@@ -29,7 +29,8 @@ use Rattle.gmp_book.specs.Refusals.{IsCurrent, refusal_of, by_proc, by_ticket}
 use Rattle.gmp_book.proofs.Granted.{claim_granted, declare_granted, take_granted, out_test}
 use Rattle.gmp_book.proofs.Talking.{waits_machines}
 use Rattle.gmp_book.specs.declared.went.Went.{Went}
-use Rattle.gmp_book.specs.Replies.{acquired, taken, left, parking, poked}
+use Rattle.gmp_idle.specs.Replies.{acquired, poked}
+use Rattle.gmp_book.specs.Replies.{taken, left, parking}
 use Rattle.gmp_book.specs.Went as by
 use Rattle.gmp_book.specs.Went.{is_wait, ticket_in}
 use Rattle.gmp_seq.specs.declared.call.Call.{Call}
@@ -73,7 +74,7 @@ vacated [] i x at = absurd cc
 vacated (s ∷ ss) zero x at = refl
 vacated (s ∷ ss) (suc i) x at = vacated ss i x at
 
-lacks : {X : Type 0} (slots : List (Option X)) (i : ℕ) (x : X) → all_filled slots ≡ true → slice_get slots i ≡ Some (Some x) → LacksOne (set slots i None) i
+pub lacks : {X : Type 0} (slots : List (Option X)) (i : ℕ) (x : X) → all_filled slots ≡ true → slice_get slots i ≡ Some (Some x) → LacksOne (set slots i None) i
 lacks slots i x all at = record {
   vacant = vacated slots i x at;
   rest = λ y. ap all_filled (set_set slots i None (Some y)) ∙ all_set slots i y all;
@@ -163,11 +164,11 @@ popped_drives book pass queue rest capacity proc r ticket first is kept =
 -- Calls
 
 module _ (old new : Contents Commands Unit) (before after : Pass) (queue : List Readiness) (capacity : ℕ) where
-  at_machine : (asked : Call) (answer : Reply) (hand : Hand) → Records old.log before asked answer new.log after → Drives old before queue capacity hand
+  pub at_machine : (asked : Call) (answer : Reply) (hand : Hand) → Records old.log before asked answer new.log after → Drives old before queue capacity hand
       → Step old.log.limits machine asked answer old.log.state new.log.state
   at_machine asked answer hand records kept = subst (λ (m : MNo). Step old.log.limits m asked answer old.log.state new.log.state) kept.latest.m records.step
 
-  same_run : (asked : Call) (answer : Reply) → Records old.log before asked answer new.log after → (run : ℕ) → run ≡ old.log.run → run ≡ new.log.run
+  pub same_run : (asked : Call) (answer : Reply) → Records old.log before asked answer new.log after → (run : ℕ) → run ≡ old.log.run → run ≡ new.log.run
   same_run asked answer records run is = is ∙ sym (ap (λ (l : Log). l.run) records.opened)
 
   pub acquire_drives : (proc : Proc Unit) → Records old.log before call.Acquire (acquired (Some proc.p)) new.log after → HandsOutOwner old new proc → Drives old before queue capacity Start

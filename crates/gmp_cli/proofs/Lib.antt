@@ -2,5 +2,7 @@ pub mod Parts
 pub mod Scripts
 pub mod Selects
 pub mod Tickets
+pub mod Asking
+pub mod Calling
 pub mod Driving
 pub mod Handing

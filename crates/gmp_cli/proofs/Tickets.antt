@@ -11,6 +11,7 @@ use Rattle.gmp_base.specs.declared.number.GNo.{GNo}
 use Rattle.gmp_base.specs.declared.number.MNo.{MNo}
 use Rattle.gmp_base.specs.declared.number.Readiness.{Readiness}
 use Rattle.gmp_base.specs.declared.ask.Woke.{Woke}
+use Rattle.gmp_book.specs.Refusals.{is_calling_on}
 use Rattle.gmp_seq.specs.declared.call.Reply.TheVariants as reply
 use Rattle.gmp_seq.specs.declared.status.Goroutine.{Goroutine}
 use Rattle.gmp_seq.specs.declared.status.Place.TheVariants.{Shelf, Out}
@@ -63,7 +64,7 @@ issued_kept old new g x y (r ∷ tickets) turns same issued =
     (epoch_same old new g x y r.g turns (λ _. same) ∙ issued.0, issued_kept old new g x y tickets turns same issued.1)
 
 -- tickets of other goroutines
-issued_others : (old new : Table) (g : GNo) (x y : Goroutine) (tickets : List Readiness) → Turns old new g x y → times g.0 (owners tickets) ≡ 0 → AreIssued old tickets → AreIssued new tickets
+pub issued_others : (old new : Table) (g : GNo) (x y : Goroutine) (tickets : List Readiness) → Turns old new g x y → times g.0 (owners tickets) ≡ 0 → AreIssued old tickets → AreIssued new tickets
 issued_others old new g x y [] turns none issued = tt
 issued_others old new g x y (r ∷ tickets) turns none issued =
     let n = sum_by-cons (λ (z : GNo). tally (z.0 == g.0)) r.g (owners tickets) in
@@ -83,7 +84,7 @@ no_ticket t g x list kept at off =
 -- Calls
 
 -- what a call that turns one row does to the rows that are listed
-pub taken_tickets : (old new : Table) (r : Readiness) (tickets : List Readiness) → Takes (reply.Ticket r) old new → AreTickets old tickets [] → AreTickets new (r ∷ tickets) []
+pub taken_tickets : (old new : Table) (r : Readiness) (tickets : List Readiness) → Takes (reply.Ticket r) old new → AreTickets old tickets [] [] → AreTickets new (r ∷ tickets) [] []
 taken_tickets old new r tickets (answer, at, is) kept =
     let x : Goroutine = record { status = status.Ready Shelf answer; epoch = r.epoch } in
     let epoch : epoch_at old r.g ≡ r.epoch = ap (λ (o : Option Goroutine). option_map_or (λ (z : Goroutine). z.epoch) o 0) at in
@@ -93,10 +94,11 @@ taken_tickets old new r tickets (answer, at, is) kept =
       outs = rw turns.becomes (pushed_first is_out old.goroutines r.g x y (owners tickets) kept.outs at refl refl);
       issued = (epoch_same old new r.g x y r.g turns (λ _. epoch) ∙ epoch, issued_kept old new r.g x y tickets turns epoch kept.issued);
       runs = rw turns.becomes (passed_by (is_running_on machine) old.goroutines r.g x y [] kept.runs at refl);
+      calls = rw turns.becomes (passed_by (is_calling_on machine) old.goroutines r.g x y [] kept.calls at refl);
       others = rw turns.becomes (passed_by is_elsewhere old.goroutines r.g x y [] kept.others at refl);
     }
 
-pub claimed_tickets : (old new : Table) (r : Readiness) (tickets : List Readiness) → Claims machine r reply.Held old new → AreTickets old (r ∷ tickets) [] → AreTickets new tickets (r.g ∷ [])
+pub claimed_tickets : (old new : Table) (r : Readiness) (tickets : List Readiness) → Claims machine r reply.Held old new → AreTickets old (r ∷ tickets) [] [] → AreTickets new tickets (r.g ∷ []) []
 claimed_tickets old new r tickets (answer, at, is) kept =
     let x : Goroutine = record { status = status.Ready Out answer; epoch = r.epoch } in
     let epoch : epoch_at old r.g ≡ r.epoch = ap (λ (o : Option Goroutine). option_map_or (λ (z : Goroutine). z.epoch) o 0) at in
@@ -106,24 +108,26 @@ claimed_tickets old new r tickets (answer, at, is) kept =
       outs = rw turns.becomes (popped is_out old.goroutines r.g x y (owners tickets) kept.outs at refl refl);
       issued = issued_kept old new r.g x y tickets turns epoch kept.issued.1;
       runs = rw turns.becomes (pushed (is_running_on machine) old.goroutines r.g x y [] kept.runs at refl refl);
+      calls = rw turns.becomes (passed_by (is_calling_on machine) old.goroutines r.g x y [] kept.calls at refl);
       others = rw turns.becomes (passed_by is_elsewhere old.goroutines r.g x y [] kept.others at refl);
     }
 
--- one that isn't elsewhere
-at_hand : (t : Table) (g : GNo) (x : Goroutine) → IsListing is_elsewhere t.goroutines [] → slice_get t.goroutines g.0 ≡ Some x → is_elsewhere x.status ≡ false
-at_hand t g x kept at =
-    sym (ap (λ (o : Option Goroutine). option_map_or (λ (z : Goroutine). is_elsewhere z.status) o false) at) ∙ nobody_passes is_elsewhere t.goroutines g.0 kept
+-- one of those of whom none passes a test
+pub none_passes : (test : Status → Bool) (t : Table) (g : GNo) (x : Goroutine) → IsListing test t.goroutines [] → slice_get t.goroutines g.0 ≡ Some x → test x.status ≡ false
+none_passes test t g x kept at =
+    sym (ap (λ (o : Option Goroutine). option_map_or (λ (z : Goroutine). test z.status) o false) at) ∙ nobody_passes test t.goroutines g.0 kept
 
 -- one that is neither out nor run by the machine becomes ready, and its ticket is given out
 pub readied_tickets : (old new : Table) (k : GNo) (s : Status) (told : Woke) (r : Readiness) (tickets : List Readiness) (running : List GNo) → status_at old k ≡ Some s → is_out s ≡ false
-    → is_running_on machine s ≡ false → r ≡ next_of old k → new ≡ made_ready old k Out told → AreTickets old tickets running → AreTickets new (tickets ++ r ∷ []) running
+    → is_running_on machine s ≡ false → r ≡ next_of old k → new ≡ made_ready old k Out told → AreTickets old tickets running [] → AreTickets new (tickets ++ r ∷ []) running []
 readied_tickets old new k s told r tickets running was not_out idle next is kept =
     let row = row_with old k s was in
     let y : Goroutine = record { status = status.Ready Out told; epoch = epoch_at old k + 1 } in
     let turns : Turns old new k row.row y = record { at = row.at; becomes = ap (λ (t : Table). t.goroutines) is } in
     let off : is_out row.row.status ≡ false = rw row.does not_out in
     let same_runs : is_running_on machine row.row.status ≡ is_running_on machine y.status = rw row.does idle in
-    let same_else : is_elsewhere row.row.status ≡ is_elsewhere y.status = at_hand old k row.row kept.others row.at in
+    let same_calls : is_calling_on machine row.row.status ≡ is_calling_on machine y.status = none_passes (is_calling_on machine) old k row.row kept.calls row.at in
+    let same_else : is_elsewhere row.row.status ≡ is_elsewhere y.status = none_passes is_elsewhere old k row.row kept.others row.at in
     let g : r.g ≡ k = ap (λ (q : Readiness). q.g) next in
     let owned : owners (tickets ++ r ∷ []) ≡ owners tickets ++ k ∷ [] = map-append (λ (q : Readiness). q.g) tickets (r ∷ []) ∙ ap (λ (h : GNo). owners tickets ++ h ∷ []) g in
     let within = slice_get_within old.goroutines k.0 row.row row.at in
@@ -132,13 +136,16 @@ readied_tickets old new k s told r tickets running was not_out idle next is kept
       outs = rw (owned, turns.becomes) (pushed is_out old.goroutines k row.row y (owners tickets) kept.outs row.at off refl);
       issued = issued_pushed new tickets r (issued_others old new k row.row y tickets turns (no_ticket old k row.row (owners tickets) kept.outs row.at off) kept.issued) epoch;
       runs = rw turns.becomes (passed_by (is_running_on machine) old.goroutines k row.row y running kept.runs row.at same_runs);
+      calls = rw turns.becomes (passed_by (is_calling_on machine) old.goroutines k row.row y [] kept.calls row.at same_calls);
       others = rw turns.becomes (passed_by is_elsewhere old.goroutines k row.row y [] kept.others row.at same_else);
     }
 
 -- the goroutine that runs no longer does, and has no ticket that is out
-pub parted_tickets : (old new : Table) (g : GNo) (y : Goroutine) (tickets : List Readiness) → new.goroutines ≡ set old.goroutines g.0 y → IsRunning old g machine
-    → is_out y.status ≡ false → is_running_on machine y.status ≡ false → is_elsewhere y.status ≡ false → AreTickets old tickets (g ∷ []) → AreTickets new tickets []
-parted_tickets old new g y tickets becomes runs off idle here kept =
+pub stopped_tickets : (old new : Table) (g : GNo) (y : Goroutine) (tickets : List Readiness) (calling : List GNo) → new.goroutines ≡ set old.goroutines g.0 y → IsRunning old g machine
+    → is_out y.status ≡ false → is_running_on machine y.status ≡ false → is_elsewhere y.status ≡ false
+    → ((x : Goroutine) → slice_get old.goroutines g.0 ≡ Some x → x.status ≡ status.Running machine → IsListing (is_calling_on machine) (set old.goroutines g.0 y) calling)
+    → AreTickets old tickets (g ∷ []) [] → AreTickets new tickets [] calling
+stopped_tickets old new g y tickets calling becomes runs off idle here calls kept =
     let row = row_with old g (status.Running machine) runs in
     let turns : Turns old new g row.row y = record { at = row.at; becomes = becomes } in
     let was_off : is_out row.row.status ≡ false = rw row.does refl in
@@ -147,8 +154,17 @@ parted_tickets old new g y tickets becomes runs off idle here kept =
       outs = rw becomes (passed_by is_out old.goroutines g row.row y (owners tickets) kept.outs row.at (was_off ∙ sym off));
       issued = issued_others old new g row.row y tickets turns (no_ticket old g row.row (owners tickets) kept.outs row.at was_off) kept.issued;
       runs = rw becomes (popped (is_running_on machine) old.goroutines g row.row y [] kept.runs row.at was_on idle);
-      others = rw becomes (passed_by is_elsewhere old.goroutines g row.row y [] kept.others row.at (at_hand old g row.row kept.others row.at ∙ sym here));
+      calls = rw becomes (calls row.row row.at row.does);
+      others = rw becomes (passed_by is_elsewhere old.goroutines g row.row y [] kept.others row.at (none_passes is_elsewhere old g row.row kept.others row.at ∙ sym here));
     }
+
+-- and makes no blocking call
+pub parted_tickets : (old new : Table) (g : GNo) (y : Goroutine) (tickets : List Readiness) → new.goroutines ≡ set old.goroutines g.0 y → IsRunning old g machine
+    → is_out y.status ≡ false → is_running_on machine y.status ≡ false → is_calling_on machine y.status ≡ false → is_elsewhere y.status ≡ false
+    → AreTickets old tickets (g ∷ []) [] → AreTickets new tickets [] []
+parted_tickets old new g y tickets becomes runs off idle quiet here kept =
+    stopped_tickets old new g y tickets [] becomes runs off idle here
+    (λ x at is. passed_by (is_calling_on machine) old.goroutines g x y [] kept.calls at (none_passes (is_calling_on machine) old g x kept.calls at ∙ sym quiet)) kept
 
 -- no row changes
 issued_same : (old new : Table) (tickets : List Readiness) → new.goroutines ≡ old.goroutines → AreIssued old tickets → AreIssued new tickets
@@ -156,11 +172,13 @@ issued_same old new [] same issued = tt
 issued_same old new (r ∷ tickets) same issued =
     (ap (λ (gs : List Goroutine). option_map_or (λ (z : Goroutine). z.epoch) (slice_get gs r.g.0) 0) same ∙ issued.0, issued_same old new tickets same issued.1)
 
-pub same_tickets : (old new : Table) (tickets : List Readiness) (running : List GNo) → new.goroutines ≡ old.goroutines → AreTickets old tickets running → AreTickets new tickets running
-same_tickets old new tickets running same kept = record {
+pub same_tickets : (old new : Table) (tickets : List Readiness) (running calling : List GNo) → new.goroutines ≡ old.goroutines → AreTickets old tickets running calling
+    → AreTickets new tickets running calling
+same_tickets old new tickets running calling same kept = record {
   outs = rw same kept.outs;
   issued = issued_same old new tickets same kept.issued;
   runs = rw same kept.runs;
+  calls = rw same kept.calls;
   others = rw same kept.others;
 }
 
@@ -215,6 +233,10 @@ runner_waits_not : (s : Status) → is_waiting s ≡ true → is_running_on mach
 runner_waits_not (status.Waiting w) h = refl
 runner_waits_not _ h = absurd cc
 
+caller_waits_not : (s : Status) → is_waiting s ≡ true → is_calling_on machine s ≡ false
+caller_waits_not (status.Waiting w) h = refl
+caller_waits_not _ h = absurd cc
+
 -- the row of one that is out stays
 epoch_woken : (answer : Status → Option Woke) → WakesWaiting answer → (rows : List Goroutine) (i : ℕ) → passes_at is_out rows i ≡ true
     → option_map_or (λ (z : Goroutine). z.epoch) (slice_get (map (λ (x : Goroutine). woken_with (answer x.status) x) rows) i) 0 ≡ option_map_or (λ (z : Goroutine). z.epoch) (slice_get rows i) 0
@@ -251,22 +273,23 @@ issued_woken answer wakes old new (r ∷ tickets) is out issued = (
   issued_woken answer wakes old new tickets is out.1 issued.1,
 )
 
--- nobody that is out, runs, or is elsewhere is woken
-pub woken_tickets : (answer : Status → Option Woke) → WakesWaiting answer → (old new : Table) (tickets : List Readiness) (running : List GNo) → new.goroutines ≡ (all_woken answer old).goroutines
-    → AreTickets old tickets running → AreTickets new tickets running
-woken_tickets answer wakes old new tickets running is kept =
+-- nobody that is out, runs, makes a blocking call, or is elsewhere is woken
+pub woken_tickets : (answer : Status → Option Woke) → WakesWaiting answer → (old new : Table) (tickets : List Readiness) (running calling : List GNo)
+    → new.goroutines ≡ (all_woken answer old).goroutines → AreTickets old tickets running calling → AreTickets new tickets running calling
+woken_tickets answer wakes old new tickets running calling is kept =
     let outs_each : (i : ℕ) → times i (owners tickets) ≤ tally (passes_at is_out old.goroutines i) = λ i. omega (arith, kept.outs.each i) in
     record {
       outs = rw is (listing_map is_out _ (woken_same is_out answer wakes out_waits_not (λ told. refl)) old.goroutines (owners tickets) kept.outs);
       issued = issued_woken answer wakes old new tickets is (all_out old tickets outs_each) kept.issued;
       runs = rw is (listing_map (is_running_on machine) _ (woken_same (is_running_on machine) answer wakes runner_waits_not (λ told. refl)) old.goroutines running kept.runs);
+      calls = rw is (listing_map (is_calling_on machine) _ (woken_same (is_calling_on machine) answer wakes caller_waits_not (λ told. refl)) old.goroutines calling kept.calls);
       others = rw is (listing_map is_elsewhere _ (woken_same is_elsewhere answer wakes elsewhere_waits_not (λ told. refl)) old.goroutines [] kept.others);
     }
 
 -- Who runs, and which ticket is out
 
 -- the goroutine that is listed as running runs
-pub runs_listed : (t : Table) (g : GNo) (tickets : List Readiness) → AreTickets t tickets (g ∷ []) → IsRunning t g machine
+pub runs_listed : (t : Table) (g : GNo) (tickets : List Readiness) → AreTickets t tickets (g ∷ []) [] → IsRunning t g machine
 runs_listed t g tickets kept =
     let row = row_of (is_running_on machine) t.goroutines g (first_passes (is_running_on machine) t.goroutines g [] kept.runs) in
     by_status row.row row.at row.row.status refl row.is
@@ -278,11 +301,11 @@ runs_listed t g tickets kept =
         ap (λ (o : Option Goroutine). option_map (λ (z : Goroutine). z.status) o) at ∙ ap Some (is ∙ ap status.Running same)
     by_status x at _ is e = absurd cc
 
-pub runs_nothing : (t : Table) (tickets : List Readiness) → AreTickets t tickets [] → RunsNothing t machine
+pub runs_nothing : (t : Table) (tickets : List Readiness) → AreTickets t tickets [] [] → RunsNothing t machine
 runs_nothing t tickets kept = some_listed (is_running_on machine) t.goroutines [] kept.runs
 
 -- the first ticket is out
-pub first_out : (t : Table) (r : Readiness) (tickets : List Readiness) (running : List GNo) → AreTickets t (r ∷ tickets) running → IsOut t r
+pub first_out : (t : Table) (r : Readiness) (tickets : List Readiness) (running : List GNo) → AreTickets t (r ∷ tickets) running [] → IsOut t r
 first_out t r tickets running kept =
     let row = row_of is_out t.goroutines r.g (first_passes is_out t.goroutines r.g (owners tickets) kept.outs) in
     by_status row.row row.at row.row.status refl row.is
@@ -296,20 +319,20 @@ first_out t r tickets running kept =
 
 -- Who goes on by a deadline
 
--- one that is neither on the shelf, out, run by the machine nor elsewhere is neither ready nor runs, and goes on where it has a deadline
-stirs_alone : (s : Status) → is_shelved s ≡ false → is_out s ≡ false → is_running_on machine s ≡ false → is_elsewhere s ≡ false
+not_both : (b : Bool) → b ≡ false → not b ≡ false → ⊥
+not_both true r e = cc
+not_both false r e = cc
+
+-- one that is neither on the shelf, out, run by the machine, in its blocking call nor elsewhere is neither ready nor runs, and goes on where it has a deadline
+stirs_alone : (s : Status) → is_shelved s ≡ false → is_out s ≡ false → is_running_on machine s ≡ false → is_calling_on machine s ≡ false → is_elsewhere s ≡ false
     → (is_ready_or_running s ≡ false) × (is_astir s ≡ is_some (deadline_of s))
-stirs_alone status.Dormant h o r e = (refl, refl)
-stirs_alone (status.Ready Shelf told) h o r e = absurd cc
-stirs_alone (status.Ready Out told) h o r e = absurd cc
-stirs_alone (status.Running m) h o r e = absurd (not_both (machine.0 == m.0) r e)
-  where
-    not_both : (b : Bool) → b ≡ false → not b ≡ false → ⊥
-    not_both true r e = cc
-    not_both false r e = cc
-stirs_alone (status.Calling m) h o r e = absurd cc
-stirs_alone (status.Waiting w) h o r e = (refl, refl)
-stirs_alone status.Dead h o r e = (refl, refl)
+stirs_alone status.Dormant h o r c e = (refl, refl)
+stirs_alone (status.Ready Shelf told) h o r c e = absurd cc
+stirs_alone (status.Ready Out told) h o r c e = absurd cc
+stirs_alone (status.Running m) h o r c e = absurd (not_both (machine.0 == m.0) r e)
+stirs_alone (status.Calling m) h o r c e = absurd (not_both (machine.0 == m.0) c e)
+stirs_alone (status.Waiting w) h o r c e = (refl, refl)
+stirs_alone status.Dead h o r c e = (refl, refl)
 
 either : (a b : Bool) → (a || b) ≡ false → (a ≡ false) × (b ≡ false)
 either false false h = (refl, refl)
@@ -322,20 +345,22 @@ some_earlier (Some x) None = refl
 some_earlier (Some x) (Some y) = refl
 
 rows_stir : (rows : List Goroutine) → list_any (λ (x : Goroutine). is_shelved x.status) rows ≡ false → list_any (λ (x : Goroutine). is_out x.status) rows ≡ false
-    → list_any (λ (x : Goroutine). is_running_on machine x.status) rows ≡ false → list_any (λ (x : Goroutine). is_elsewhere x.status) rows ≡ false
+    → list_any (λ (x : Goroutine). is_running_on machine x.status) rows ≡ false → list_any (λ (x : Goroutine). is_calling_on machine x.status) rows ≡ false
+    → list_any (λ (x : Goroutine). is_elsewhere x.status) rows ≡ false
     → (list_any (λ (x : Goroutine). is_ready_or_running x.status) rows ≡ false) × (list_any (λ (x : Goroutine). is_astir x.status) rows ≡ is_some (least_of rows))
-rows_stir [] h o r e = (refl, refl)
-rows_stir (x ∷ rows) h o r e =
+rows_stir [] h o r c e = (refl, refl)
+rows_stir (x ∷ rows) h o r c e =
     let h' = either (is_shelved x.status) (list_any (λ (z : Goroutine). is_shelved z.status) rows) h in
     let o' = either (is_out x.status) (list_any (λ (z : Goroutine). is_out z.status) rows) o in
     let r' = either (is_running_on machine x.status) (list_any (λ (z : Goroutine). is_running_on machine z.status) rows) r in
+    let c' = either (is_calling_on machine x.status) (list_any (λ (z : Goroutine). is_calling_on machine z.status) rows) c in
     let e' = either (is_elsewhere x.status) (list_any (λ (z : Goroutine). is_elsewhere z.status) rows) e in
-    let first = stirs_alone x.status h'.0 o'.0 r'.0 e'.0 in
-    let rest = rows_stir rows h'.1 o'.1 r'.1 e'.1 in
+    let first = stirs_alone x.status h'.0 o'.0 r'.0 c'.0 e'.0 in
+    let rest = rows_stir rows h'.1 o'.1 r'.1 c'.1 e'.1 in
     (rw first.0 rest.0, rw (first.1, rest.1) (sym (some_earlier (deadline_of x.status) (least_of rows))))
 
--- where nobody is on the shelf, out, run by the machine or elsewhere, somebody can go on exactly where a deadline is to be minded
-pub stirs_by_deadline : (t : Table) → AreTickets t [] [] → some_status is_shelved t ≡ false → some_status is_astir t ≡ is_some (minded t)
+-- where nobody is on the shelf, out, run by the machine, in its blocking call or elsewhere, somebody can go on exactly where a deadline is to be minded
+pub stirs_by_deadline : (t : Table) → AreTickets t [] [] [] → some_status is_shelved t ≡ false → some_status is_astir t ≡ is_some (minded t)
 stirs_by_deadline t kept shelf =
-    let rows = rows_stir t.goroutines shelf (some_listed is_out t.goroutines [] kept.outs) (some_listed (is_running_on machine) t.goroutines [] kept.runs) (some_listed is_elsewhere t.goroutines [] kept.others) in
+    let rows = rows_stir t.goroutines shelf (some_listed is_out t.goroutines [] kept.outs) (some_listed (is_running_on machine) t.goroutines [] kept.runs) (some_listed (is_calling_on machine) t.goroutines [] kept.calls) (some_listed is_elsewhere t.goroutines [] kept.others) in
     rw rows.0 rows.1

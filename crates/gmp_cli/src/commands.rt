@@ -21,6 +21,8 @@ pub enum Command {
     Sleep(u64),
     Park,
     Ready(GNo),
+    /// A blocking call that answers this number.
+    Block(u64),
     Exit,
     /// No ask: goes on with the body's first command.
     Again,
@@ -58,6 +60,7 @@ impl Command {
             Command::Sleep(until) => Ask::Sleep(*until),
             Command::Park => Ask::Park,
             Command::Ready(g) => Ask::Ready(*g),
+            Command::Block(_) => Ask::Block,
             Command::Exit | Command::Again => Ask::Exit,
         }
     }
@@ -126,11 +129,11 @@ impl ScriptBody {
 
 impl Body for ScriptBody {
     ghost use Rattle.std.specs.Prelude.{◌≡◌};
-    ghost use Rattle.gmp_cli.specs.Script.{Resumes};
+    ghost use Rattle.gmp_cli.specs.Script.{Resumes, called_number};
 
     ghost resumed = { λ before _ ask after. Resumes before ask after };
 
-    ghost blocked = { λ before n after. (n ≡ 0) × (after ≡ before) };
+    ghost blocked = { λ before n after. (n ≡ called_number before) × (after ≡ before) };
 
     fn resume(&mut self, _woke: Woke) -> Ask {
         let place = self.place();
@@ -145,7 +148,13 @@ impl Body for ScriptBody {
     }
 
     fn blocking(&mut self) -> u64 {
-        0
+        let Some(place) = self.next.checked_sub(1) else {
+            return 0;
+        };
+        match self.commands.get(place) {
+            Some(Command::Block(number)) => *number,
+            _ => 0,
+        }
     }
 }
 

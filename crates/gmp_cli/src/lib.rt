@@ -23,16 +23,3 @@ pub use reading::{MAX_INPUT, input};
 pub use said::Said;
 pub use stepping::step;
 pub use words::settings;
-
-#[cfg(test)]
-mod channel_tests;
-#[cfg(test)]
-mod deadline_tests;
-#[cfg(test)]
-mod script_tests;
-#[cfg(test)]
-mod select_tests;
-#[cfg(test)]
-mod step_tests;
-#[cfg(test)]
-mod tests;

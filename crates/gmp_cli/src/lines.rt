@@ -117,6 +117,8 @@ fn with(word: &[u8], k: &[u8]) -> Option<Line>
         Some(Line::Command(Command::Ready(goroutine(k)?)))
     } else if word == b"sleep".as_slice() {
         Some(Line::Command(Command::Sleep(value(k)?)))
+    } else if word == b"block".as_slice() {
+        Some(Line::Command(Command::Block(value(k)?)))
     } else {
         None
     }

@@ -8,12 +8,13 @@ ghost use Rattle.gmp_book.specs.Log.{opening_log};
 ghost use Rattle.gmp_seq.specs.Fits.{AreLimits};
 
 mod asking;
+mod blocking;
 mod timing;
 
 use crate::clock::Clock;
 use crate::commands::ScriptBody;
 use circular_buffer::HeapCircularBuffer;
-use gmp_base::{Held, Pass, Proc, Readiness, Refusal, Ticket};
+use gmp_base::{Called, Held, Pass, Proc, Readiness, Refusal, Ticket};
 use gmp_book::{Book, Report, Unopened};
 use gmp_seq::Limits;
 use std::alloc::{AllocError, Global};
@@ -36,6 +37,8 @@ pub(crate) enum Hand {
     Run(Proc<()>, Held<ScriptBody>),
     /// A call of its goroutine made others ready, for whom another machine may wake.
     Poke(Proc<()>, Held<ScriptBody>),
+    /// Its goroutine asked for a blocking call, which the machine makes next. It holds no processor.
+    Block(Called<ScriptBody>),
     /// It found no ticket, and gives its processor up.
     Drop(Proc<()>),
     /// It holds nothing, and parks.
@@ -73,6 +76,19 @@ fn give_held(book: &mut Book<ScriptBody, ()>, held: Held<ScriptBody>)
     }
 }
 
+/// Gives the body of a goroutine in a blocking call back once the run is over.
+fn give_called(book: &mut Book<ScriptBody, ()>, called: Called<ScriptBody>)
+    requires over { is_none book.old.log.state.outcome ≡ false }
+    requires run { called.run ≡ book.old.log.run }
+    requires out { is_vacant book.old.bodies called.g.0 ≡ true }
+    ensures { book.new ≡ record book.old { bodies = slice_set book.old.bodies called.g.0 (Some called.body) } }
+{
+    match book.surrender_called(called) {
+        Ok(()) => {}
+        Err(_) => unreachable!(),
+    }
+}
+
 /// Gives a ticket back once the run is over.
 fn give_ticket(book: &mut Book<ScriptBody, ()>, ticket: Ticket)
     requires over { is_none book.old.log.state.outcome ≡ false }
@@ -102,7 +118,8 @@ fn give_proc(book: &mut Book<ScriptBody, ()>, proc: Proc<()>)
 impl Machine {
     ghost use Rattle.gmp_cli.specs.Clock.{reading, unread};
     ghost use Rattle.gmp_cli.specs.Driven.{Driving, GoesOn, GoesOnBy, IsReportOf};
-    ghost use Rattle.gmp_seq.specs.declared.call.Call.TheVariants.{Tick};
+    ghost use Rattle.gmp_cli.specs.Script.{Commands, called_number};
+    ghost use Rattle.gmp_seq.specs.declared.call.Call.TheVariants.{Leave, Tick};
 
     /// The machine before its first call.
     pub(crate) fn open(
@@ -214,6 +231,7 @@ impl Machine {
                 give_held(&mut book, held);
                 give_proc(&mut book, proc);
             }
+            Hand::Block(called) => give_called(&mut book, called),
         }
         match book.into_report() {
             Ok(report) => report,
@@ -229,6 +247,8 @@ impl Machine {
         ensures goes { OnOk result (GoesOn self.old.book.log self.new.book.log) }
         // Where it minds a deadline it tells the book what its clock reads.
         ensures minds { (until : ℕ) → hand ≡ Hand.Mind until → OnOk result (GoesOnBy (Tick (reading self.old.clock (Some until))) self.old.book.log self.new.book.log) }
+        // Where it makes a blocking call it comes back with the number of that call.
+        ensures blocks { (called : Called Commands) → hand ≡ Hand.Block called → OnOk result (GoesOnBy (Leave (called_number called.body)) self.old.book.log self.new.book.log) }
     {
         match hand {
             Hand::Start => Ok(self.start()),
@@ -236,6 +256,7 @@ impl Machine {
             Hand::Claim(proc, ticket) => Ok(self.claim(proc, ticket)),
             Hand::Run(proc, held) => self.resume(alloc, proc, held),
             Hand::Poke(proc, held) => Ok(self.poke(proc, held)),
+            Hand::Block(called) => Ok(self.leave(called)),
             Hand::Drop(proc) => Ok(self.give_up(proc)),
             Hand::Park => Ok(self.park()),
             Hand::Mind(until) => Ok(self.mind(until)),

@@ -244,6 +244,24 @@ impl StatusTable {
         self.rows.turn(g, Status::Dead);
     }
 
+    /// A goroutine that is off the shelf goes into a blocking call, which m makes.
+    pub fn enter(&mut self, m: MNo, g: GNo)
+        requires { IsOffShelf self.old.table g }
+        ensures table { self.new.table ≡ set_status self.old.table g (Status.Calling m) }
+        ensures shelf { self.new.shelf ≡ self.old.shelf }
+    {
+        self.rows.turn(g, Status::Calling(m));
+    }
+
+    /// A goroutine that is off the shelf comes back from its blocking call, and m runs it. One that finds no processor is requeued.
+    pub fn leave(&mut self, m: MNo, g: GNo)
+        requires { IsOffShelf self.old.table g }
+        ensures table { self.new.table ≡ set_status self.old.table g (Status.Running m) }
+        ensures shelf { self.new.shelf ≡ self.old.shelf }
+    {
+        self.rows.turn(g, Status::Running(m));
+    }
+
     /// A goroutine that is off the shelf begins to wait, with these offers, until this moment, in nanoseconds.
     pub fn wait(&mut self, g: GNo, kind: Kind, offers: Offers, until: Option<u64>)
         requires off { IsOffShelf self.old.table g }

@@ -38,6 +38,21 @@ fn wait(
     table.wait(g, kind, offers, until);
 }
 
+/// Makes a blocking call, during which nobody goes, and comes back from it.
+fn enter_and_leave(rt: &impl Abort, table: &mut StatusTable, m: u8, g: u16) {
+    assert!(rt; is_off(table, GNo(g)));
+    table.enter(MNo(m), GNo(g));
+    assert!(rt; !table.runs(MNo(m), GNo(g)));
+    assert_eq!(rt;
+        (table.has_going(), table.has_astir()),
+        (false, true),
+        "calling"
+    );
+    assert!(rt; is_off(table, GNo(g)));
+    table.leave(MNo(m), GNo(g));
+    assert!(rt; table.runs(MNo(m), GNo(g)));
+}
+
 /// Makes the one ready on the shelf that is woken next.
 fn wake_next(rt: &impl Abort, table: &mut StatusTable, wake: Wake) -> Option<Candidate> {
     let next = table.next_to_wake(wake)?;
@@ -124,6 +139,7 @@ fn somebody_goes_or_is_astir(rt: HostRuntime) -> Result<(), Fail> {
         (true, true),
         "running"
     );
+    enter_and_leave(&rt, &mut table, 1, 0);
     assert!(rt; is_off(&table, GNo(0)));
     table.dead(GNo(0));
     assert_eq!(rt;

@@ -7,7 +7,7 @@ ghost use Rattle.gmp_book.specs.Refusals.{first_refusal, why_refused};
 
 use crate::book::Book;
 use crate::report::Report;
-use gmp_base::{Held, Proc, Refusal, Refused, Ticket};
+use gmp_base::{Called, Held, Proc, Refusal, Refused, Ticket};
 
 impl<T, Q> Book<T, Q> {
     ghost use Rattle.gmp_book.specs.Book.{IsReport, surrender_lines, report_lines};
@@ -23,6 +23,21 @@ impl<T, Q> Book<T, Q> {
             return Err(Refused { why, back: held });
         }
         let (_, g, _, own) = held.open();
+        self.bodies.put(g.0 as usize, own);
+        Ok(())
+    }
+
+    /// Gives the body of a goroutine in a blocking call back once the run is over.
+    pub fn surrender_called(&mut self, called: Called<T>) -> Result<(), Refused<Called<T>>>
+        ensures refused { why_refused result ≡ first_refusal (surrender_lines self.old.log called.run (not (is_vacant self.old.bodies called.g.0)) Refusal.NotHeld) }
+        ensures err { IfErr result (λ r. (r.back ≡ called) × (self.new ≡ self.old)) }
+        ensures ok { OnOk result (self.new ≡ record self.old { bodies = slice_set self.old.bodies called.g.0 (Some called.body) }) }
+    {
+        let astray = !self.bodies.is_vacant(called.g.0 as usize);
+        if let Some(why) = self.surrender_refusal(called.run, astray, Refusal::NotHeld) {
+            return Err(Refused { why, back: called });
+        }
+        let (_, g, own) = called.open();
         self.bodies.put(g.0 as usize, own);
         Ok(())
     }

@@ -5,7 +5,8 @@ ghost use Rattle.gmp_seq.specs.Machines.{is_parked};
 ghost use Rattle.gmp_seq.specs.Table.{IsReady, IsRunning, made_ready, next_of, set_status};
 ghost use Rattle.gmp_book.specs.Log.{Records};
 ghost use Rattle.gmp_book.specs.Refusals.{refusal_of, refusal_in};
-ghost use Rattle.gmp_book.specs.Replies.{acquired, taken, started, left, parking, poked};
+ghost use Rattle.gmp_idle.specs.Replies.{acquired, poked};
+ghost use Rattle.gmp_book.specs.Replies.{taken, started, left, parking};
 
 use crate::handed::Handed;
 use crate::ledger::{Exited, Ledger, Parking};

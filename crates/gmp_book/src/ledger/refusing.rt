@@ -91,7 +91,7 @@ impl Ledger {
                 !self.machines.is_awake(m) || self.runs_some(m) || self.machines.spins(m)
             }
             Call::Spin => !self.machines.is_awake(m) || self.runs_some(m),
-            Call::Woken => self.machines.calls_some(m),
+            Call::Woken => self.machines.is_calling(m),
             Call::Declare => self.runs_some(m) || self.machines.spins(m),
             Call::Bare | Call::Park => {
                 !self.machines.is_awake(m)

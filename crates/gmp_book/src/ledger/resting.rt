@@ -1,15 +1,26 @@
 //! What a machine asks that has nothing to do.
 ghost use Rattle.std.specs.Prelude.{◌≡◌, None, false};
-ghost use Rattle.gmp_seq.specs.Machines.{Holds, spins};
+ghost use Rattle.gmp_seq.specs.Machines.{Holds, IsAwake, spins};
 ghost use Rattle.gmp_seq.specs.Needs.{Needs};
 ghost use Rattle.gmp_seq.specs.Table.{RunsNothing};
 ghost use Rattle.gmp_book.specs.Log.{Enters};
-ghost use Rattle.gmp_book.specs.Replies.{Foresees, parking};
+ghost use Rattle.gmp_book.specs.Replies.{Foresees, after_park, parking};
 
 use crate::ledger::{Ledger, Parking, enter};
 use crate::replies;
 use gmp_base::{MNo, PNo};
+use gmp_idle::Machines;
 use gmp_seq::{Call, Reply};
+
+/// m, which is awake and has nothing to do, parks where it is answered so.
+fn rest(machines: &mut Machines, m: MNo, answer: Parking)
+    requires { IsAwake machines.old m }
+    ensures { machines.new ≡ after_park m answer machines.old }
+{
+    if answer == Parking::Parked {
+        machines.park(m);
+    }
+}
 
 impl Ledger {
     /// m, which runs nothing, gives up p, which it holds.
@@ -20,7 +31,7 @@ impl Ledger {
         requires holds { Holds self.old.state.machines m p }
         ensures { Enters self.old m Call.Declare (Reply.Idle p) self.new }
     {
-        self.machines.release(m, p);
+        self.machines.declare(m, p);
         enter(
             &mut self.journal,
             &mut self.outcome,
@@ -54,7 +65,7 @@ impl Ledger {
         ensures { Enters self.old m Call.Park (parking result) self.new }
     {
         let answer = self.prospect();
-        self.machines.rest(m, answer);
+        rest(&mut self.machines, m, answer);
         enter(
             &mut self.journal,
             &mut self.outcome,

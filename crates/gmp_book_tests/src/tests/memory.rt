@@ -1,24 +1,25 @@
 //! Want of memory. Run with each allocation refused in turn.
-use super::answers::{ends, on};
-use super::calls::{history_is, makes, receives, sends};
-use super::*;
+use super::Strict;
+use gmp_base::{CNo, Fault, GNo, Held, Pass, Refusal, Refused, Woke};
+use gmp_book::Book;
+use gmp_book_trials::answers::{ends, on};
+use gmp_book_trials::calls::{begin, makes, parts, receives, sends};
+use gmp_book_trials::endings::{history_is, report_of};
+use gmp_book_trials::{Desk, Judge, LONE, lists, only_pass, same};
+use std::alloc::Global;
+use std::test::Fail;
 
 /// A book without channels and with one body, 70, and its pass, if there is memory.
-fn desk_or_not(rt: &impl Abort, alloc: Global) -> Option<(Desk, Pass)> {
+fn desk_or_not(judge: &impl Judge, alloc: Global) -> Option<(Desk, Pass)> {
     let (Ok(bodies), Ok(owners)) = (vec![in alloc; 70], vec![in alloc; 80]) else {
         return None;
     };
     match Book::open(alloc, 7, LONE, &[], bodies, owners) {
-        Ok((book, passes)) => {
-            let mut passes = passes;
-            let pass = last_pass(rt, &mut passes);
-            close(rt, passes);
-            Some((book, pass))
-        }
+        Ok((book, passes)) => Some((book, only_pass(judge, passes))),
         Err(unopened) => {
-            same(rt, unopened.why, Refusal::OutOfMemory);
-            lists(rt, &unopened.bodies, &[70]);
-            lists(rt, &unopened.owners, &[80]);
+            same(judge, unopened.why, Refusal::OutOfMemory);
+            lists(judge, &unopened.bodies, &[70]);
+            lists(judge, &unopened.owners, &[80]);
             None
         }
     }
@@ -26,24 +27,24 @@ fn desk_or_not(rt: &impl Abort, alloc: Global) -> Option<(Desk, Pass)> {
 
 /// That a make is refused memory, and nothing has changed: the goroutine, which is told so.
 fn unchanged(
-    rt: &impl Abort,
+    judge: &impl Judge,
     book: &Desk,
     pass: &Pass,
     refused: Refused<Held<u32>>,
     before: (u64, u64),
 ) -> Held<u32> {
     let (why, held) = refused.open();
-    same(rt, (why, why.number()), (Refusal::OutOfMemory, 28));
-    same(rt, parts(&held), (7, GNo(0), Woke::NoMemory, 70));
-    same(rt, (pass.calls, pass.seen), before);
-    same(rt, book.history().len() as u64, before.1);
-    same(rt, book.outcome(), None);
+    same(judge, (why, why.number()), (Refusal::OutOfMemory, 28));
+    same(judge, parts(&held), (7, GNo(0), Woke::NoMemory, 70));
+    same(judge, (pass.calls, pass.seen), before);
+    same(judge, book.history().len() as u64, before.1);
+    same(judge, book.outcome(), None);
     held
 }
 
 /// The channel of this number is made, with room for so many values, at once or at the second time.
 fn makes_or_again(
-    rt: &impl Abort,
+    judge: &impl Judge,
     alloc: Global,
     book: &mut Desk,
     pass: &mut Pass,
@@ -53,10 +54,10 @@ fn makes_or_again(
 ) -> Held<u32> {
     let (calls, seen) = (pass.calls, pass.seen);
     match book.make(alloc, pass, held, capacity) {
-        Ok(went) => on(rt, Ok(went), Woke::Made(CNo(c))),
+        Ok(went) => on(judge, Ok(went), Woke::Made(CNo(c))),
         Err(refused) => {
-            let held = unchanged(rt, book, pass, refused, (calls, seen));
-            makes(rt, alloc, book, pass, held, capacity, Woke::Made(CNo(c)))
+            let held = unchanged(judge, book, pass, refused, (calls, seen));
+            makes(judge, alloc, book, pass, held, capacity, Woke::Made(CNo(c)))
         }
     }
 }
@@ -64,19 +65,20 @@ fn makes_or_again(
 // The history is the same, whether or not a make was refused memory before.
 #[test]
 fn a_make_that_is_refused_memory_can_be_made_again(rt: HostRuntime) -> Result<(), Fail> {
+    let judge = Strict(&rt);
     let alloc = rt.alloc();
-    let Some((mut book, mut pass)) = desk_or_not(&rt, alloc) else {
+    let Some((mut book, mut pass)) = desk_or_not(&judge, alloc) else {
         return Ok(());
     };
-    let (proc, held) = begin(&rt, &mut book, &mut pass);
-    let held = makes_or_again(&rt, alloc, &mut book, &mut pass, held, 0, 2);
-    let held = makes_or_again(&rt, alloc, &mut book, &mut pass, held, 1, 4096);
-    let held = sends(&rt, &mut book, &mut pass, held, 0, 5);
-    let held = makes_or_again(&rt, alloc, &mut book, &mut pass, held, 2, 0);
+    let (proc, held) = begin(&judge, &mut book, &mut pass);
+    let held = makes_or_again(&judge, alloc, &mut book, &mut pass, held, 0, 2);
+    let held = makes_or_again(&judge, alloc, &mut book, &mut pass, held, 1, 4096);
+    let held = sends(&judge, &mut book, &mut pass, held, 0, 5);
+    let held = makes_or_again(&judge, alloc, &mut book, &mut pass, held, 2, 0);
     let large = Woke::Fault(Fault::BadCapacity);
-    let held = makes(&rt, alloc, &mut book, &mut pass, held, 4097, large);
-    let held = receives(&rt, &mut book, &mut pass, held, 0, Woke::Got(5, true));
-    ends(&rt, &mut book, &mut pass, held);
+    let held = makes(&judge, alloc, &mut book, &mut pass, held, 4097, large);
+    let held = receives(&judge, &mut book, &mut pass, held, 0, Woke::Got(5, true));
+    ends(&judge, &mut book, &mut pass, held);
     let want = &[
         "0.0 Acquire -> Proc(PNo(0))",
         "0.1 Take -> Ticket(Readiness { g: GNo(0), epoch: 1 })",
@@ -89,6 +91,6 @@ fn a_make_that_is_refused_memory_can_be_made_again(rt: HostRuntime) -> Result<()
         "0.8 Recv(Some(CNo(0))) -> Got(5, true, None)",
         "0.9 Exit -> MainEnded",
     ];
-    let report = report_of(&rt, alloc, book, pass, proc);
-    history_is(&rt, alloc, report, want)
+    let report = report_of(&judge, alloc, book, pass, proc);
+    history_is(&judge, alloc, report, want)
 }

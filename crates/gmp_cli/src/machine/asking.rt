@@ -9,7 +9,7 @@ use gmp_book::{Moved, Went};
 use std::alloc::{AllocError, Global};
 
 impl Machine {
-    ghost use Rattle.gmp_cli.specs.Driven.{Driving, Drives, GoesOn, GoesOnBy, GoesOnByChoice, call_of, is_poke, pushed};
+    ghost use Rattle.gmp_cli.specs.Driven.{BlocksBy, Driving, Drives, GoesOn, GoesOnBy, GoesOnByChoice, call_of, is_poke, pushed};
     ghost use Rattle.gmp_cli.specs.Script.{next_ask};
     ghost use Rattle.gmp_seq.specs.declared.call.Call.TheVariants.{Cap, Close, Exit, Go, Gopark, Len, Make, Ready, Recv, Select, Send, Sleep, Yield};
 
@@ -25,6 +25,7 @@ impl Machine {
         ensures drives { IfOk result (Driving self.new) }
         ensures goes { OnOk result (GoesOn self.old.book.log self.new.book.log) }
         ensures asked { OnOk result (GoesOnBy (call_of (next_ask held.body)) self.old.book.log self.new.book.log) }
+        ensures blocks { next_ask held.body ≡ Ask.Block → IfOk result (BlocksBy held.body) }
     {
         let (run, g, woke, mut body) = held.open();
         let ask = body.resume(woke);
@@ -45,8 +46,7 @@ impl Machine {
             Ask::Sleep(until) => Ok(self.sleep(proc, held, until)),
             Ask::Park => Ok(self.park_g(proc, held)),
             Ask::Ready(g) => Ok(self.ready(proc, held, g)),
-            // A body of a script asks for no blocking call.
-            Ask::Block => unreachable!(),
+            Ask::Block => Ok(self.enter(proc, held)),
         }
     }
 

@@ -1,8 +1,8 @@
 use Rattle.std.proofs.Common.{refl, [], ◌∷◌}
 use Rattle.gmp_seq.specs.declared.call.Call.TheVariants as call
 use Rattle.gmp_book.specs.declared.handed.Handed.TheVariants as handed
-use Rattle.gmp_book.proofs.Allowed.{acquire_needs, take_needs, put_needs, claim_needs, held_runs, poke_needs, tick_needs, spin_needs, unspin_needs, bare_needs, park_needs, declare_needs, enter_needs, leave_needs}
-use Rattle.gmp_book.proofs.Granted.{allowed, acquire_granted, take_granted, put_granted, claim_granted, held_granted, poke_granted, tick_granted, spin_granted, unspin_granted, bare_granted, park_granted, declare_granted, enter_granted, leave_granted}
+use Rattle.gmp_book.proofs.Allowed.{acquire_needs, take_needs, put_needs, claim_needs, held_runs, poke_needs, tick_needs, spin_needs, unspin_needs, woken_needs, bare_needs, park_needs, declare_needs, enter_needs, leave_needs}
+use Rattle.gmp_book.proofs.Granted.{allowed, acquire_granted, take_granted, put_granted, claim_granted, held_granted, poke_granted, tick_granted, spin_granted, unspin_granted, woken_granted, bare_granted, park_granted, declare_granted, enter_granted, leave_granted}
 use Rattle.gmp_book.proofs.laws.granted_where_needed.Goals as goal
 
 pub returns-clause-acquire : goal.returns-clause-acquire
@@ -129,6 +129,12 @@ pub returns-clause-unspin : goal.returns-clause-unspin
 returns-clause-unspin c = λ log pass run current. (
   λ e. unspin_needs log pass (allowed log pass run current call.Unspin ([]) e),
   λ needs. unspin_granted log pass run current needs,
+)
+
+pub returns-clause-woken : goal.returns-clause-woken
+returns-clause-woken c = λ log pass run current. (
+  λ e. woken_needs log pass (allowed log pass run current call.Woken ([]) e),
+  λ here. woken_granted log pass run current here,
 )
 
 pub returns-clause-bare : goal.returns-clause-bare

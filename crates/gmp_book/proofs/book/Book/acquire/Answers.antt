@@ -1,7 +1,7 @@
 use Rattle.std.proofs.Common.{subst}
 use Rattle.gmp_seq.specs.declared.call.Call.TheVariants.{Acquire}
 use Rattle.gmp_book.specs.Log.{Records}
-use Rattle.gmp_book.specs.Replies.{acquired}
+use Rattle.gmp_idle.specs.Replies.{acquired}
 use Rattle.gmp_book.proofs.Placed.{acquire_filled, acquire_placed}
 use Rattle.gmp_book.proofs.book.Book.acquire.Goals as goal
 

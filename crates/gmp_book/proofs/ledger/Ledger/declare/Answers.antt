@@ -17,7 +17,7 @@ invariant_of-self c =
     let i = c.self.inside in
     let free = subst (λ (l : Log). RunsNothing l.state.table c.args.m) (sym c.self.view_is) c.requires.free in (
       kept_on (log_of i) c.args.self.now i.journal.room c.enter.new.journal.room c.args.m (call.Declare) (reply.Idle c.args.p) c.enter.new.journal.entries
-          (record (log_of i).state { machines = c.release.new.self; counts = c.enter.new.journal.counts; outcome = c.enter.new.outcome }) i.goroutines.shelf c.self.view_is c.self.invariant.0 c.requires.ongoing (holder_awake (log_of i) c.args.self.now i.journal.room c.args.m c.args.p c.self.view_is c.self.invariant.0 c.requires.holds)
-          (free, (c.release.ensures, refl, refl)) c.enter.ensures.entries c.enter.ensures.counts c.enter.ensures.outcome c.enter.ensures.room,
+          (record (log_of i).state { machines = c.declare.new.self; counts = c.enter.new.journal.counts; outcome = c.enter.new.outcome }) i.goroutines.shelf c.self.view_is c.self.invariant.0 c.requires.ongoing (holder_awake (log_of i) c.args.self.now i.journal.room c.args.m c.args.p c.self.view_is c.self.invariant.0 c.requires.holds)
+          (free, (c.declare.ensures, refl, refl)) c.enter.ensures.entries c.enter.ensures.counts c.enter.ensures.outcome c.enter.ensures.room,
       c.self.invariant.1,
     )

@@ -18,7 +18,7 @@ invariant_of-self c =
     let needs = subst (λ (l : Log). Needs c.args.m (call.Park) l.state) (sym c.self.view_is) c.requires.needs in
     let foresees = subst (λ (l : Log). Foresees l.state c.prospect-answer.result) (sym c.self.view_is) c.prospect-answer.ensures in (
       kept_on (log_of i) c.args.self.now i.journal.room c.enter.new.journal.room c.args.m (call.Park) (c.parking.result) c.enter.new.journal.entries
-          (record (log_of i).state { machines = c.rest.new.self; counts = c.enter.new.journal.counts; outcome = c.enter.new.outcome }) i.goroutines.shelf c.self.view_is c.self.invariant.0 c.requires.ongoing c.requires.needs.0
+          (record (log_of i).state { machines = c.rest.new.machines; counts = c.enter.new.journal.counts; outcome = c.enter.new.outcome }) i.goroutines.shelf c.self.view_is c.self.invariant.0 c.requires.ongoing c.requires.needs.0
           (needs, rw c.parking.ensures (parks_by c.args.m (log_of i).state _ c.prospect-answer.result foresees refl refl c.rest.ensures)) c.enter.ensures.entries c.enter.ensures.counts c.enter.ensures.outcome c.enter.ensures.room,
       c.self.invariant.1,
     )

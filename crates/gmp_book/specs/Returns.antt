@@ -1,0 +1,73 @@
+-- What becomes of a goroutine that comes back from a blocking call, and of its machine's processor.
+use Rattle.std.specs.Prelude.{◌≡◌, ℕ, Option, None, Some, false, is_none, position, slice_set}
+use Rattle.gmp_base.specs.declared.ask.Woke.TheVariants as woke
+use Rattle.gmp_base.specs.declared.number.GNo.{GNo}
+use Rattle.gmp_base.specs.declared.number.MNo.{MNo}
+use Rattle.gmp_base.specs.declared.number.PNo.{PNo}
+use Rattle.gmp_base.specs.declared.value.Called.{Called}
+use Rattle.gmp_seq.specs.declared.call.Reply.{Reply}
+use Rattle.gmp_seq.specs.declared.call.Reply.TheVariants as reply
+use Rattle.gmp_seq.specs.declared.status.Place.TheVariants.{Shelf}
+use Rattle.gmp_seq.specs.declared.status.Status.TheVariants.{Running}
+use Rattle.gmp_seq.specs.Machines.{Machines, some_idle}
+use Rattle.gmp_seq.specs.Table.{Table, made_ready, next_of, set_status}
+use Rattle.gmp_book.specs.declared.ledger.calling.Resumed.{Resumed}
+use Rattle.gmp_book.specs.declared.ledger.calling.Resumed.TheVariants as resumes
+use Rattle.gmp_book.specs.declared.returned.Returned.{Returned}
+use Rattle.gmp_book.specs.declared.returned.Returned.TheVariants.{Runs, Shelved}
+use Rattle.gmp_book.specs.Book.{Contents, HandsOutOwner}
+
+-- Within the book
+
+abbrev pub resumed : Resumed → Reply
+resumed (resumes.Runs p) = reply.Runs p
+resumed (resumes.Shelved r) = reply.Shelved r
+
+-- it runs on where its machine got a processor
+abbrev pub came_back : Table → GNo → Option PNo → Resumed
+came_back t g (Some p) = resumes.Runs p
+came_back t g None = resumes.Shelved (next_of t g)
+
+-- the table once it came back so
+abbrev pub table_after : Table → GNo → MNo → ℕ → Resumed → Table
+table_after t g m number (resumes.Runs p) = set_status t g (Running m)
+table_after t g m number (resumes.Shelved r) = made_ready t g Shelf (woke.Number number)
+
+-- its ticket is of the next readiness
+abbrev pub HasNext : Table → GNo → Resumed → Type 0
+HasNext t g (resumes.Runs p) = Unit {0}
+HasNext t g (resumes.Shelved r) = r ≡ next_of t g
+
+-- the processor is the least that was idle, or none was
+abbrev pub IsLeast : Machines → Resumed → Type 0
+IsLeast w (resumes.Runs p) = position is_none w.holders ≡ Some p.0
+IsLeast w (resumes.Shelved r) = some_idle w ≡ false
+
+-- What a caller is answered
+
+-- the reply, of the goroutine g
+abbrev pub returned : {T Q : Type 0} → Table → GNo → Returned T Q → Reply
+returned t g (Runs held proc) = reply.Runs proc.p
+returned t g Shelved = reply.Shelved (next_of t g)
+
+-- the table once g came back with this number: it runs on m, or is on the shelf
+abbrev pub table_by : {T Q : Type 0} → Table → GNo → MNo → ℕ → Returned T Q → Table
+table_by t g m number (Runs held proc) = set_status t g (Running m)
+table_by t g m number Shelved = made_ready t g Shelf (woke.Number number)
+
+-- the body of called is back in its place
+pub record TakesBackCalled {T Q : Type 0} (old now : Contents T Q) (called : Called T) : Type 0 where
+  pub bodies : now.bodies ≡ slice_set old.bodies called.g.0 (Some called.body)
+  pub owners : now.owners ≡ old.owners
+
+-- The goroutine runs on with its body and is told the number, and the owner of its processor is handed out; or its body is back in its
+-- place.
+abbrev pub Resumes : {T Q : Type 0} → Contents T Q → Contents T Q → Called T → ℕ → Returned T Q → Type 0
+Resumes old now called number (Runs held proc) =
+    (held ≡ record { run = called.run; g = called.g; woke = woke.Number number; body = called.body }) × HandsOutOwner old now proc
+Resumes old now called number Shelved = TakesBackCalled old now called
+
+-- it runs on exactly where a processor was idle, with the least of these
+abbrev pub ByLeast : {T Q : Type 0} → Machines → Returned T Q → Type 0
+ByLeast w (Runs held proc) = position is_none w.holders ≡ Some proc.p.0
+ByLeast w Shelved = some_idle w ≡ false

@@ -1,0 +1,19 @@
+//! Tests of the program's functions: the command line, input and scripts, and the whole traces of runs. It has no code of its own.
+#![tactic(auto)]
+
+#[cfg(test)]
+mod blocking_tests;
+#[cfg(test)]
+mod channel_tests;
+#[cfg(test)]
+mod deadline_tests;
+#[cfg(test)]
+mod reading;
+#[cfg(test)]
+mod script_tests;
+#[cfg(test)]
+mod select_tests;
+#[cfg(test)]
+mod step_tests;
+#[cfg(test)]
+mod tests;

@@ -1,0 +1,274 @@
+//! Whole traces of runs, what is wrong with others, and readers and writers that fail.
+use crate::reading::accepted;
+use gmp_cli::{MAX_INPUT, Said, Settings, settings, step};
+use std::alloc::Global;
+use std::io;
+use std::io::{ErrorKind, Read, Write};
+use std::process::Abort;
+use std::test::Fail;
+
+/// What the words of a command line say, which are parted by single spaces.
+pub(crate) fn settings_of(rt: &impl Abort, alloc: Global, line: &str) -> Result<Settings, Fail> {
+    let mut words = Vec::new(alloc);
+    for word in line.split(' ') {
+        words.push(String::from_str(alloc, word)?)?;
+    }
+    match settings(alloc, &words) {
+        Ok(settings) => Ok(settings),
+        Err(e) => panic!(rt; "{line}: {e:?}"),
+    }
+}
+
+/// The first three entries of every run with one machine.
+pub(crate) const START: &str =
+    "0 0.0 acquire -> proc 0\n1 0.1 take -> ticket 0.1\n2 0.2 claim 0.1 -> held\n";
+
+#[test]
+fn traces_are_written(rt: HostRuntime) -> Result<(), Fail> {
+    let alloc = rt.alloc();
+    for (script, bodies, rest) in [
+        (
+            "body\nyield\nexit\n",
+            1,
+            "3 0.3 yield -> shelf 0.2\n4 0.4 take -> ticket 0.2\n5 0.5 claim 0.2 -> held\n6 0.6 exit -> main ended\n",
+        ),
+        (
+            "body\ngo 1\nyield\nexit\nbody\nexit",
+            2,
+            "3 0.3 go 1 -> ticket 1.1\n4 0.4 poke -> none\n5 0.5 yield -> shelf 0.2\n6 0.6 claim 1.1 -> held\n7 0.7 exit -> dead\n8 0.8 take -> ticket 0.2\n9 0.9 claim 0.2 -> held\n10 0.10 exit -> main ended\n",
+        ),
+        (
+            "body\ngo 7\ngo 1\ngo 1\nexit\nbody\nbody",
+            3,
+            "3 0.3 go 7 -> fault 1\n4 0.4 go 1 -> ticket 1.1\n5 0.5 poke -> none\n6 0.6 go 1 -> fault 2\n7 0.7 exit -> main ended\n",
+        ),
+        ("body", 1, "3 0.3 exit -> main ended\n"),
+    ] {
+        let settings = settings_of(&rt, alloc, "gmp step")?;
+        let mut out = Vec::new(alloc);
+        let ended = step(alloc, &settings, &mut script.as_bytes(), &mut out);
+        assert_eq!(rt; ended.status, 0, "{script}");
+        let want = format!(in alloc;
+            "gmp-trace 1\nlimits procs 1 machines 1 bodies {bodies} channels 16 entries 10000\ncaps\n{START}{rest}end main ended\n"
+        )?;
+        assert_eq!(rt; out.as_slice(), want.as_bytes(), "{script}");
+        accepted(&rt, alloc, &settings, script.as_bytes())?;
+    }
+    Ok(())
+}
+
+#[test]
+fn full_books_end(rt: HostRuntime) -> Result<(), Fail> {
+    let alloc = rt.alloc();
+    for (line, tail) in [
+        (
+            "gmp step --entries 16",
+            "\n15 0.15 yield -> shelf 0.6\nend book full\n",
+        ),
+        (
+            "gmp step --entries 51",
+            "\n48 0.48 yield -> shelf 0.17\n49 0.49 tick 0 -> woke 0\n50 0.50 take -> ticket 0.17\nend book full\n",
+        ),
+    ] {
+        let settings = settings_of(&rt, alloc, line)?;
+        let mut out = Vec::new(alloc);
+        let ended = step(
+            alloc,
+            &settings,
+            &mut "body\nyield\nagain\n".as_bytes(),
+            &mut out,
+        );
+        assert_eq!(rt; ended.status, 3, "{line}");
+        assert!(rt; out.as_slice().ends_with(tail.as_bytes()), "{line}");
+        accepted(&rt, alloc, &settings, "body\nyield\nagain\n".as_bytes())?;
+    }
+    Ok(())
+}
+
+#[test]
+fn faults_come_in_order(rt: HostRuntime) -> Result<(), Fail> {
+    let alloc = rt.alloc();
+    for (line, script, status, text) in [
+        ("gmp step", "", 64, "gmp: bad limits\n"),
+        (
+            "gmp step",
+            "body\nsend 0",
+            1,
+            "gmp: line 2: bad script line\n",
+        ),
+        (
+            "gmp step --procs 2 --machines 2",
+            "body",
+            64,
+            "gmp: bad limits\n",
+        ),
+        ("gmp step --machines 2", "body", 64, "gmp: bad limits\n"),
+        (
+            "gmp step --procs 2",
+            "body\nagain",
+            1,
+            "gmp: line 2: bad script line\n",
+        ),
+    ] {
+        let settings = settings_of(&rt, alloc, line)?;
+        let mut out = Vec::new(alloc);
+        let ended = step(alloc, &settings, &mut script.as_bytes(), &mut out);
+        assert_eq!(rt; ended.status, status, "{line}: {script}");
+        let said = &ended.said;
+        assert_eq!(rt;
+            format!(in alloc; "{said}")?.as_str(),
+            text,
+            "{line}: {script}"
+        );
+        assert!(rt; out.is_empty(), "{line}: {script}");
+    }
+    Ok(())
+}
+
+/// A script in which main starts all others, of so many bodies, yields and exits.
+fn stock(alloc: Global, bodies: usize) -> Result<Vec<u8>, Fail> {
+    let mut text = Vec::new(alloc);
+    text.extend_from_slice(b"body\n")?;
+    for k in 1..bodies {
+        text.extend_from_slice(format!(in alloc; "go {k}\n")?.as_bytes())?;
+    }
+    text.extend_from_slice(b"yield\nexit\n")?;
+    for _ in 1..bodies {
+        text.extend_from_slice(b"body\n")?;
+    }
+    Ok(text)
+}
+
+#[test]
+fn bodies_have_a_limit(rt: HostRuntime) -> Result<(), Fail> {
+    let alloc = rt.alloc();
+    let settings = settings_of(&rt, alloc, "gmp step --entries 20000")?;
+    // 4,095 times go and poke, then claim and exit; a tick after each 16 of the 4,096 claims before main's last; and 7 more.
+    for (bodies, status, lines) in [(4096, 0, 16_643 + 4), (4097, 64, 0)] {
+        let mut writer = Counts::with_room(u64::MAX);
+        let text = stock(alloc, bodies)?;
+        let ended = step(alloc, &settings, &mut text.as_slice(), &mut writer);
+        assert_eq!(rt; ended.status, status, "{bodies}");
+        assert_eq!(rt; writer.lines, lines, "{bodies}");
+        if status == 0 {
+            accepted(&rt, alloc, &settings, &text)?;
+        }
+    }
+    Ok(())
+}
+
+/// A reader that gives a script and then fails.
+#[derive(Drop)]
+struct Broken<'a> {
+    text: &'a [u8],
+}
+
+impl Read for Broken<'_> {
+    fn read(&mut self, buf: &mut [u8]) -> io::Result<usize> {
+        let count = self.text.len().min(buf.len());
+        if count == 0 {
+            return Err(io::Error::from(ErrorKind::TimedOut));
+        }
+        buf[..count].copy_from_slice(&self.text[..count]);
+        self.text = &self.text[count..];
+        Ok(count)
+    }
+}
+
+/// A writer that takes so many bytes, the last of them as a part, and then fails. It counts the bytes and the lines.
+#[derive(Drop)]
+struct Counts {
+    room: u64,
+    bytes: u64,
+    lines: u64,
+}
+
+impl Counts {
+    fn with_room(room: u64) -> Self {
+        Counts {
+            room,
+            bytes: 0,
+            lines: 0,
+        }
+    }
+}
+
+impl Write for Counts {
+    fn write(&mut self, buf: &[u8]) -> io::Result<usize> {
+        let taken = (buf.len() as u64).min(self.room);
+        if taken == 0 && !buf.is_empty() {
+            return Err(io::Error::from(ErrorKind::StorageFull));
+        }
+        self.room -= taken;
+        self.bytes = self.bytes.wrapping_add(taken);
+        let lines = buf[..taken as usize]
+            .iter()
+            .filter(|byte| **byte == b'\n')
+            .count();
+        self.lines = self.lines.wrapping_add(lines as u64);
+        Ok(taken as usize)
+    }
+
+    fn flush(&mut self) -> io::Result<()> {
+        Ok(())
+    }
+}
+
+#[test]
+fn input_may_fail(rt: HostRuntime) -> Result<(), Fail> {
+    let alloc = rt.alloc();
+    let settings = settings_of(&rt, alloc, "gmp step")?;
+    for text in ["", "body\n", "body\nsend 0\n"] {
+        let mut out = Vec::new(alloc);
+        let mut reader = Broken {
+            text: text.as_bytes(),
+        };
+        let ended = step(alloc, &settings, &mut reader, &mut out);
+        assert_eq!(rt; ended.status, 1, "{text}");
+        assert!(rt; matches!(ended.said, Said::InputUnreadable), "{text}");
+        assert!(rt; out.is_empty(), "{text}");
+    }
+    // Too long comes before the bad line in it.
+    let mut out = Vec::new(alloc);
+    let text = vec![in alloc; b'x'; MAX_INPUT + 1]?;
+    let ended = step(alloc, &settings, &mut text.as_slice(), &mut out);
+    assert!(rt; matches!(ended.said, Said::InputTooLong));
+    Ok(())
+}
+
+#[test]
+fn output_may_fail(rt: HostRuntime) -> Result<(), Fail> {
+    let alloc = rt.alloc();
+    let script = "body\nyield\nagain".as_bytes();
+    let settings = settings_of(&rt, alloc, "gmp step")?;
+    // The trace of 10,000 entries goes out in parts.
+    let mut whole = Counts::with_room(u64::MAX);
+    let ended = step(alloc, &settings, &mut &script[..], &mut whole);
+    assert_eq!(rt; ended.status, 3);
+    assert_eq!(rt; whole.lines, 10_004);
+    accepted(&rt, alloc, &settings, script)?;
+    for room in [0, 1, 65_536, 100_000, whole.bytes.saturating_sub(1)] {
+        let mut writer = Counts::with_room(room);
+        let ended = step(alloc, &settings, &mut &script[..], &mut writer);
+        assert_eq!(rt; ended.status, 1, "{room}");
+        assert!(rt; matches!(ended.said, Said::OutputFailed), "{room}");
+    }
+    // Bad limits come before a failing output.
+    let settings = settings_of(&rt, alloc, "gmp step --procs 2")?;
+    let mut writer = Counts::with_room(0);
+    let ended = step(alloc, &settings, &mut &script[..], &mut writer);
+    assert!(rt; matches!(ended.said, Said::BadLimits));
+    Ok(())
+}
+
+#[test]
+fn a_million_entries(rt: HostRuntime) -> Result<(), Fail> {
+    let alloc = rt.alloc();
+    let settings = settings_of(&rt, alloc, "gmp step --entries 1000000")?;
+    let mut writer = Counts::with_room(u64::MAX);
+    let script = "body\nyield\nagain".as_bytes();
+    let ended = step(alloc, &settings, &mut &script[..], &mut writer);
+    assert_eq!(rt; ended.status, 3);
+    assert_eq!(rt; writer.lines, 1_000_004);
+    Ok(())
+}

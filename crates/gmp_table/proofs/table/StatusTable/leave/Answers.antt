@@ -1,0 +1,8 @@
+use Rattle.std.proofs.Common.{ap, refl}
+use Rattle.gmp_table.proofs.Moves.{off_turned}
+use Rattle.gmp_table.proofs.table.StatusTable.leave.Goals as goal
+
+pub invariant_of-self : goal.invariant_of-self
+invariant_of-self c =
+    let rows = ap (λ v. v.table.goroutines) c.self.view_is in
+    rw c.turn.ensures (off_turned c.self.inside.rows c.args.g _ _ _ c.self.invariant (rw rows c.requires) refl)
