@@ -23,7 +23,7 @@ use Rattle.gmp_seq.specs.Needs.{Needs, IsOut}
 use Rattle.gmp_seq.specs.State.{State}
 use Rattle.gmp_seq.specs.Table.{Table, IsRunning, IsCalling, RunsNothing, is_out, is_outstanding, is_running_on, status_at}
 use Rattle.gmp_book.specs.declared.handed.Handed.TheVariants as handed
-use Rattle.gmp_book.specs.Log.{Log, Enters, Records}
+use Rattle.gmp_book.specs.Log.{Log, Appends, Records}
 use Rattle.gmp_idle.specs.Replies.{is_awake_mode, is_calling_mode}
 use Rattle.gmp_book.specs.Refusals.{IsAllowed, IsCurrent, is_awake, is_busy, is_calling_on, is_anothers, is_spent}
 
@@ -148,11 +148,11 @@ module _ (log : Log) (pass : Pass) where
   leave_needs run g number allowed = calling pass.m (status_at log.state.table g) (not_false _ (or_parts _ _ allowed.own).0)
 
 -- the calls of a pass that may call are fewer than the entries once the call's entry is there
-pub fewer : (old now : Log) (before : Pass) (call : Call) (reply : Reply) → before.calls ≤ length old.history → Enters old before.m call reply now → before.calls < length now.history
+pub fewer : (old now : Log) (before : Pass) (call : Call) (reply : Reply) → before.calls ≤ length old.history → Appends old before.m call reply now → before.calls < length now.history
 fewer old now before call reply few enters = rw enters.entry (grind (arith, common_steps, few))
 
 -- a call by a pass that may call
-pub by_pass : (old now : Log) (before after : Pass) (call : Call) (reply : Reply) → IsCurrent old before → Enters old before.m call reply now
+pub by_pass : (old now : Log) (before after : Pass) (call : Call) (reply : Reply) → IsCurrent old before → Appends old before.m call reply now
     → after ≡ record before { calls = before.calls + 1; seen = length now.history } → Records old before call reply now after
 by_pass old now before after call reply current enters advanced = record {
   entry = rw current.turn enters.entry;

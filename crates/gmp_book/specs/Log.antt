@@ -39,7 +39,7 @@ calls_of log m = slice_index log.state.counts m.0
 
 -- The call was accepted: its entry goes last, behind as many of its machine's as it counts, and it is a step of the scheduler.
 -- The shelf is first in, first out.
-pub record Enters (old : Log) (m : MNo) (call : Call) (reply : Reply) (now : Log) : Type 0 where
+pub record Appends (old : Log) (m : MNo) (call : Call) (reply : Reply) (now : Log) : Type 0 where
   pub entry : now.history ≡ old.history ++ record { m = m; k = calls_of old m; call = call; reply = reply } ∷ []
   pub step : Step old.limits m call reply old.state now.state
   pub shelf : Shelves call reply old.state.table now.state.table old.shelf now.shelf

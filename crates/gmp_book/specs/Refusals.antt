@@ -81,7 +81,7 @@ is_busy s m call.Declare = runs_some s m || spins s.machines m
 is_busy s m call.Bare = not (is_awake s m) || has_processor s.machines m || spins s.machines m
 is_busy s m call.Park = not (is_awake s m) || has_processor s.machines m || spins s.machines m
 is_busy s m (call.Tick moment) = not (is_awake s m)
--- each other call is of a goroutine, and needs only that the goroutine is the machine's
+-- each other call is of a goroutine: it asks that the values it hands in are the machine's, and no more
 is_busy s m _ = false
 
 -- the call is for those that hold a processor, and the machine holds none
@@ -120,7 +120,8 @@ abbrev pub first_refusal : List Line → Option Refusal
 first_refusal [] = None
 first_refusal (l ∷ ls) = if l.test then Some l.why else first_refusal ls
 
--- when a pass may not call: it or a value is of another run, it is not its machine's latest, it has seen more than there is, or the run is over
+-- when a pass may not call: it or a value is of another run, it is not its machine's latest, it has seen more than there is, or the run
+-- is over
 abbrev pub turn_lines : Log → Pass → List Handed → List Line
 turn_lines log pass values =
     line (is_foreign log pass values) WrongRun

@@ -63,7 +63,8 @@ impl<T, Q> Book<T, Q> {
     /// A book of a run that has made no call, and one pass for each machine, in order.
     ///
     /// It takes memory for the whole history, the shelf, the channels, all who may wait, and all that is counted; but for it only `make`
-    /// takes any. `capacities` are those of the channels that the run begins with. There is a body for each goroutine, and an owner for each processor. Refused, it hands both back.
+    /// takes any. `capacities` are those of the channels that the run begins with. There is a body for each goroutine, and an owner for
+    /// each processor. Refused, it hands both back.
     pub fn open(
         alloc: Global,
         run: u64,

@@ -10,7 +10,7 @@ ghost use Rattle.gmp_seq.specs.declared.status.Status.{Status};
 ghost use Rattle.gmp_seq.specs.Step.{outcome_after};
 ghost use Rattle.gmp_seq.specs.Table.{IsReady, IsRunning, is_outstanding, next_of, set_status, made_ready};
 ghost use Rattle.gmp_book.specs.Written.{HasRoomFor};
-ghost use Rattle.gmp_book.specs.Log.{Enters, opening_log};
+ghost use Rattle.gmp_book.specs.Log.{Appends, opening_log};
 ghost use Rattle.gmp_idle.specs.Replies.{acquired, poked};
 ghost use Rattle.gmp_book.specs.Replies.{taken, started, left};
 
@@ -84,7 +84,7 @@ impl Model for Ledger {
 }
 
 /// Makes the entry of a call that was answered so, and ends the run where the reply or the last entry does.
-fn enter(
+fn append(
     journal: &mut Journal,
     outcome: &mut Option<Outcome>,
     limits: Limits,
@@ -190,11 +190,11 @@ impl Ledger {
     pub(crate) fn acquire(&mut self, m: MNo) -> Option<PNo>
         requires ongoing { self.old.state.outcome ≡ None }
         requires needs { Needs m Call.Acquire self.old.state }
-        ensures records { Enters self.old m Call.Acquire (acquired result) self.new }
+        ensures records { Appends self.old m Call.Acquire (acquired result) self.new }
         ensures least { IfSome result (λ p. position is_none self.old.state.machines.holders ≡ Some p.0) }
     {
         let p = self.machines.acquire(m);
-        enter(
+        append(
             &mut self.journal,
             &mut self.outcome,
             self.limits,
@@ -209,10 +209,10 @@ impl Ledger {
     pub(crate) fn take(&mut self, m: MNo) -> Option<Readiness>
         requires ongoing { self.old.state.outcome ≡ None }
         requires needs { Needs m Call.Take self.old.state }
-        ensures { Enters self.old m Call.Take (taken result) self.new }
+        ensures { Appends self.old m Call.Take (taken result) self.new }
     {
         let r = self.goroutines.take();
-        enter(
+        append(
             &mut self.journal,
             &mut self.outcome,
             self.limits,
@@ -227,10 +227,10 @@ impl Ledger {
     pub(crate) fn put(&mut self, m: MNo, r: Readiness)
         requires ongoing { self.old.state.outcome ≡ None }
         requires needs { Needs m (Call.Put r) self.old.state }
-        ensures { Enters self.old m (Call.Put r) Reply.Shelf self.new }
+        ensures { Appends self.old m (Call.Put r) Reply.Shelf self.new }
     {
         self.goroutines.put(r);
-        enter(
+        append(
             &mut self.journal,
             &mut self.outcome,
             self.limits,
@@ -244,11 +244,11 @@ impl Ledger {
     pub(crate) fn claim(&mut self, m: MNo, r: Readiness) -> Woke
         requires ongoing { self.old.state.outcome ≡ None }
         requires needs { Needs m (Call.Claim r) self.old.state }
-        ensures records { Enters self.old m (Call.Claim r) Reply.Held self.new }
+        ensures records { Appends self.old m (Call.Claim r) Reply.Held self.new }
         ensures woke { IsReady self.old.state.table r Out result }
     {
         let woke = self.goroutines.claim(m, r);
-        enter(
+        append(
             &mut self.journal,
             &mut self.outcome,
             self.limits,
@@ -263,10 +263,10 @@ impl Ledger {
     pub(crate) fn go(&mut self, m: MNo, body: GNo) -> Result<Readiness, Fault>
         requires ongoing { self.old.state.outcome ≡ None }
         requires needs { Needs m (Call.Go body) self.old.state }
-        ensures { Enters self.old m (Call.Go body) (started result) self.new }
+        ensures { Appends self.old m (Call.Go body) (started result) self.new }
     {
         let started = self.goroutines.go(body);
-        enter(
+        append(
             &mut self.journal,
             &mut self.outcome,
             self.limits,
@@ -282,11 +282,11 @@ impl Ledger {
         requires ongoing { self.old.state.outcome ≡ None }
         requires runs { IsRunning self.old.state.table g m }
         ensures ticket { result ≡ next_of self.old.state.table g }
-        ensures records { Enters self.old m Call.Yield (Reply.Shelved result) self.new }
+        ensures records { Appends self.old m Call.Yield (Reply.Shelved result) self.new }
         ensures table { self.new.state.table ≡ made_ready self.old.state.table g Shelf Woke.Done }
     {
         let r = self.goroutines.yield_to(m, g);
-        enter(
+        append(
             &mut self.journal,
             &mut self.outcome,
             self.limits,
@@ -301,14 +301,14 @@ impl Ledger {
     pub(crate) fn exit(&mut self, m: MNo, g: GNo) -> Exited
         requires ongoing { self.old.state.outcome ≡ None }
         requires runs { IsRunning self.old.state.table g m }
-        ensures records { Enters self.old m Call.Exit (left result) self.new }
+        ensures records { Appends self.old m Call.Exit (left result) self.new }
         ensures main { result ≡ Exited.MainEnded ↔ (g.0 ≡ 0) }
         ensures ends { g.0 ≡ 0 → self.new.state.outcome ≡ Some Outcome.MainEnded }
         ensures table { self.new.state.table ≡ set_status self.old.state.table g Status.Dead }
     {
         self.goroutines.exit(m, g);
         let exited = Exited::of(g);
-        enter(
+        append(
             &mut self.journal,
             &mut self.outcome,
             self.limits,
@@ -323,11 +323,11 @@ impl Ledger {
     pub(crate) fn poke(&mut self, m: MNo) -> Option<MNo>
         requires ongoing { self.old.state.outcome ≡ None }
         requires needs { Needs m Call.Poke self.old.state }
-        ensures records { Enters self.old m Call.Poke (poked result) self.new }
+        ensures records { Appends self.old m Call.Poke (poked result) self.new }
         ensures least { IfSome result (λ n. position is_parked self.old.state.machines.modes ≡ Some n.0) }
     {
         let woken = self.machines.poke(m);
-        enter(
+        append(
             &mut self.journal,
             &mut self.outcome,
             self.limits,
@@ -343,10 +343,10 @@ impl Ledger {
     pub(crate) fn tick(&mut self, m: MNo, moment: u64) -> u64
         requires ongoing { self.old.state.outcome ≡ None }
         requires needs { Needs m (Call.Tick moment) self.old.state }
-        ensures { Enters self.old m (Call.Tick moment) (Reply.Woke result) self.new }
+        ensures { Appends self.old m (Call.Tick moment) (Reply.Woke result) self.new }
     {
         let count = self.goroutines.tick(moment);
-        enter(
+        append(
             &mut self.journal,
             &mut self.outcome,
             self.limits,

@@ -3,11 +3,11 @@ use Rattle.std.proofs.Common.{◌≡◌, ℕ, ◌+◌, ◌-◌, ◌==◌, false,
 use Rattle.std.proofs.lemmas.Bool.Decides.{nat_tests}
 use Rattle.gmp_base.specs.declared.ask.Ask.TheVariants as ask
 use Rattle.gmp_base.specs.declared.value.Held.{Held}
-use Rattle.gmp_cli.specs.declared.commands.Command.{Command}
+use Rattle.gmp_script.specs.declared.commands.Command.{Command}
 use Rattle.gmp_cli.specs.declared.machine.Hand.{Hand}
 use Rattle.gmp_cli.specs.declared.machine.Hand.TheVariants.{Block}
 use Rattle.gmp_cli.specs.Driven.{BlocksBy}
-use Rattle.gmp_cli.specs.Script.{Commands, Resumes, ask_of, behind, called_number, number_in, place_of}
+use Rattle.gmp_script.specs.Script.{Commands, Resumes, ask_of, behind, called_number, number_in, place_of}
 
 -- a body that stands behind this command
 number_behind : (commands : List Command) (place : ℕ) (b : Commands) → b.commands ≡ commands → b.next ≡ place + 1 → called_number b ≡ number_in (slice_get commands place)

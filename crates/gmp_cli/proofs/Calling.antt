@@ -31,7 +31,7 @@ use Rattle.gmp_seq.specs.Table.{Table, IsCalling, IsRunning, epoch_at, is_out, i
 use Rattle.gmp_table.proofs.Listing.{slice_get-set_same, slice_get-set_other, pushed, popped, passed_by, first_passes, row_of}
 use Rattle.gmp_cli.specs.declared.machine.Hand.TheVariants.{Run, Block}
 use Rattle.gmp_cli.specs.Driven.{Drives, IsDriven, AreTickets, HoldsAt, running_one, calling_one, machine, owners, is_elsewhere}
-use Rattle.gmp_cli.specs.Script.{Commands}
+use Rattle.gmp_script.specs.Script.{Commands}
 use Rattle.gmp_cli.proofs.Driving.{turned, runs_at, rows_are, set_idle, set_none}
 use Rattle.gmp_cli.proofs.Handing.{at_machine, lacks, latest_on, may_call, same_run}
 use Rattle.gmp_cli.proofs.Tickets.{Turns, issued_others, no_ticket, none_passes, row_with, stopped_tickets}

@@ -1,6 +1,3 @@
-pub mod Parts
-pub mod Scripts
-pub mod Selects
 pub mod Tickets
 pub mod Asking
 pub mod Calling

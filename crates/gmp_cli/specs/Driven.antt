@@ -34,7 +34,7 @@ use Rattle.gmp_table.specs.Kept.{IsListing}
 use Rattle.gmp_cli.specs.declared.machine.Hand.{Hand}
 use Rattle.gmp_cli.specs.declared.machine.Machine.{Machine}
 use Rattle.gmp_cli.specs.declared.machine.Hand.TheVariants.{Start, Look, Claim, Drop, Park, Mind, Poke, Run, Block}
-use Rattle.gmp_cli.specs.Script.{Commands, called_number, number_in, place_of}
+use Rattle.gmp_script.specs.Script.{Commands, called_number, number_in, place_of}
 
 -- What callers see
 

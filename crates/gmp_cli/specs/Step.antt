@@ -6,8 +6,8 @@ use Rattle.gmp_seq.specs.declared.call.Limits.{Limits}
 use Rattle.gmp_seq.specs.Fits.{AreLimits}
 use Rattle.gmp_seq.specs.Run.{IsLegal}
 use Rattle.gmp_seq.specs.State.{State}
-use Rattle.gmp_cli.specs.Lines.{lines, IsScript}
-use Rattle.gmp_cli.specs.Script.{Commands}
+use Rattle.gmp_script.specs.Lines.{lines, IsScript}
+use Rattle.gmp_script.specs.Script.{Commands}
 use Rattle.gmp_trace.specs.declared.trace.End.{End}
 use Rattle.gmp_trace.specs.declared.trace.End.TheVariants.{MainEnded, AllAsleep, BookFull, Running}
 use Rattle.gmp_trace.specs.HasText.{HasText}

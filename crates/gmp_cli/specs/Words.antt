@@ -1,7 +1,7 @@
 -- The options among the words of a command line.
 use Rattle.std.specs.Prelude.{ℕ, ◌+◌, Bool, ◌&&◌, ◌==◌, nat_lt, List, [], ◌∷◌, drop, take, length, slice_index, Option, Some, None, if◌then◌else◌}
 use Rattle.std.specs.Str.{bytes_eq}
-use Rattle.gmp_cli.specs.Numbers.{number_of}
+use Rattle.gmp_script.specs.Numbers.{number_of}
 
 -- the word is the option with its value behind a `=`
 abbrev pub has_value : List ℕ → List ℕ → Bool

@@ -1,11 +1,8 @@
-//! The program `gmp` as functions: its command line, its input, its scripts, and how it ends.
+//! The program `gmp` as functions: its command line, its input, its runs of scripts, and how it ends.
 #![tactic(auto)]
 
 mod clock;
-mod commands;
-mod digits;
 mod ended;
-mod lines;
 mod machine;
 mod numeric;
 mod options;
@@ -15,8 +12,8 @@ mod said;
 mod stepping;
 mod words;
 
-pub use commands::{Command, Script, ScriptBody};
 pub use ended::Ended;
+pub use gmp_script::{Command, Script, ScriptBody};
 pub use options::{Settings, Task};
 pub use parsing::script;
 pub use reading::{MAX_INPUT, input};

@@ -12,10 +12,10 @@ mod blocking;
 mod timing;
 
 use crate::clock::Clock;
-use crate::commands::ScriptBody;
 use circular_buffer::HeapCircularBuffer;
 use gmp_base::{Called, Held, Pass, Proc, Readiness, Refusal, Ticket};
 use gmp_book::{Book, Report, Unopened};
+use gmp_script::ScriptBody;
 use gmp_seq::Limits;
 use std::alloc::{AllocError, Global};
 
@@ -118,7 +118,7 @@ fn give_proc(book: &mut Book<ScriptBody, ()>, proc: Proc<()>)
 impl Machine {
     ghost use Rattle.gmp_cli.specs.Clock.{reading, unread};
     ghost use Rattle.gmp_cli.specs.Driven.{Driving, GoesOn, GoesOnBy, IsReportOf};
-    ghost use Rattle.gmp_cli.specs.Script.{Commands, called_number};
+    ghost use Rattle.gmp_script.specs.Script.{Commands, called_number};
     ghost use Rattle.gmp_seq.specs.declared.call.Call.TheVariants.{Leave, Tick};
 
     /// The machine before its first call.

@@ -3,9 +3,9 @@
 ghost use Rattle.std.specs.Prelude.{◌≡◌, ℕ, IsSome, ◌≤◌, ◌+◌, string_bytes, length, drop, option_map, Some, None, IfSome, if◌then◌else◌};
 ghost use Rattle.gmp_cli.specs.Words.{given, has_value, number_given};
 
-use crate::digits::number;
 use clap::builder::ValueParser;
 use clap::{Arg, ArgAction, value_parser};
+use gmp_script::number;
 use std::alloc::Global;
 
 /// An option that takes a number.

@@ -2,11 +2,10 @@
 
 ghost use Rattle.std.specs.Prelude.{◌≡◌, ◌≢◌, ◌<◌, ◌⊎◌, ℕ, length, IfOk, IfErr, IfSome};
 ghost use Rattle.gmp_cli.specs.declared.said.Said.TheVariants.{BadLine, InputTooLong, BadLimits};
-ghost use Rattle.gmp_cli.specs.Lines.{lines, IsFirstBad};
+ghost use Rattle.gmp_script.specs.Lines.{lines, IsFirstBad};
 ghost use Rattle.gmp_cli.specs.Step.{limits_of, RunsOnOne, IsOutOfLimits, IsTraceOf, IsStockOf, WritesTrace};
 ghost use Rattle.gmp_trace.specs.Text.{content};
 
-use crate::commands::Script;
 use crate::ended::Ended;
 use crate::machine::Machine;
 use crate::options::Settings;
@@ -14,6 +13,7 @@ use crate::parsing::script;
 use crate::reading::MAX_INPUT;
 use crate::said::Said;
 use gmp_base::Refusal;
+use gmp_script::Script;
 use gmp_seq::Limits;
 use gmp_trace::{End, Trace, WriteError, write};
 use std::alloc::Global;

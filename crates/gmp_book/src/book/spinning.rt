@@ -42,8 +42,7 @@ impl<T, Q> Book<T, Q> {
         self.ledger.try_woken(pass)
     }
 
-    /// The machine says that it holds no processor and doesn't look for work, before it looks for work once more and parks. Nothing
-    /// changes but the history.
+    /// Enters in the history that the machine holds no processor and doesn't look for work. Nothing else changes.
     pub fn declare_bare(&mut self, pass: &mut Pass) -> Result<(), Refusal>
         ensures refused { refusal_in result ≡ refusal_of self.old.log pass.old Call.Bare [] }
         ensures err { OnErr result ((self.new ≡ self.old) × (pass.new ≡ pass.old)) }

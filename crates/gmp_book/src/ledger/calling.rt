@@ -3,12 +3,12 @@ ghost use Rattle.std.specs.Prelude.{◌≡◌, ◌∷◌, [], None, Some, positi
 ghost use Rattle.gmp_seq.specs.declared.status.Status.{Status};
 ghost use Rattle.gmp_seq.specs.Machines.{Holds, is_parked};
 ghost use Rattle.gmp_seq.specs.Table.{IsCalling, IsRunning, set_status};
-ghost use Rattle.gmp_book.specs.Log.{Enters, Records};
+ghost use Rattle.gmp_book.specs.Log.{Appends, Records};
 ghost use Rattle.gmp_book.specs.Refusals.{refusal_of, refusal_in};
 ghost use Rattle.gmp_book.specs.Returns.{HasNext, IsLeast, resumed, table_after};
 
 use crate::handed::Handed;
-use crate::ledger::{Ledger, enter};
+use crate::ledger::{Ledger, append};
 use crate::replies;
 use gmp_base::{GNo, MNo, PNo, Pass, Readiness, Refusal};
 use gmp_seq::{Call, Reply};
@@ -29,13 +29,13 @@ impl Ledger {
         requires ongoing { self.old.state.outcome ≡ None }
         requires runs { IsRunning self.old.state.table g m }
         requires holds { Holds self.old.state.machines m p }
-        ensures records { Enters self.old m Call.Enter (Reply.Entered p result) self.new }
+        ensures records { Appends self.old m Call.Enter (Reply.Entered p result) self.new }
         ensures table { self.new.state.table ≡ set_status self.old.state.table g (Status.Calling m) }
         ensures least { IfSome result (λ n. position is_parked self.old.state.machines.modes ≡ Some n.0) }
     {
         self.goroutines.enter(m, g);
         let woken = self.machines.enter(m, p);
-        enter(
+        append(
             &mut self.journal,
             &mut self.outcome,
             self.limits,
@@ -51,14 +51,14 @@ impl Ledger {
     pub(crate) fn leave(&mut self, m: MNo, g: GNo, number: u64) -> Resumed
         requires ongoing { self.old.state.outcome ≡ None }
         requires calls { IsCalling self.old.state.table g m }
-        ensures records { Enters self.old m (Call.Leave number) (resumed result) self.new }
+        ensures records { Appends self.old m (Call.Leave number) (resumed result) self.new }
         ensures table { self.new.state.table ≡ table_after self.old.state.table g m number result }
         ensures ticket { HasNext self.old.state.table g result }
         ensures least { IsLeast self.old.state.machines result }
     {
         let p = self.machines.leave(m);
         let how = self.goroutines.come_back(m, g, number, p);
-        enter(
+        append(
             &mut self.journal,
             &mut self.outcome,
             self.limits,

@@ -5,11 +5,11 @@ ghost use Rattle.gmp_base.specs.declared.refusal.Refusal.{Refusal};
 ghost use Rattle.gmp_seq.specs.Table.{IsRunning, made_wait};
 ghost use Rattle.gmp_seq.specs.declared.status.Kind.{Kind};
 ghost use Rattle.gmp_seq.specs.Waits.{offers_of};
-ghost use Rattle.gmp_book.specs.Log.{Enters, Records};
+ghost use Rattle.gmp_book.specs.Log.{Appends, Records};
 ghost use Rattle.gmp_book.specs.Refusals.{MayWant, refusal_of, refusal_in};
 
 use crate::handed::Handed;
-use crate::ledger::{Ledger, enter};
+use crate::ledger::{Ledger, append};
 use gmp_base::{CNo, Case, GNo, MNo, Pass, Refusal};
 use gmp_seq::{Call, Reply};
 use std::alloc::{AllocError, Global};
@@ -25,12 +25,12 @@ impl Ledger {
     ) -> Result<Reply, AllocError>
         requires ongoing { self.old.state.outcome ≡ None }
         requires runs { IsRunning self.old.state.table g m }
-        ensures records { IfOk result (λ reply. Enters self.old m (Call.Make capacity) reply self.new) }
+        ensures records { IfOk result (λ reply. Appends self.old m (Call.Make capacity) reply self.new) }
         ensures err { OnErr result (self.new ≡ self.old) }
         ensures needed { OnErr result ((capacity ≤ 4096) × (length self.old.state.channels < self.old.limits.channels)) }
     {
         let reply = self.goroutines.make(alloc, capacity)?;
-        enter(
+        append(
             &mut self.journal,
             &mut self.outcome,
             self.limits,
@@ -45,11 +45,11 @@ impl Ledger {
     pub(crate) fn send(&mut self, m: MNo, g: GNo, c: Option<CNo>, v: u64) -> Reply
         requires ongoing { self.old.state.outcome ≡ None }
         requires runs { IsRunning self.old.state.table g m }
-        ensures records { Enters self.old m (Call.Send c v) result self.new }
+        ensures records { Appends self.old m (Call.Send c v) result self.new }
         ensures waits { result ≡ Reply.Waits → self.new.state.table ≡ made_wait self.old.state.table g Kind.Plain (offers_of (Case.Send c v ∷ [])) None }
     {
         let reply = self.goroutines.deal(m, g, Case::Send(c, v));
-        enter(
+        append(
             &mut self.journal,
             &mut self.outcome,
             self.limits,
@@ -64,11 +64,11 @@ impl Ledger {
     pub(crate) fn recv(&mut self, m: MNo, g: GNo, c: Option<CNo>) -> Reply
         requires ongoing { self.old.state.outcome ≡ None }
         requires runs { IsRunning self.old.state.table g m }
-        ensures records { Enters self.old m (Call.Recv c) result self.new }
+        ensures records { Appends self.old m (Call.Recv c) result self.new }
         ensures waits { result ≡ Reply.Waits → self.new.state.table ≡ made_wait self.old.state.table g Kind.Plain (offers_of (Case.Recv c ∷ [])) None }
     {
         let reply = self.goroutines.deal(m, g, Case::Recv(c));
-        enter(
+        append(
             &mut self.journal,
             &mut self.outcome,
             self.limits,
@@ -83,10 +83,10 @@ impl Ledger {
     pub(crate) fn close(&mut self, m: MNo, g: GNo, c: Option<CNo>) -> Reply
         requires ongoing { self.old.state.outcome ≡ None }
         requires runs { IsRunning self.old.state.table g m }
-        ensures { Enters self.old m (Call.Close c) result self.new }
+        ensures { Appends self.old m (Call.Close c) result self.new }
     {
         let reply = self.goroutines.close(c);
-        enter(
+        append(
             &mut self.journal,
             &mut self.outcome,
             self.limits,
@@ -101,10 +101,10 @@ impl Ledger {
     pub(crate) fn len(&mut self, m: MNo, g: GNo, c: Option<CNo>) -> Reply
         requires ongoing { self.old.state.outcome ≡ None }
         requires runs { IsRunning self.old.state.table g m }
-        ensures { Enters self.old m (Call.Len c) result self.new }
+        ensures { Appends self.old m (Call.Len c) result self.new }
     {
         let reply = self.goroutines.len(c);
-        enter(
+        append(
             &mut self.journal,
             &mut self.outcome,
             self.limits,
@@ -119,10 +119,10 @@ impl Ledger {
     pub(crate) fn cap(&mut self, m: MNo, g: GNo, c: Option<CNo>) -> Reply
         requires ongoing { self.old.state.outcome ≡ None }
         requires runs { IsRunning self.old.state.table g m }
-        ensures { Enters self.old m (Call.Cap c) result self.new }
+        ensures { Appends self.old m (Call.Cap c) result self.new }
     {
         let reply = self.goroutines.cap(c);
-        enter(
+        append(
             &mut self.journal,
             &mut self.outcome,
             self.limits,

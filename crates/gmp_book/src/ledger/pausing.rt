@@ -3,11 +3,11 @@ ghost use Rattle.std.specs.Prelude.{◌≡◌, ◌∷◌, [], None, Some, IfOk, 
 ghost use Rattle.gmp_seq.specs.declared.status.Kind.{Kind};
 ghost use Rattle.gmp_seq.specs.Needs.{Needs};
 ghost use Rattle.gmp_seq.specs.Table.{IsRunning, made_wait};
-ghost use Rattle.gmp_book.specs.Log.{Enters, Records};
+ghost use Rattle.gmp_book.specs.Log.{Appends, Records};
 ghost use Rattle.gmp_book.specs.Refusals.{refusal_of, refusal_in};
 
 use crate::handed::Handed;
-use crate::ledger::{Ledger, enter};
+use crate::ledger::{Ledger, append};
 use gmp_base::{GNo, MNo, Pass, Refusal};
 use gmp_seq::{Call, Reply};
 
@@ -16,11 +16,11 @@ impl Ledger {
     pub(crate) fn sleep(&mut self, m: MNo, g: GNo, until: u64)
         requires ongoing { self.old.state.outcome ≡ None }
         requires runs { IsRunning self.old.state.table g m }
-        ensures records { Enters self.old m (Call.Sleep until) Reply.Waits self.new }
+        ensures records { Appends self.old m (Call.Sleep until) Reply.Waits self.new }
         ensures waits { self.new.state.table ≡ made_wait self.old.state.table g Kind.Sleep [] (Some until) }
     {
         self.goroutines.sleep(m, g, until);
-        enter(
+        append(
             &mut self.journal,
             &mut self.outcome,
             self.limits,
@@ -34,11 +34,11 @@ impl Ledger {
     pub(crate) fn park_g(&mut self, m: MNo, g: GNo)
         requires ongoing { self.old.state.outcome ≡ None }
         requires runs { IsRunning self.old.state.table g m }
-        ensures records { Enters self.old m Call.Gopark Reply.Waits self.new }
+        ensures records { Appends self.old m Call.Gopark Reply.Waits self.new }
         ensures waits { self.new.state.table ≡ made_wait self.old.state.table g Kind.Parked [] None }
     {
         self.goroutines.park(m, g);
-        enter(
+        append(
             &mut self.journal,
             &mut self.outcome,
             self.limits,
@@ -52,10 +52,10 @@ impl Ledger {
     pub(crate) fn ready(&mut self, m: MNo, h: GNo) -> Reply
         requires ongoing { self.old.state.outcome ≡ None }
         requires needs { Needs m (Call.Ready h) self.old.state }
-        ensures { Enters self.old m (Call.Ready h) result self.new }
+        ensures { Appends self.old m (Call.Ready h) result self.new }
     {
         let reply = self.goroutines.ready(h);
-        enter(
+        append(
             &mut self.journal,
             &mut self.outcome,
             self.limits,

@@ -3,10 +3,10 @@ ghost use Rattle.std.specs.Prelude.{◌≡◌, None, false};
 ghost use Rattle.gmp_seq.specs.Machines.{Holds, IsAwake, spins};
 ghost use Rattle.gmp_seq.specs.Needs.{Needs};
 ghost use Rattle.gmp_seq.specs.Table.{RunsNothing};
-ghost use Rattle.gmp_book.specs.Log.{Enters};
+ghost use Rattle.gmp_book.specs.Log.{Appends};
 ghost use Rattle.gmp_book.specs.Replies.{Foresees, after_park, parking};
 
-use crate::ledger::{Ledger, Parking, enter};
+use crate::ledger::{Ledger, Parking, append};
 use crate::replies;
 use gmp_base::{MNo, PNo};
 use gmp_idle::Machines;
@@ -29,10 +29,10 @@ impl Ledger {
         requires free { RunsNothing self.old.state.table m }
         requires calm { spins self.old.state.machines m ≡ false }
         requires holds { Holds self.old.state.machines m p }
-        ensures { Enters self.old m Call.Declare (Reply.Idle p) self.new }
+        ensures { Appends self.old m Call.Declare (Reply.Idle p) self.new }
     {
         self.machines.declare(m, p);
-        enter(
+        append(
             &mut self.journal,
             &mut self.outcome,
             self.limits,
@@ -62,11 +62,11 @@ impl Ledger {
     pub(crate) fn park(&mut self, m: MNo) -> Parking
         requires ongoing { self.old.state.outcome ≡ None }
         requires needs { Needs m Call.Park self.old.state }
-        ensures { Enters self.old m Call.Park (parking result) self.new }
+        ensures { Appends self.old m Call.Park (parking result) self.new }
     {
         let answer = self.prospect();
         rest(&mut self.machines, m, answer);
-        enter(
+        append(
             &mut self.journal,
             &mut self.outcome,
             self.limits,

@@ -4,11 +4,11 @@ ghost use Rattle.gmp_seq.specs.declared.status.Kind.{Kind};
 ghost use Rattle.gmp_seq.specs.Table.{IsRunning, made_wait};
 ghost use Rattle.gmp_seq.specs.Waits.{offers_of};
 ghost use Rattle.gmp_book.specs.Choice.{IsChoice};
-ghost use Rattle.gmp_book.specs.Log.{Enters, Records};
+ghost use Rattle.gmp_book.specs.Log.{Appends, Records};
 ghost use Rattle.gmp_book.specs.Refusals.{refusal_of, refusal_in};
 
 use crate::handed::Handed;
-use crate::ledger::{Ledger, enter};
+use crate::ledger::{Ledger, append};
 use gmp_base::{Cases, GNo, MNo, Pass, Refusal};
 use gmp_seq::{Call, Reply};
 
@@ -26,14 +26,14 @@ impl Ledger {
     ) -> Reply
         requires ongoing { self.old.state.outcome ≡ None }
         requires runs { IsRunning self.old.state.table g m }
-        ensures records { Enters self.old m (Call.Select cases.now has_default until) result self.new }
+        ensures records { Appends self.old m (Call.Select cases.now has_default until) result self.new }
         ensures choice { IsChoice self.old.state cases.now word result }
         ensures waits { result ≡ Reply.Waits → self.new.state.table ≡ made_wait self.old.state.table g Kind.Select (offers_of cases.now) until }
     {
         let reply = self
             .goroutines
             .select(m, g, cases, has_default, until, word);
-        enter(
+        append(
             &mut self.journal,
             &mut self.outcome,
             self.limits,

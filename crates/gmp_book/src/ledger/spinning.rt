@@ -1,10 +1,10 @@
 //! Who looks for work, and who was woken: each call, and the same by a pass, refused or made and told to the pass.
 ghost use Rattle.std.specs.Prelude.{◌≡◌, ◌<◌, [], false, None, IfOk, OnErr, OnOk};
 ghost use Rattle.gmp_seq.specs.Needs.{Needs};
-ghost use Rattle.gmp_book.specs.Log.{Enters, Records};
+ghost use Rattle.gmp_book.specs.Log.{Appends, Records};
 ghost use Rattle.gmp_book.specs.Refusals.{calls_some, refusal_of, refusal_in};
 
-use crate::ledger::{Ledger, enter};
+use crate::ledger::{Ledger, append};
 use gmp_base::{MNo, Pass, Refusal};
 use gmp_seq::{Call, Reply};
 
@@ -13,10 +13,10 @@ impl Ledger {
     pub(crate) fn spin(&mut self, m: MNo) -> bool
         requires ongoing { self.old.state.outcome ≡ None }
         requires needs { Needs m Call.Spin self.old.state }
-        ensures { Enters self.old m Call.Spin (Reply.Answer result) self.new }
+        ensures { Appends self.old m Call.Spin (Reply.Answer result) self.new }
     {
         let begins = self.machines.spin(m);
-        enter(
+        append(
             &mut self.journal,
             &mut self.outcome,
             self.limits,
@@ -31,10 +31,10 @@ impl Ledger {
     pub(crate) fn unspin(&mut self, m: MNo)
         requires ongoing { self.old.state.outcome ≡ None }
         requires needs { Needs m Call.Unspin self.old.state }
-        ensures { Enters self.old m Call.Unspin Reply.Done self.new }
+        ensures { Appends self.old m Call.Unspin Reply.Done self.new }
     {
         self.machines.unspin(m);
-        enter(
+        append(
             &mut self.journal,
             &mut self.outcome,
             self.limits,
@@ -49,10 +49,10 @@ impl Ledger {
         requires ongoing { self.old.state.outcome ≡ None }
         requires there { m.0 < self.old.limits.machines }
         requires present { calls_some self.old.state m ≡ false }
-        ensures { Enters self.old m Call.Woken (Reply.Answer result) self.new }
+        ensures { Appends self.old m Call.Woken (Reply.Answer result) self.new }
     {
         let awake = self.machines.woken(m);
-        enter(
+        append(
             &mut self.journal,
             &mut self.outcome,
             self.limits,
@@ -67,9 +67,9 @@ impl Ledger {
     pub(crate) fn bare(&mut self, m: MNo)
         requires ongoing { self.old.state.outcome ≡ None }
         requires needs { Needs m Call.Bare self.old.state }
-        ensures { Enters self.old m Call.Bare Reply.Done self.new }
+        ensures { Appends self.old m Call.Bare Reply.Done self.new }
     {
-        enter(
+        append(
             &mut self.journal,
             &mut self.outcome,
             self.limits,

@@ -2,15 +2,15 @@
 ghost use Rattle.std.specs.Prelude.{◌≡◌, ◌<◌, ◌||◌, None, Some, is_some, nat_lt, option_map, IfOk, OnOk};
 ghost use Rattle.gmp_base.specs.Values.{readiness_of};
 
-use crate::commands::ScriptBody;
 use crate::machine::{Hand, Machine};
 use gmp_base::{Ask, Body, CNo, Cases, GNo, Held, Proc};
 use gmp_book::{Moved, Went};
+use gmp_script::ScriptBody;
 use std::alloc::{AllocError, Global};
 
 impl Machine {
     ghost use Rattle.gmp_cli.specs.Driven.{BlocksBy, Driving, Drives, GoesOn, GoesOnBy, GoesOnByChoice, call_of, is_poke, pushed};
-    ghost use Rattle.gmp_cli.specs.Script.{next_ask};
+    ghost use Rattle.gmp_script.specs.Script.{next_ask};
     ghost use Rattle.gmp_seq.specs.declared.call.Call.TheVariants.{Cap, Close, Exit, Go, Gopark, Len, Make, Ready, Recv, Select, Send, Sleep, Yield};
 
     /// Resumes the body, and makes the call that it asks for.

@@ -1,14 +1,14 @@
 //! A blocking call of the goroutine that the machine runs.
 ghost use Rattle.std.specs.Prelude.{◌≡◌, None};
 
-use crate::commands::ScriptBody;
 use crate::machine::{Hand, Machine};
 use gmp_base::{Body, Called, Held, Proc};
 use gmp_book::Returned;
+use gmp_script::ScriptBody;
 
 impl Machine {
     ghost use Rattle.gmp_cli.specs.Driven.{Driving, GoesOn, GoesOnBy, RunsOn};
-    ghost use Rattle.gmp_cli.specs.Script.{called_number};
+    ghost use Rattle.gmp_script.specs.Script.{called_number};
     ghost use Rattle.gmp_seq.specs.declared.call.Call.TheVariants.{Enter, Leave};
 
     /// The goroutine goes into a blocking call, and the processor is given up.

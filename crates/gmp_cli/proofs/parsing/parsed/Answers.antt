@@ -2,7 +2,7 @@ use Rattle.std.proofs.Common.{rules, tests, ◌≡◌, ◌==◌, ℕ, ◌+◌, �
 use Rattle.std.proofs.lemmas.Iterator.Consumers.{YieldsList-at, YieldsList-turn, YieldsList-end}
 use Rattle.std.proofs.lemmas.Iterator.Splits.{YieldsList-from_slice_split}
 use Rattle.std.proofs.lemmas.List.{take_all, take_more, length_push}
-use Rattle.gmp_cli.specs.Lines.{lines}
+use Rattle.gmp_script.specs.Lines.{lines}
 use Rattle.gmp_cli.proofs.parsing.parsed.Goals as goal
 
 one_more : (all : List (List ℕ)) (n : ℕ) (l : List ℕ) → (n < length all) × (l ≡ get_or all n l) → take (n + 1) all ≡ take n all ++ l ∷ []

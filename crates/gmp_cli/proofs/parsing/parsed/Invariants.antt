@@ -1,5 +1,5 @@
 use Rattle.std.proofs.Common.{◌≡◌, length, take}
-use Rattle.gmp_cli.specs.Lines.{lines, IsScript}
+use Rattle.gmp_script.specs.Lines.{lines, IsScript}
 use Rattle.gmp_cli.proofs.parsing.parsed.Given as goal
 
 abbrev pub invariant-loop-line : goal.invariant-loop-line

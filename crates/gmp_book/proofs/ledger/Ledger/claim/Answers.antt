@@ -12,8 +12,8 @@ claim-woke-requires-clause-there c =
     let i = c.self.inside in
     awake_there (log_of i) c.args.self.now i.journal.room i.goroutines c.args.m c.self.view_is c.self.invariant.0 c.self.invariant.1 c.requires.needs.0.0
 
-pub enter-requires : goal.enter-requires
-enter-requires c =
+pub append-requires : goal.append-requires
+append-requires c =
     let i = c.self.inside in
     has_room (log_of i) c.args.self.now i.journal c.args.m c.self.view_is c.self.invariant.0 refl refl c.requires.ongoing c.requires.needs.0.0
 
@@ -21,8 +21,8 @@ pub invariant_of-self : goal.invariant_of-self
 invariant_of-self c =
     let i = c.self.inside in
     let needs = subst (λ (l : Log). Needs c.args.m (call.Claim c.args.r) l.state) (sym c.self.view_is) c.requires.needs in (
-      kept_on (log_of i) c.args.self.now i.journal.room c.enter.new.journal.room c.args.m (call.Claim c.args.r) (reply.Held) c.enter.new.journal.entries
-          (record (log_of i).state { table = c.claim-woke.new.self.table; channels = c.claim-woke.new.self.channels; counts = c.enter.new.journal.counts; outcome = c.enter.new.outcome }) c.claim-woke.new.self.shelf c.self.view_is c.self.invariant.0 c.requires.ongoing c.requires.needs.0.0
-          (needs.0, needs.1, (c.claim-woke.ensures.claims, c.claim-woke.ensures.only.channels, refl)) c.enter.ensures.entries c.enter.ensures.counts c.enter.ensures.outcome c.enter.ensures.room,
+      kept_on (log_of i) c.args.self.now i.journal.room c.append.new.journal.room c.args.m (call.Claim c.args.r) (reply.Held) c.append.new.journal.entries
+          (record (log_of i).state { table = c.claim-woke.new.self.table; channels = c.claim-woke.new.self.channels; counts = c.append.new.journal.counts; outcome = c.append.new.outcome }) c.claim-woke.new.self.shelf c.self.view_is c.self.invariant.0 c.requires.ongoing c.requires.needs.0.0
+          (needs.0, needs.1, (c.claim-woke.ensures.claims, c.claim-woke.ensures.only.channels, refl)) c.append.ensures.entries c.append.ensures.counts c.append.ensures.outcome c.append.ensures.room,
       sized_on i.limits i.goroutines c.claim-woke.new.self c.self.invariant.1 c.claim-woke.ensures.only.sizes,
     )

@@ -18,8 +18,8 @@ enter-woken-requires-clause-awake c =
     let i = c.self.inside in
     subst (λ (l : Log). IsAwake l.state.machines c.args.m) (sym c.self.view_is) (runner_wakes (log_of i) c.args.self.now i.journal.room c.args.m c.args.g c.self.view_is c.self.invariant.0 c.requires.runs)
 
-pub enter-requires-2 : goal.enter-requires-2
-enter-requires-2 c =
+pub append-requires : goal.append-requires
+append-requires c =
     let i = c.self.inside in
     has_room (log_of i) c.args.self.now i.journal c.args.m c.self.view_is c.self.invariant.0 refl refl c.requires.ongoing (runner_wakes (log_of i) c.args.self.now i.journal.room c.args.m c.args.g c.self.view_is c.self.invariant.0 c.requires.runs)
 
@@ -27,8 +27,8 @@ pub invariant_of-self : goal.invariant_of-self
 invariant_of-self c =
     let i = c.self.inside in
     let runs = subst (λ (l : Log). IsRunning l.state.table c.args.g c.args.m) (sym c.self.view_is) c.requires.runs in (
-      kept_on (log_of i) c.args.self.now i.journal.room c.enter-2.new.journal.room c.args.m call.Enter (reply.Entered c.args.p c.enter-woken.result) c.enter-2.new.journal.entries
-          (record (log_of i).state { table = c.enter.new.self.table; channels = c.enter.new.self.channels; machines = c.enter-woken.new.self; counts = c.enter-2.new.journal.counts; outcome = c.enter-2.new.outcome }) c.enter.new.self.shelf c.self.view_is c.self.invariant.0 c.requires.ongoing (runner_wakes (log_of i) c.args.self.now i.journal.room c.args.m c.args.g c.self.view_is c.self.invariant.0 c.requires.runs)
-          (c.args.g, runs, (c.enter.ensures.table, c.enter-woken.ensures.enters, c.enter.ensures.only.channels)) c.enter-2.ensures.entries c.enter-2.ensures.counts c.enter-2.ensures.outcome c.enter-2.ensures.room,
+      kept_on (log_of i) c.args.self.now i.journal.room c.append.new.journal.room c.args.m call.Enter (reply.Entered c.args.p c.enter-woken.result) c.append.new.journal.entries
+          (record (log_of i).state { table = c.enter.new.self.table; channels = c.enter.new.self.channels; machines = c.enter-woken.new.self; counts = c.append.new.journal.counts; outcome = c.append.new.outcome }) c.enter.new.self.shelf c.self.view_is c.self.invariant.0 c.requires.ongoing (runner_wakes (log_of i) c.args.self.now i.journal.room c.args.m c.args.g c.self.view_is c.self.invariant.0 c.requires.runs)
+          (c.args.g, runs, (c.enter.ensures.table, c.enter-woken.ensures.enters, c.enter.ensures.only.channels)) c.append.ensures.entries c.append.ensures.counts c.append.ensures.outcome c.append.ensures.room,
       sized_on i.limits i.goroutines c.enter.new.self c.self.invariant.1 c.enter.ensures.only.sizes,
     )

@@ -6,8 +6,8 @@ use Rattle.gmp_seq.specs.declared.call.Call.TheVariants as call
 use Rattle.std.proofs.Common.{refl, subst, sym}
 use Rattle.gmp_book.proofs.ledger.Ledger.len.Goals as goal
 
-pub enter-requires : goal.enter-requires
-enter-requires c =
+pub append-requires : goal.append-requires
+append-requires c =
     let i = c.self.inside in
     has_room (log_of i) c.args.self.now i.journal c.args.m c.self.view_is c.self.invariant.0 refl refl c.requires.ongoing (runner_wakes (log_of i) c.args.self.now i.journal.room c.args.m c.args.g c.self.view_is c.self.invariant.0 c.requires.runs)
 
@@ -15,8 +15,8 @@ pub invariant_of-self : goal.invariant_of-self
 invariant_of-self c =
     let i = c.self.inside in
     let runs = subst (λ (l : Log). IsRunning l.state.table c.args.g c.args.m) (sym c.self.view_is) c.requires.runs in (
-      kept_on (log_of i) c.args.self.now i.journal.room c.enter.new.journal.room c.args.m (call.Len c.args.c) (c.len-reply.result) c.enter.new.journal.entries
-          (record (log_of i).state { table = i.goroutines.table; counts = c.enter.new.journal.counts; outcome = c.enter.new.outcome }) i.goroutines.shelf c.self.view_is c.self.invariant.0 c.requires.ongoing (runner_wakes (log_of i) c.args.self.now i.journal.room c.args.m c.args.g c.self.view_is c.self.invariant.0 c.requires.runs)
-          (c.args.g, runs, (c.len-reply.ensures, refl, refl)) c.enter.ensures.entries c.enter.ensures.counts c.enter.ensures.outcome c.enter.ensures.room,
+      kept_on (log_of i) c.args.self.now i.journal.room c.append.new.journal.room c.args.m (call.Len c.args.c) (c.len-reply.result) c.append.new.journal.entries
+          (record (log_of i).state { table = i.goroutines.table; counts = c.append.new.journal.counts; outcome = c.append.new.outcome }) i.goroutines.shelf c.self.view_is c.self.invariant.0 c.requires.ongoing (runner_wakes (log_of i) c.args.self.now i.journal.room c.args.m c.args.g c.self.view_is c.self.invariant.0 c.requires.runs)
+          (c.args.g, runs, (c.len-reply.ensures, refl, refl)) c.append.ensures.entries c.append.ensures.counts c.append.ensures.outcome c.append.ensures.room,
       c.self.invariant.1,
     )

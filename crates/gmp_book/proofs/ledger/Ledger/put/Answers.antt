@@ -7,8 +7,8 @@ use Rattle.gmp_seq.specs.declared.call.Reply.TheVariants as reply
 use Rattle.std.proofs.Common.{refl, subst, sym}
 use Rattle.gmp_book.proofs.ledger.Ledger.put.Goals as goal
 
-pub enter-requires : goal.enter-requires
-enter-requires c =
+pub append-requires : goal.append-requires
+append-requires c =
     let i = c.self.inside in
     has_room (log_of i) c.args.self.now i.journal c.args.m c.self.view_is c.self.invariant.0 refl refl c.requires.ongoing c.requires.needs.0
 
@@ -16,8 +16,8 @@ pub invariant_of-self : goal.invariant_of-self
 invariant_of-self c =
     let i = c.self.inside in
     let needs = subst (λ (l : Log). Needs c.args.m (call.Put c.args.r) l.state) (sym c.self.view_is) c.requires.needs in (
-      kept_on (log_of i) c.args.self.now i.journal.room c.enter.new.journal.room c.args.m (call.Put c.args.r) (reply.Shelf) c.enter.new.journal.entries
-          (record (log_of i).state { table = c.put.new.self.table; channels = c.put.new.self.channels; counts = c.enter.new.journal.counts; outcome = c.enter.new.outcome }) c.put.new.self.shelf c.self.view_is c.self.invariant.0 c.requires.ongoing c.requires.needs.0
-          (needs.0, (c.put.ensures.puts, c.put.ensures.only.channels, refl)) c.enter.ensures.entries c.enter.ensures.counts c.enter.ensures.outcome c.enter.ensures.room,
+      kept_on (log_of i) c.args.self.now i.journal.room c.append.new.journal.room c.args.m (call.Put c.args.r) (reply.Shelf) c.append.new.journal.entries
+          (record (log_of i).state { table = c.put.new.self.table; channels = c.put.new.self.channels; counts = c.append.new.journal.counts; outcome = c.append.new.outcome }) c.put.new.self.shelf c.self.view_is c.self.invariant.0 c.requires.ongoing c.requires.needs.0
+          (needs.0, (c.put.ensures.puts, c.put.ensures.only.channels, refl)) c.append.ensures.entries c.append.ensures.counts c.append.ensures.outcome c.append.ensures.room,
       sized_on i.limits i.goroutines c.put.new.self c.self.invariant.1 c.put.ensures.only.sizes,
     )

@@ -17,8 +17,8 @@ sleep-requires-clause-there c =
     let i = c.self.inside in
     awake_there (log_of i) c.args.self.now i.journal.room i.goroutines c.args.m c.self.view_is c.self.invariant.0 c.self.invariant.1 (runner_wakes (log_of i) c.args.self.now i.journal.room c.args.m c.args.g c.self.view_is c.self.invariant.0 c.requires.runs)
 
-pub enter-requires : goal.enter-requires
-enter-requires c =
+pub append-requires : goal.append-requires
+append-requires c =
     let i = c.self.inside in
     has_room (log_of i) c.args.self.now i.journal c.args.m c.self.view_is c.self.invariant.0 refl refl c.requires.ongoing (runner_wakes (log_of i) c.args.self.now i.journal.room c.args.m c.args.g c.self.view_is c.self.invariant.0 c.requires.runs)
 
@@ -26,8 +26,8 @@ pub invariant_of-self : goal.invariant_of-self
 invariant_of-self c =
     let i = c.self.inside in
     let runs = subst (λ (l : Log). IsRunning l.state.table c.args.g c.args.m) (sym c.self.view_is) c.requires.runs in (
-      kept_on (log_of i) c.args.self.now i.journal.room c.enter.new.journal.room c.args.m (call.Sleep c.args.until) reply.Waits c.enter.new.journal.entries
-          (record (log_of i).state { table = c.sleep.new.self.table; channels = c.sleep.new.self.channels; counts = c.enter.new.journal.counts; outcome = c.enter.new.outcome }) c.sleep.new.self.shelf c.self.view_is c.self.invariant.0 c.requires.ongoing (runner_wakes (log_of i) c.args.self.now i.journal.room c.args.m c.args.g c.self.view_is c.self.invariant.0 c.requires.runs)
-          (c.args.g, runs, (c.sleep.ensures.table, c.sleep.ensures.only.channels, refl)) c.enter.ensures.entries c.enter.ensures.counts c.enter.ensures.outcome c.enter.ensures.room,
+      kept_on (log_of i) c.args.self.now i.journal.room c.append.new.journal.room c.args.m (call.Sleep c.args.until) reply.Waits c.append.new.journal.entries
+          (record (log_of i).state { table = c.sleep.new.self.table; channels = c.sleep.new.self.channels; counts = c.append.new.journal.counts; outcome = c.append.new.outcome }) c.sleep.new.self.shelf c.self.view_is c.self.invariant.0 c.requires.ongoing (runner_wakes (log_of i) c.args.self.now i.journal.room c.args.m c.args.g c.self.view_is c.self.invariant.0 c.requires.runs)
+          (c.args.g, runs, (c.sleep.ensures.table, c.sleep.ensures.only.channels, refl)) c.append.ensures.entries c.append.ensures.counts c.append.ensures.outcome c.append.ensures.room,
       sized_on i.limits i.goroutines c.sleep.new.self c.self.invariant.1 c.sleep.ensures.only.sizes,
     )

@@ -7,8 +7,8 @@ use Rattle.gmp_book.specs.LedgerView.{log_of}
 use Rattle.gmp_book.proofs.Entered.{has_room, kept_on}
 use Rattle.gmp_book.proofs.ledger.Ledger.unspin.Goals as goal
 
-pub enter-requires : goal.enter-requires
-enter-requires c =
+pub append-requires : goal.append-requires
+append-requires c =
     let i = c.self.inside in
     has_room (log_of i) c.args.self.now i.journal c.args.m c.self.view_is c.self.invariant.0 refl refl c.requires.ongoing c.requires.needs
 
@@ -16,8 +16,8 @@ pub invariant_of-self : goal.invariant_of-self
 invariant_of-self c =
     let i = c.self.inside in
     let needs = subst (λ (l : Log). Needs c.args.m call.Unspin l.state) (sym c.self.view_is) c.requires.needs in (
-      kept_on (log_of i) c.args.self.now i.journal.room c.enter.new.journal.room c.args.m call.Unspin reply.Done c.enter.new.journal.entries
-          (record (log_of i).state { machines = c.unspin.new.self; counts = c.enter.new.journal.counts; outcome = c.enter.new.outcome }) i.goroutines.shelf c.self.view_is c.self.invariant.0 c.requires.ongoing c.requires.needs
-          (c.unspin.ensures, refl, refl) c.enter.ensures.entries c.enter.ensures.counts c.enter.ensures.outcome c.enter.ensures.room,
+      kept_on (log_of i) c.args.self.now i.journal.room c.append.new.journal.room c.args.m call.Unspin reply.Done c.append.new.journal.entries
+          (record (log_of i).state { machines = c.unspin.new.self; counts = c.append.new.journal.counts; outcome = c.append.new.outcome }) i.goroutines.shelf c.self.view_is c.self.invariant.0 c.requires.ongoing c.requires.needs
+          (c.unspin.ensures, refl, refl) c.append.ensures.entries c.append.ensures.counts c.append.ensures.outcome c.append.ensures.room,
       c.self.invariant.1,
     )

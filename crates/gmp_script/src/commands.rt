@@ -1,0 +1,159 @@
+//! What a body of a script says.
+
+use gmp_base::{Ask, Body, CNo, Cases, GNo, Woke};
+use std::alloc::{AllocError, Global};
+use std::marker::Model;
+
+/// A command of a script's body: what it asks next. `None` for a channel is nil.
+#[derive(Debug, Drop)]
+pub enum Command {
+    Yield,
+    Go(GNo),
+    Make(u32),
+    Send(Option<CNo>, u64),
+    Recv(Option<CNo>),
+    Close(Option<CNo>),
+    Len(Option<CNo>),
+    Cap(Option<CNo>),
+    /// The cases, whether there is a default, and the moment at which the wait ends, in nanoseconds.
+    Select(Cases, bool, Option<u64>),
+    /// The moment until which it sleeps, in nanoseconds.
+    Sleep(u64),
+    Park,
+    Ready(GNo),
+    /// A blocking call that answers this number.
+    Block(u64),
+    Exit,
+    /// No ask: goes on with the body's first command.
+    Again,
+}
+
+/// A body of a script. It passes over every answer that it gets, and asks `Exit` once its commands are spent.
+///
+/// A contract sees its commands and the place of the next one. The first command is never `Again`.
+#[derive(Debug, Drop)]
+pub struct ScriptBody {
+    commands: Vec<Command>,
+    next: usize,
+}
+
+impl Command {
+    ghost use Rattle.std.specs.Prelude.{◌≡◌, Some};
+    ghost use Rattle.gmp_script.specs.Script.{ask_of};
+
+    /// What the command asks. No body asks by its `Again`.
+    fn ask(&self) -> Ask
+        ensures { result ≡ ask_of (Some self.now) }
+    {
+        match self {
+            Command::Yield => Ask::Yield,
+            Command::Go(g) => Ask::Go(*g),
+            Command::Make(capacity) => Ask::Make(*capacity),
+            Command::Send(c, value) => Ask::Send(*c, *value),
+            Command::Recv(c) => Ask::Recv(*c),
+            Command::Close(c) => Ask::Close(*c),
+            Command::Len(c) => Ask::Len(*c),
+            Command::Cap(c) => Ask::Cap(*c),
+            Command::Select(cases, has_default, until) => {
+                Ask::Select(cases.copied(), *has_default, *until)
+            }
+            Command::Sleep(until) => Ask::Sleep(*until),
+            Command::Park => Ask::Park,
+            Command::Ready(g) => Ask::Ready(*g),
+            Command::Block(_) => Ask::Block,
+            Command::Exit | Command::Again => Ask::Exit,
+        }
+    }
+}
+
+impl Model for ScriptBody {
+    ghost use Rattle.std.specs.Prelude.{◌≡◌, false};
+    ghost use Rattle.gmp_script.specs.Script.{Commands, begins_again};
+
+    ghost Value = { Commands };
+
+    ghost view = { λ b. record { commands = b.commands.items; next = b.next } };
+
+    ghost invariant = { λ b. begins_again b.commands.items ≡ false };
+}
+
+impl ScriptBody {
+    ghost use Rattle.std.specs.Prelude.{◌≡◌, ◌++◌, ◌∷◌, ◌<◌, [], false, length, OnOk, OnErr, IsTrue, ◌↔◌};
+    ghost use Rattle.gmp_script.specs.Script.{begins_again, place_of};
+
+    /// A body with no command.
+    pub fn new(alloc: Global) -> Self
+        ensures { result ≡ record { commands = []; next = 0 } }
+    {
+        ScriptBody {
+            commands: Vec::new(alloc),
+            next: 0,
+        }
+    }
+
+    /// The commands, in order.
+    pub fn commands(&self) -> &[Command]
+        ensures value { result.now ≡ self.now.commands }
+        ensures begin { begins_again self.now.commands ≡ false }
+    {
+        &self.commands
+    }
+
+    /// Whether the command may come next: `Again` may not come first.
+    pub fn accepts(&self, command: &Command) -> bool
+        ensures { IsTrue result ↔ (begins_again (self.now.commands ++ command.now ∷ []) ≡ false) }
+    {
+        !matches!(command, Command::Again) || !self.commands.is_empty()
+    }
+
+    /// Adds a command at the end.
+    pub fn push(&mut self, command: Command) -> Result<(), AllocError>
+        requires { begins_again (self.old.commands ++ command ∷ []) ≡ false }
+        ensures ok { OnOk result (self.new ≡ record self.old { commands = self.old.commands ++ command ∷ [] }) }
+        ensures err { OnErr result (self.new ≡ self.old) }
+    {
+        self.commands.push(command)?;
+        Ok(())
+    }
+
+    /// The place of the command that is asked next: after the last one before `Again` comes the first.
+    fn place(&self) -> usize
+        ensures { result ≡ place_of self.now }
+    {
+        match self.commands.get(self.next) {
+            Some(Command::Again) => 0,
+            _ => self.next,
+        }
+    }
+}
+
+impl Body for ScriptBody {
+    ghost use Rattle.std.specs.Prelude.{◌≡◌};
+    ghost use Rattle.gmp_script.specs.Script.{Resumes, called_number};
+
+    ghost resumed = { λ before _ ask after. Resumes before ask after };
+
+    ghost blocked = { λ before n after. (n ≡ called_number before) × (after ≡ before) };
+
+    fn resume(&mut self, _woke: Woke) -> Ask {
+        let place = self.place();
+        self.next = place;
+        match self.commands.get(place) {
+            Some(command) => {
+                self.next += 1;
+                command.ask()
+            }
+            None => Ask::Exit,
+        }
+    }
+
+    fn blocking(&mut self) -> u64 {
+        let Some(place) = self.next.checked_sub(1) else {
+            return 0;
+        };
+        match self.commands.get(place) {
+            Some(Command::Block(number)) => *number,
+            _ => 0,
+        }
+    }
+}

@@ -1,0 +1,15 @@
+//! Numbers that are written in digits.
+
+ghost use Rattle.std.specs.Prelude.{◌≡◌};
+ghost use Rattle.gmp_script.specs.Numbers.{number_of};
+
+/// The number that digits write, or none where there is another byte, no digit, or too large a number.
+pub fn number(word: &[u8]) -> Option<u64>
+    ensures { result ≡ number_of word.now }
+{
+    // `parse` reads a leading plus too.
+    if matches!(word, [b'+', ..]) {
+        return None;
+    }
+    std::str::from_utf8(word).ok()?.parse().ok()
+}
