@@ -128,7 +128,7 @@ impl Goroutines {
         self.table.has_astir()
     }
 
-    /// The least deadline, where nobody is ready or running: it is found by a look at all goroutines.
+    /// The least deadline, where nobody is ready or running: where one stands, it is found by a look at all goroutines.
     pub(crate) fn minded(&self) -> Option<u64>
         ensures { result ≡ minded self.now.table }
     {

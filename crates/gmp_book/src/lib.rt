@@ -6,8 +6,9 @@
 //!   row of the status table, an end of the shelf, a place of bodies, one entry.
 //! - `acquire`, `declare`, `declare_bare`, `spin`, `unspin`, `poke`, `woken` are constant: a mask of processors or of machines, one entry.
 //! - `send` and `recv` look at the offers of those who wait on channels, 8 a goroutine at most, and at no goroutine.
-//! - `park` answers from counts; where nobody is ready or running and not all are asleep, it looks at all goroutines.
-//! - `close` and `tick` look at all goroutines and all offers once for each that they wake, and at all goroutines once more.
+//! - `park` answers from counts; where nobody is ready or running and a deadline stands, it looks at all goroutines.
+//! - `close` and `tick` look at all goroutines and all offers once for each that they wake, and at all goroutines once more; a `tick`
+//!   looks at nobody once no deadline stands.
 //! - `outcome`, `history` and the surrenders are constant.
 //! - `open` takes memory for the limits' entries and all goroutines; `into_report` moves each body and owner once. No call but `open`
 //!   and `make` takes memory.

@@ -10,16 +10,17 @@ use Rattle.std.specs.List.{All, AllPairs}
 use Rattle.std.specs.Option.{option_map, option_map_or, is_some}
 use Rattle.gmp_base.specs.declared.number.GNo.{GNo}
 use Rattle.gmp_base.specs.declared.ask.Woke.{Woke}
+use Rattle.gmp_seq.proofs.Asleep.{fails_at}
 use Rattle.gmp_seq.proofs.Epochs.{at_set}
 use Rattle.gmp_seq.specs.declared.status.Goroutine.{Goroutine}
 use Rattle.gmp_seq.specs.declared.status.Place.{Place}
 use Rattle.gmp_seq.specs.declared.status.Place.TheVariants.{Shelf}
 use Rattle.gmp_seq.specs.declared.status.Status.{Status}
-use Rattle.gmp_seq.specs.declared.status.Status.TheVariants.{Ready}
-use Rattle.gmp_seq.specs.Table.{Table, made_ready, all_woken, how_many_woken, woken_with}
-use Rattle.gmp_table.proofs.Listing.{count_by-set, slice_get-set_same, slice_get-set_other}
-use Rattle.gmp_table.specs.Contents.{Contents}
-use Rattle.gmp_table.specs.Kept.{tally, times}
+use Rattle.gmp_seq.specs.declared.status.Status.TheVariants.{Dormant, Ready, Running, Calling, Waiting, Dead}
+use Rattle.gmp_seq.specs.Table.{Table, due_answer, made_ready, all_woken, how_many_woken, woken_with}
+use Rattle.gmp_table.proofs.Listing.{any_counted, count_by-set, slice_get-set_same, slice_get-set_other}
+use Rattle.gmp_table.specs.Contents.{Contents, has_deadline}
+use Rattle.gmp_table.specs.Kept.{count_status, tally, times}
 use Rattle.gmp_table.specs.declared.wake.Candidate.{Candidate}
 use Rattle.gmp_table.specs.declared.wake.Rank.{Rank}
 use Rattle.gmp_table.specs.declared.wake.Wake.{Wake}
@@ -37,6 +38,26 @@ behind_numbers ym ya xm xa bm ba later sooner = grind (arith, nat_tests)
 
 behind : (y x b : Rank) → is_before y b ≡ false → is_before x b ≡ true → is_before y x ≡ false
 behind y x b later sooner = behind_numbers y.moment y.arrival x.moment x.arrival b.moment b.arrival later sooner
+
+-- Where nobody waits with a deadline, none is due.
+
+untimed : (now : ℕ) (s : Status) → has_deadline s ≡ false → due_answer now s ≡ None
+untimed now Dormant h = refl
+untimed now (Ready place woke) h = refl
+untimed now (Running m) h = refl
+untimed now (Calling m) h = refl
+untimed now (Waiting w) h = by_deadline w.until refl
+  where
+    by_deadline : (d : Option ℕ) → w.until ≡ d → due_answer now (Waiting w) ≡ None
+    by_deadline None is = rw is refl
+    by_deadline (Some until) is = let some : true ≡ false = ap is_some (sym is) ∙ h in absurd cc
+untimed now Dead h = refl
+
+pub none_due : (now : ℕ) (rows : List Goroutine) → nat_lt 0 (count_status has_deadline rows) ≡ false → IsFirst (Due now) rows (length rows) None
+none_due now rows none =
+    λ k x below at.
+    untimed now x.status
+    (fails_at (λ (y : Goroutine). has_deadline y.status) rows k x (any_counted (λ (y : Goroutine). has_deadline y.status) rows ∙ none) at)
 
 -- The scan
 

@@ -94,10 +94,13 @@ impl StatusTable {
         self.rows.any_going() | self.rows.any_calling() | self.rows.any_timed()
     }
 
-    /// The least deadline of all that wait, in nanoseconds: found by a look at all goroutines.
+    /// The least deadline of all that wait, in nanoseconds: where one stands, found by a look at all goroutines.
     pub fn least_deadline(&self) -> Option<u64>
         ensures { result ≡ least_deadline self.now.table }
     {
+        if !self.rows.any_timed() {
+            return None;
+        }
         self.rows.least_deadline()
     }
 
@@ -145,7 +148,7 @@ impl StatusTable {
         self.arrivals
     }
 
-    /// Who is woken next, and what it is told: found by a look at all goroutines.
+    /// Who is woken next, and what it is told: found by a look at all goroutines, but where none waits with a deadline that might be due.
     pub fn next_to_wake(&self, wake: Wake) -> Option<Candidate>
         ensures first { IsFirst wake self.now.table.goroutines (length self.now.table.goroutines) result }
         // So few can be woken.

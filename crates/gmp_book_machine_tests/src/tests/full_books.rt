@@ -60,16 +60,23 @@ fn with_a_blocking_call(rt: HostRuntime) -> Result<(), Fail> {
     fills(&Strict(&rt), rt.alloc(), [&RUNS, &parked], 0, last)
 }
 
+/// Machine 0 makes a blocking call.
+const ENTERS: [Row; 1] = [(0, Act::Enter, Says::Entered(0, None))];
+
+/// Machine 0 makes a blocking call, and machine 1 gets its processor.
+const HANDS_ON: [Row; 2] = [
+    (0, Act::Enter, Says::Entered(0, None)),
+    (1, Act::Acquire, Says::Proc(0)),
+];
+
 // The goroutine and its processor are out, or another machine's processor.
 #[test]
 fn with_the_end_of_a_blocking_call(rt: HostRuntime) -> Result<(), Fail> {
     let (judge, alloc) = (Strict(&rt), rt.alloc());
-    let enter = (0, Act::Enter, Says::Entered(0, None));
     let last = (0, Act::Leave(5), Says::Runs(0));
-    fills(&judge, alloc, [&RUNS, &[enter]], 1, last)?;
-    let handed = [enter, (1, Act::Acquire, Says::Proc(0))];
+    fills(&judge, alloc, [&RUNS, &ENTERS], 1, last)?;
     let last = (0, Act::Leave(5), Says::Shelved(0, 2));
-    fills(&judge, alloc, [&RUNS, &handed], 1, last)
+    fills(&judge, alloc, [&RUNS, &HANDS_ON], 1, last)
 }
 
 #[test]
@@ -97,27 +104,26 @@ fn with_a_look_for_work(rt: HostRuntime) -> Result<(), Fail> {
     )
 }
 
+/// Main sleeps, and machine 0 gives up its processor.
+const SLEEPS: [Row; 2] = [
+    (0, Act::Sleep(9), Says::Waits),
+    (0, Act::Declare, Says::Idle(0)),
+];
+
+/// Main is parked, and machine 0 gives up its processor.
+const WAITS: [Row; 2] = [
+    (0, Act::Gopark, Says::Waits),
+    (0, Act::Declare, Says::Idle(0)),
+];
+
 // But where all are asleep that is how the run ends.
 #[test]
 fn with_a_park(rt: HostRuntime) -> Result<(), Fail> {
     let (judge, alloc) = (Strict(&rt), rt.alloc());
     fills(&judge, alloc, [&RUNS, &[]], 0, (1, Act::Park, Says::Parked))?;
     fills(&judge, alloc, [&[], &[]], 0, (1, Act::Park, Says::Work))?;
-    let sleeps = [
-        (0, Act::Sleep(9), Says::Waits),
-        (0, Act::Declare, Says::Idle(0)),
-    ];
-    fills(
-        &judge,
-        alloc,
-        [&RUNS, &sleeps],
-        0,
-        (1, Act::Park, Says::Mind(9)),
-    )?;
-    let waits = [
-        (0, Act::Gopark, Says::Waits),
-        (0, Act::Declare, Says::Idle(0)),
-    ];
+    let last = (1, Act::Park, Says::Mind(9));
+    fills(&judge, alloc, [&RUNS, &SLEEPS], 0, last)?;
     let last = (1, Act::Park, Says::AllAsleep);
-    last_entry(&judge, alloc, [&RUNS, &waits], 0, last, Outcome::AllAsleep)
+    last_entry(&judge, alloc, [&RUNS, &WAITS], 0, last, Outcome::AllAsleep)
 }
