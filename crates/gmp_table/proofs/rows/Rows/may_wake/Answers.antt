@@ -1,4 +1,4 @@
-use Rattle.std.proofs.Common.{None, List, ◌≡◌, false, length, nat_lt, subst, sym, ap, ◌∙◌}
+use Rattle.std.proofs.Common.{None, List, ◌≡◌, length, nat_lt, subst, sym, ap, ◌∙◌}
 use Rattle.gmp_seq.specs.declared.status.Goroutine.{Goroutine}
 use Rattle.gmp_table.specs.declared.wake.Wake.TheVariants.{Due}
 use Rattle.gmp_table.specs.Waking.{IsFirst}
