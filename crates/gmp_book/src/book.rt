@@ -207,7 +207,8 @@ impl<T, Q> Book<T, Q> {
         }
     }
 
-    /// Starts the goroutine of a body, whose ticket is given out. The goroutine that asks goes on: it is told Done, or a fault.
+    /// Starts the goroutine of a body, whose ticket is given out. The goroutine that asks goes on: it is told Done, or a fault, where there
+    /// is no such body or it was started before.
     pub fn go(
         &mut self,
         pass: &mut Pass,

@@ -15,8 +15,7 @@ ghost use Rattle.gmp_book.specs.Laws.{GrantedWhere};
 
 /// A call by a pass that may call, with values of the book's run, is granted exactly where the scheduler's needs are met: a ticket
 /// that is out, a goroutine that the machine runs or calls for, a processor that it holds, and a machine whose state allows it. A
-/// `make` that is granted may still want memory. Whether it is awake each machine may ask that is
-/// in no blocking call.
+/// `make` that is granted may still want memory. `woken` is granted to each machine that is in no blocking call.
 pub fn granted_where_needed()
     ensures acquire { GrantedWhere Acquire (λ run. []) (λ s m. Needs m Acquire s) }
     ensures take { GrantedWhere Take (λ run. []) (λ s m. Needs m Take s) }

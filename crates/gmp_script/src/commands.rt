@@ -106,7 +106,7 @@ impl ScriptBody {
         !matches!(command, Command::Again) || !self.commands.is_empty()
     }
 
-    /// Adds a command at the end.
+    /// Adds a command at the end, which the body accepts. Where memory is refused, nothing changes.
     pub fn push(&mut self, command: Command) -> Result<(), AllocError>
         requires { begins_again (self.old.commands ++ command ∷ []) ≡ false }
         ensures ok { OnOk result (self.new ≡ record self.old { commands = self.old.commands ++ command ∷ [] }) }

@@ -3,7 +3,7 @@
 ghost use Rattle.std.specs.Prelude.{◌≡◌};
 ghost use Rattle.gmp_script.specs.Numbers.{number_of};
 
-/// The number that digits write, or none where there is another byte, no digit, or too large a number.
+/// The number that digits write, or none where there is another byte, no digit, or a number above 2^64 - 1.
 pub fn number(word: &[u8]) -> Option<u64>
     ensures { result ≡ number_of word.now }
 {

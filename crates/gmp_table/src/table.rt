@@ -134,7 +134,7 @@ impl StatusTable {
         }
     }
 
-    /// The latest moment that a tick told, in nanoseconds.
+    /// The greatest moment that a tick told, in nanoseconds.
     pub fn clock(&self) -> u64
         ensures { result ≡ self.now.table.clock }
     {
@@ -148,7 +148,7 @@ impl StatusTable {
         self.arrivals
     }
 
-    /// Who is woken next, and what it is told: found by a look at all goroutines, but where none waits with a deadline that might be due.
+    /// Who is woken next, and what it is told: found by a look at all goroutines; for a tick at none where nobody waits with a deadline.
     pub fn next_to_wake(&self, wake: Wake) -> Option<Candidate>
         ensures first { IsFirst wake self.now.table.goroutines (length self.now.table.goroutines) result }
         // So few can be woken.
@@ -225,7 +225,8 @@ impl StatusTable {
         Readiness { g, epoch }
     }
 
-    /// Makes a goroutine ready on the shelf, last: one that yields, or that a close or a tick wakes.
+    /// Makes a goroutine ready on the shelf, last: one that yields, that a close or a tick wakes, or that comes back from a blocking call
+    /// and finds no processor.
     pub fn requeue(&mut self, g: GNo, woke: Woke) -> Readiness
         requires off { IsOffShelf self.old.table g }
         requires young { epoch_at self.old.table g < 2 ^ 63 }

@@ -19,7 +19,7 @@ pub enum Wake {
 /// What decides who is woken first: the lesser moment, and then the earlier arrival.
 #[derive(Clone, Copy, Debug, PartialEq, Eq)]
 pub struct Rank {
-    /// The deadline, where that is why it is woken, and else 0.
+    /// The deadline, in nanoseconds, where that is why it is woken, and else 0.
     pub moment: u64,
     /// How many waits began before its own.
     pub arrival: u64,

@@ -18,7 +18,8 @@ impl<T, Q> Book<T, Q> {
     ghost use Rattle.gmp_book.specs.Book.{SameValues};
     ghost use Rattle.gmp_book.specs.Went.{Proceeds, ProceedsBy, ProceedsByChoice, ProceedsOrWaits, MovesBody, handed_back};
 
-    /// Makes a channel with room for so many values, 4,096 at most. The goroutine is told its number, or the fault.
+    /// Makes a channel with room for so many values, 4,096 at most. The goroutine is told its number, or a fault: the room is too large, or
+    /// the run has as many channels as it may.
     ///
     /// A channel takes memory. Where that is refused, the goroutine comes back with `NoMemory` to be told, and nothing has changed.
     pub fn make(
@@ -48,7 +49,7 @@ impl<T, Q> Book<T, Q> {
         }
     }
 
-    /// Sends a value, or waits until it can. On nil it waits for ever, and on a closed channel it is a fault.
+    /// Sends a value, or waits until it can. On nil it waits for ever; on a closed channel, or one that was not made, it is a fault.
     pub fn send(
         &mut self,
         pass: &mut Pass,
@@ -69,7 +70,8 @@ impl<T, Q> Book<T, Q> {
         }
     }
 
-    /// Receives a value, or waits until it can. On nil it waits for ever; a closed channel gives what was sent, and then zeros.
+    /// Receives a value, or waits until it can. On nil it waits for ever; a closed channel gives what was sent, and then zeros; a channel
+    /// that was not made is a fault.
     pub fn recv(
         &mut self,
         pass: &mut Pass,
@@ -122,7 +124,8 @@ impl<T, Q> Book<T, Q> {
         }
     }
 
-    /// Closes a channel. All that wait on it go onto the shelf, by the beginnings of their waits; the answer counts them.
+    /// Closes a channel. All that wait on it go onto the shelf, by the beginnings of their waits; the answer counts them. Nil, a closed
+    /// channel and one that was not made are faults, and the count is then 0.
     pub fn close(
         &mut self,
         pass: &mut Pass,
@@ -144,7 +147,7 @@ impl<T, Q> Book<T, Q> {
         }
     }
 
-    /// Tells how many values a channel holds, 0 for nil.
+    /// Tells how many values a channel holds, 0 for nil. One that was not made is a fault.
     pub fn len(
         &mut self,
         pass: &mut Pass,
@@ -163,7 +166,7 @@ impl<T, Q> Book<T, Q> {
         }
     }
 
-    /// Tells for how many values a channel has room, 0 for nil.
+    /// Tells for how many values a channel has room, 0 for nil. One that was not made is a fault.
     pub fn cap(
         &mut self,
         pass: &mut Pass,

@@ -42,7 +42,7 @@ impl<T, Q> Book<T, Q> {
         self.ledger.try_woken(pass)
     }
 
-    /// Enters in the history that the machine holds no processor and doesn't look for work. Nothing else changes.
+    /// Says in the history that the machine holds no processor and doesn't look for work. Nothing else changes.
     pub fn declare_bare(&mut self, pass: &mut Pass) -> Result<(), Refusal>
         ensures refused { refusal_in result ≡ refusal_of self.old.log pass.old Call.Bare [] }
         ensures err { OnErr result ((self.new ≡ self.old) × (pass.new ≡ pass.old)) }
