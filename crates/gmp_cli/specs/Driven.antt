@@ -97,7 +97,8 @@ pub record IsReportOf {T Q : Type 0} (log : Log) (report : Report T Q) : Type 0 
 abbrev pub machine : MNo
 machine = record { 0 = 0 }
 
--- where it stands: the ticket in hand, who runs, who makes a blocking call, the processor that it holds, and whether it found no ticket anywhere
+-- where it stands: the ticket in hand, who runs, who makes a blocking call, the processor that it holds, and whether it found no ticket
+-- anywhere
 pub record Stand : Type 0 where
   pub hand : List Readiness
   pub running : List GNo
@@ -152,7 +153,8 @@ is_elsewhere (Running m) = not (machine.0 == m.0)
 is_elsewhere (Calling m) = not (machine.0 == m.0)
 is_elsewhere _ = false
 
--- the tickets that are out are these, each once; the machine runs this goroutine, if one, or makes the blocking call of this one; and nobody is elsewhere
+-- the tickets that are out are these, each once; the machine runs this goroutine, if one, or makes the blocking call of this one; and
+-- nobody is elsewhere
 pub record AreTickets (t : Table) (tickets : List Readiness) (running calling : List GNo) : Type 0 where
   pub outs : IsListing is_out t.goroutines (owners tickets)
   pub issued : AreIssued t tickets

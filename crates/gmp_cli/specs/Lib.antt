@@ -3,3 +3,4 @@ pub mod Said
 pub mod Words
 pub mod Driven
 pub mod Step
+pub mod Program

@@ -38,6 +38,19 @@ is_of_script (BadLine line) = true
 is_of_script OutOfMemory = true
 is_of_script _ = false
 
+-- what may be said at the end of a run: no text of the command line's parser
+abbrev pub is_of_step : Said → Bool
+is_of_step (Usage text) = false
+is_of_step _ = true
+
+-- what is wrong is found before anything is written
+abbrev pub is_before_writing : Said → Bool
+is_before_writing (BadLine line) = true
+is_before_writing InputTooLong = true
+is_before_writing InputUnreadable = true
+is_before_writing BadLimits = true
+is_before_writing _ = false
+
 -- what may be said where the command line was not read
 abbrev pub is_of_words : Said → Bool
 is_of_words (Usage text) = true

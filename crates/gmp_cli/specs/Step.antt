@@ -24,8 +24,8 @@ status_of AllAsleep = 2
 status_of BookFull = 3
 status_of Running = 4
 
--- The trace of a run that was opened with these limits: its entries are a legal run from the opening state, and its end is the outcome of the state
--- that they lead to.
+-- The trace of a run that was opened with these limits: its entries are a legal run from the opening state, and its end is the outcome
+-- of the state that they lead to.
 pub record IsTraceOf (limits : Limits) (x : Content) : Type 0 where
   pub opened : x.limits ≡ limits
   pub within : AreLimits x.limits x.bodies x.capacities

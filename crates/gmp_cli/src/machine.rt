@@ -116,10 +116,10 @@ fn give_proc(book: &mut Book<ScriptBody, ()>, proc: Proc<()>)
 }
 
 impl Machine {
-    ghost use Rattle.gmp_cli.specs.Clock.{reading, unread};
+    ghost use Rattle.gmp_cli.specs.Clock.{unread};
     ghost use Rattle.gmp_cli.specs.Driven.{Driving, GoesOn, GoesOnBy, IsReportOf};
-    ghost use Rattle.gmp_script.specs.Script.{Commands, called_number};
-    ghost use Rattle.gmp_seq.specs.declared.call.Call.TheVariants.{Leave, Tick};
+    ghost use Rattle.gmp_cli.specs.Program.{SameOwn, clock_by, fresh_by, next_call, turns_after};
+    ghost use Rattle.gmp_seq.specs.declared.call.Call.TheVariants.{Acquire, Declare, Poke, Take};
 
     /// The machine before its first call.
     pub(crate) fn open(
@@ -245,10 +245,11 @@ impl Machine {
         requires drives { Driving self.old hand }
         ensures drives { IfOk result (Driving self.new) }
         ensures goes { OnOk result (GoesOn self.old.book.log self.new.book.log) }
-        // Where it minds a deadline it tells the book what its clock reads.
-        ensures minds { (until : ℕ) → hand ≡ Hand.Mind until → OnOk result (GoesOnBy (Tick (reading self.old.clock (Some until))) self.old.book.log self.new.book.log) }
-        // Where it makes a blocking call it comes back with the number of that call.
-        ensures blocks { (called : Called Commands) → hand ≡ Hand.Block called → OnOk result (GoesOnBy (Leave (called_number called.body)) self.old.book.log self.new.book.log) }
+        ensures made { OnOk result (GoesOnBy (next_call self.old hand) self.old.book.log self.new.book.log) }
+        ensures turns { OnOk result (self.new.turns ≡ turns_after self.old.turns (next_call self.old hand)) }
+        ensures fresh { OnOk result (self.new.fresh ≡ fresh_by self.old hand self.new.book.log.state.table.clock) }
+        ensures clock { OnOk result (self.new.clock ≡ clock_by self.old hand) }
+        ensures word { OnOk result (self.new.word ≡ self.old.word) }
     {
         match hand {
             Hand::Start => Ok(self.start()),
@@ -269,6 +270,8 @@ impl Machine {
         requires drives { Driving self.old Hand.Start }
         ensures drives { Driving self.new result }
         ensures goes { GoesOn self.old.book.log self.new.book.log }
+        ensures own { SameOwn self.old self.new }
+        ensures call { GoesOnBy Acquire self.old.book.log self.new.book.log }
     {
         match self.book.acquire(&mut self.pass) {
             Ok(Some(proc)) => Hand::Look(proc),
@@ -282,6 +285,11 @@ impl Machine {
         requires drives { Driving self.old (Hand.Look proc) }
         ensures drives { Driving self.new result }
         ensures goes { GoesOn self.old.book.log self.new.book.log }
+        ensures turns { self.new.turns ≡ turns_after self.old.turns (next_call self.old (Hand.Look proc)) }
+        ensures fresh { self.new.fresh ≡ fresh_by self.old (Hand.Look proc) self.new.book.log.state.table.clock }
+        ensures clock { self.new.clock ≡ clock_by self.old (Hand.Look proc) }
+        ensures word { self.new.word ≡ self.old.word }
+        ensures call { GoesOnBy (next_call self.old (Hand.Look proc)) self.old.book.log self.new.book.log }
     {
         if self.turns == TURNS {
             return self.tick(proc);
@@ -299,6 +307,8 @@ impl Machine {
         requires drives { Driving self.old (Hand.Look proc) }
         ensures drives { Driving self.new result }
         ensures goes { GoesOn self.old.book.log self.new.book.log }
+        ensures own { SameOwn self.old self.new }
+        ensures call { GoesOnBy Take self.old.book.log self.new.book.log }
     {
         match self.book.take(&mut self.pass) {
             Ok(Some(ticket)) => Hand::Claim(proc, ticket),
@@ -313,6 +323,8 @@ impl Machine {
         requires drives { Driving self.old (Hand.Drop proc) }
         ensures drives { Driving self.new result }
         ensures goes { GoesOn self.old.book.log self.new.book.log }
+        ensures own { SameOwn self.old self.new }
+        ensures call { GoesOnBy Declare self.old.book.log self.new.book.log }
     {
         match self.book.declare(&mut self.pass, proc) {
             Ok(()) => Hand::Park,
@@ -326,6 +338,11 @@ impl Machine {
         requires drives { Driving self.old (Hand.Claim proc ticket) }
         ensures drives { Driving self.new result }
         ensures goes { GoesOn self.old.book.log self.new.book.log }
+        ensures turns { self.new.turns ≡ turns_after self.old.turns (next_call self.old (Hand.Claim proc ticket)) }
+        ensures fresh { self.new.fresh ≡ false }
+        ensures clock { self.new.clock ≡ self.old.clock }
+        ensures word { self.new.word ≡ self.old.word }
+        ensures call { GoesOnBy (next_call self.old (Hand.Claim proc ticket)) self.old.book.log self.new.book.log }
     {
         if self.fresh {
             return self.freshen(proc, ticket);
@@ -345,6 +362,11 @@ impl Machine {
         requires drives { Driving self.old (Hand.Claim proc ticket) }
         ensures drives { Driving self.new result }
         ensures goes { GoesOn self.old.book.log self.new.book.log }
+        ensures turns { self.new.turns ≡ self.old.turns }
+        ensures fresh { self.new.fresh ≡ false }
+        ensures clock { self.new.clock ≡ self.old.clock }
+        ensures word { self.new.word ≡ self.old.word }
+        ensures call { GoesOnBy Poke self.old.book.log self.new.book.log }
     {
         match self.book.poke(&mut self.pass) {
             Ok(_) => {
@@ -361,6 +383,8 @@ impl Machine {
         requires drives { Driving self.old (Hand.Poke proc held) }
         ensures drives { Driving self.new result }
         ensures goes { GoesOn self.old.book.log self.new.book.log }
+        ensures own { SameOwn self.old self.new }
+        ensures call { GoesOnBy Poke self.old.book.log self.new.book.log }
     {
         match self.book.poke(&mut self.pass) {
             Ok(_) => Hand::Run(proc, held),

@@ -1,8 +1,9 @@
 //! One run of a script.
 
-ghost use Rattle.std.specs.Prelude.{◌≡◌, ◌≢◌, ◌<◌, ◌⊎◌, ℕ, length, IfOk, IfErr, IfSome};
+ghost use Rattle.std.specs.Prelude.{◌≡◌, ◌≢◌, ◌<◌, ◌⊎◌, ℕ, true, length, IfOk, IfErr, IfSome};
 ghost use Rattle.gmp_cli.specs.declared.said.Said.TheVariants.{BadLine, InputTooLong, BadLimits};
 ghost use Rattle.gmp_script.specs.Lines.{lines, IsFirstBad};
+ghost use Rattle.gmp_cli.specs.Said.{is_of_step, is_before_writing};
 ghost use Rattle.gmp_cli.specs.Step.{limits_of, RunsOnOne, IsOutOfLimits, IsTraceOf, IsStockOf, WritesTrace};
 ghost use Rattle.gmp_trace.specs.Text.{content};
 
@@ -77,6 +78,7 @@ pub(crate) fn traced<R: Read>(
     ensures one { IfOk result (λ _. (settings.now.procs ≡ 1) × (settings.now.machines ≡ 1)) }
 
     ensures err { IfErr result (λ e. e.said ≢ Said.Nothing) }
+    ensures kinds { IfErr result (λ e. is_of_step e.said ≡ true) }
     ensures first { IfErr result (λ e. (line : ℕ) → e.said ≡ BadLine line
         → IfSome (R.remaining reader.old) (λ all. IsFirstBad (lines all) line)) }
     ensures too_long { IfErr result (λ e. e.said ≡ InputTooLong
@@ -101,6 +103,10 @@ pub fn step<R: Read, W: Write>(
 ) -> Ended
     ensures traced { result.said ≡ Said.Nothing
         → WritesTrace (limits_of settings.now) (R.remaining reader.old) result.status (W.contents writer.old) (W.contents writer.new) }
+
+    // What is wrong is said by one of the program's own texts, and nothing is written but where the output or memory fails.
+    ensures kinds { is_of_step result.said ≡ true }
+    ensures quiet { is_before_writing result.said ≡ true → W.contents writer.new ≡ W.contents writer.old }
 
     ensures first { (line : ℕ) → result.said ≡ BadLine line
         → IfSome (R.remaining reader.old) (λ all. IsFirstBad (lines all) line) }

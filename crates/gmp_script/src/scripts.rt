@@ -36,7 +36,7 @@ impl Script {
     /// Adds what the next line says, without its line feed, or answers false where the line is bad: where it says nothing that is known, a
     /// channel or the clock comes after a body has begun, a command before one has, or `again` first in a body.
     ///
-    /// Where memory ends, the script stays as it was.
+    /// By a bad line, and where memory ends, the script stays as it was.
     pub fn add(&mut self, alloc: Global, line: &[u8]) -> Result<bool, AllocError>
         ensures good { IfOk result (λ good. good ≡ true → (before : List (List ℕ))
             → IsScript before self.old.capacities.items self.old.readings.items self.old.bodies.items
@@ -44,6 +44,7 @@ impl Script {
         ensures bad { IfOk result (λ good. good ≡ false → (before : List (List ℕ))
             → IsScript before self.old.capacities.items self.old.readings.items self.old.bodies.items
             → (cs rs : List ℕ) (b : List Commands) → ¬ (IsScript (before ++ line.now ∷ []) cs rs b)) }
+        ensures passed_over { IfOk result (λ good. good ≡ false → (self.new.capacities.items ≡ self.old.capacities.items) × (self.new.readings.items ≡ self.old.readings.items) × (self.new.bodies.items ≡ self.old.bodies.items)) }
         ensures kept { IfErr result (λ e. (self.new.capacities.items ≡ self.old.capacities.items) × (self.new.readings.items ≡ self.old.readings.items) × (self.new.bodies.items ≡ self.old.bodies.items)) }
     {
         match line_of(alloc, line)? {

@@ -10,6 +10,7 @@ use std::alloc::{AllocError, Global};
 
 impl Machine {
     ghost use Rattle.gmp_cli.specs.Driven.{BlocksBy, Driving, Drives, GoesOn, GoesOnBy, GoesOnByChoice, call_of, is_poke, pushed};
+    ghost use Rattle.gmp_cli.specs.Program.{SameOwn};
     ghost use Rattle.gmp_script.specs.Script.{next_ask};
     ghost use Rattle.gmp_seq.specs.declared.call.Call.TheVariants.{Cap, Close, Exit, Go, Gopark, Len, Make, Ready, Recv, Select, Send, Sleep, Yield};
 
@@ -24,6 +25,7 @@ impl Machine {
         requires drives { Driving self.old (Hand.Run proc held) }
         ensures drives { IfOk result (Driving self.new) }
         ensures goes { OnOk result (GoesOn self.old.book.log self.new.book.log) }
+        ensures own { OnOk result (SameOwn self.old self.new) }
         ensures asked { OnOk result (GoesOnBy (call_of (next_ask held.body)) self.old.book.log self.new.book.log) }
         ensures blocks { next_ask held.body ≡ Ask.Block → IfOk result (BlocksBy held.body) }
     {
@@ -57,6 +59,7 @@ impl Machine {
         ensures drives { Driving self.new result }
         ensures pokes { is_poke result ≡ (is_some went.push || nat_lt 0 woken) }
         ensures book { self.new.book ≡ self.old.book }
+        ensures own { SameOwn self.old self.new }
     {
         let Went { held, push } = went;
         match push {
@@ -80,6 +83,7 @@ impl Machine {
         requires drives { Driving self.old (Hand.Run proc held) }
         ensures drives { Driving self.new result }
         ensures goes { GoesOn self.old.book.log self.new.book.log }
+        ensures own { SameOwn self.old self.new }
         ensures call { GoesOnBy Yield self.old.book.log self.new.book.log }
     {
         match self.book.yield_to(&mut self.pass, held) {
@@ -94,6 +98,7 @@ impl Machine {
         requires drives { Driving self.old (Hand.Run proc held) }
         ensures drives { Driving self.new result }
         ensures goes { GoesOn self.old.book.log self.new.book.log }
+        ensures own { SameOwn self.old self.new }
         ensures call { GoesOnBy Exit self.old.book.log self.new.book.log }
     {
         match self.book.exit(&mut self.pass, held) {
@@ -108,6 +113,7 @@ impl Machine {
         requires drives { Driving self.old (Hand.Run proc held) }
         ensures drives { Driving self.new result }
         ensures goes { GoesOn self.old.book.log self.new.book.log }
+        ensures own { SameOwn self.old self.new }
         ensures call { GoesOnBy (Sleep until) self.old.book.log self.new.book.log }
     {
         match self.book.sleep(&mut self.pass, held, until) {
@@ -122,6 +128,7 @@ impl Machine {
         requires drives { Driving self.old (Hand.Run proc held) }
         ensures drives { Driving self.new result }
         ensures goes { GoesOn self.old.book.log self.new.book.log }
+        ensures own { SameOwn self.old self.new }
         ensures call { GoesOnBy Gopark self.old.book.log self.new.book.log }
     {
         match self.book.park_g(&mut self.pass, held) {
@@ -136,6 +143,7 @@ impl Machine {
         requires drives { Driving self.old (Hand.Run proc held) }
         ensures drives { Driving self.new result }
         ensures goes { GoesOn self.old.book.log self.new.book.log }
+        ensures own { SameOwn self.old self.new }
         ensures call { GoesOnBy (Ready g) self.old.book.log self.new.book.log }
     {
         match self.book.ready(&mut self.pass, held, g) {
@@ -150,6 +158,7 @@ impl Machine {
         requires drives { Driving self.old (Hand.Run proc held) }
         ensures drives { Driving self.new result }
         ensures goes { GoesOn self.old.book.log self.new.book.log }
+        ensures own { SameOwn self.old self.new }
         ensures call { GoesOnBy (Go body) self.old.book.log self.new.book.log }
     {
         match self.book.go(&mut self.pass, held, body) {
@@ -170,6 +179,7 @@ impl Machine {
         requires drives { Driving self.old (Hand.Run proc held) }
         ensures drives { IfOk result (Driving self.new) }
         ensures goes { OnOk result (GoesOn self.old.book.log self.new.book.log) }
+        ensures own { OnOk result (SameOwn self.old self.new) }
         ensures call { OnOk result (GoesOnBy (Make capacity) self.old.book.log self.new.book.log) }
     {
         match self.book.make(alloc, &mut self.pass, held, capacity) {
@@ -189,6 +199,7 @@ impl Machine {
         requires drives { Driving self.old (Hand.Run proc held) }
         ensures drives { Driving self.new result }
         ensures goes { GoesOn self.old.book.log self.new.book.log }
+        ensures own { SameOwn self.old self.new }
         ensures call { GoesOnBy (Send c v) self.old.book.log self.new.book.log }
     {
         match self.book.send(&mut self.pass, held, c, v) {
@@ -206,6 +217,7 @@ impl Machine {
         requires drives { Driving self.old (Hand.Run proc held) }
         ensures drives { Driving self.new result }
         ensures goes { GoesOn self.old.book.log self.new.book.log }
+        ensures own { SameOwn self.old self.new }
         ensures call { GoesOnBy (Recv c) self.old.book.log self.new.book.log }
     {
         match self.book.recv(&mut self.pass, held, c) {
@@ -217,7 +229,8 @@ impl Machine {
         }
     }
 
-    /// Takes, of the cases that can proceed, the one that the word chooses; where none can, the default, or waits for any until the deadline.
+    /// Takes, of the cases that can proceed, the one that the word chooses; where none can, the default, or waits for any until the
+    /// deadline.
     fn select(
         &mut self,
         proc: Proc<()>,
@@ -230,6 +243,7 @@ impl Machine {
         requires drives { Driving self.old (Hand.Run proc held) }
         ensures drives { Driving self.new result }
         ensures goes { GoesOn self.old.book.log self.new.book.log }
+        ensures own { SameOwn self.old self.new }
         ensures call { GoesOnBy (Select cases.now has_default until) self.old.book.log self.new.book.log }
         ensures choice { GoesOnByChoice cases.now self.old.word self.old.book.log self.new.book.log }
     {
@@ -251,6 +265,7 @@ impl Machine {
         requires drives { Driving self.old (Hand.Run proc held) }
         ensures drives { Driving self.new result }
         ensures goes { GoesOn self.old.book.log self.new.book.log }
+        ensures own { SameOwn self.old self.new }
         ensures call { GoesOnBy (Close c) self.old.book.log self.new.book.log }
     {
         match self.book.close(&mut self.pass, held, c) {
@@ -265,6 +280,7 @@ impl Machine {
         requires drives { Driving self.old (Hand.Run proc held) }
         ensures drives { Driving self.new result }
         ensures goes { GoesOn self.old.book.log self.new.book.log }
+        ensures own { SameOwn self.old self.new }
         ensures call { GoesOnBy (Len c) self.old.book.log self.new.book.log }
     {
         match self.book.len(&mut self.pass, held, c) {
@@ -279,6 +295,7 @@ impl Machine {
         requires drives { Driving self.old (Hand.Run proc held) }
         ensures drives { Driving self.new result }
         ensures goes { GoesOn self.old.book.log self.new.book.log }
+        ensures own { SameOwn self.old self.new }
         ensures call { GoesOnBy (Cap c) self.old.book.log self.new.book.log }
     {
         match self.book.cap(&mut self.pass, held, c) {

@@ -7,6 +7,7 @@ use gmp_book::Returned;
 use gmp_script::ScriptBody;
 
 impl Machine {
+    ghost use Rattle.gmp_cli.specs.Program.{SameOwn};
     ghost use Rattle.gmp_cli.specs.Driven.{Driving, GoesOn, GoesOnBy, RunsOn};
     ghost use Rattle.gmp_script.specs.Script.{called_number};
     ghost use Rattle.gmp_seq.specs.declared.call.Call.TheVariants.{Enter, Leave};
@@ -17,6 +18,7 @@ impl Machine {
         requires drives { Driving self.old (Hand.Run proc held) }
         ensures drives { Driving self.new result }
         ensures goes { GoesOn self.old.book.log self.new.book.log }
+        ensures own { SameOwn self.old self.new }
         ensures call { GoesOnBy Enter self.old.book.log self.new.book.log }
         ensures called { result ≡ Hand.Block (record { run = held.run; g = held.g; body = held.body }) }
     {
@@ -33,6 +35,7 @@ impl Machine {
         requires drives { Driving self.old (Hand.Block called) }
         ensures drives { Driving self.new result }
         ensures goes { GoesOn self.old.book.log self.new.book.log }
+        ensures own { SameOwn self.old self.new }
         ensures call { GoesOnBy (Leave (called_number called.body)) self.old.book.log self.new.book.log }
         ensures runs { RunsOn called result }
     {

@@ -8,9 +8,10 @@ use gmp_base::Proc;
 use gmp_book::Parking;
 
 impl Machine {
+    ghost use Rattle.gmp_cli.specs.Program.{SameOwn};
     ghost use Rattle.gmp_cli.specs.Clock.{clock_after, reading};
     ghost use Rattle.gmp_cli.specs.Driven.{Driving, GoesOn, GoesOnBy, wakes_some};
-    ghost use Rattle.gmp_seq.specs.declared.call.Call.TheVariants.{Tick};
+    ghost use Rattle.gmp_seq.specs.declared.call.Call.TheVariants.{Park, Tick};
 
     /// Tells the book the clock's reading.
     pub(super) fn tick(&mut self, proc: Proc<()>) -> Hand
@@ -21,6 +22,7 @@ impl Machine {
         ensures call { GoesOnBy (Tick (reading self.old.clock None)) self.old.book.log self.new.book.log }
         ensures clock { self.new.clock ≡ clock_after self.old.clock None }
         ensures turns { self.new.turns ≡ 0 }
+        ensures word { self.new.word ≡ self.old.word }
         ensures fresh { self.new.fresh ≡ (self.old.fresh || wakes_some self.old.book.log.state.table self.new.book.log.state.table.clock) }
     {
         let now = self.clock.read(None);
@@ -40,6 +42,8 @@ impl Machine {
         requires drives { Driving self.old Hand.Park }
         ensures drives { Driving self.new result }
         ensures goes { GoesOn self.old.book.log self.new.book.log }
+        ensures own { SameOwn self.old self.new }
+        ensures call { GoesOnBy Park self.old.book.log self.new.book.log }
         ensures asleep { self.new.book.log.state.outcome ≡ Some Outcome.AllAsleep ↔ IsAsleep self.old.book.log.state.table }
         ensures minds { (until : ℕ) → result ≡ Hand.Mind until ↔ (minded self.old.book.log.state.table ≡ Some until) }
     {
@@ -62,6 +66,7 @@ impl Machine {
         ensures call { GoesOnBy (Tick (reading self.old.clock (Some until))) self.old.book.log self.new.book.log }
         ensures clock { self.new.clock ≡ clock_after self.old.clock (Some until) }
         ensures turns { self.new.turns ≡ 0 }
+        ensures word { self.new.word ≡ self.old.word }
         ensures fresh { self.new.fresh ≡ true }
     {
         let now = self.clock.read(Some(until));
