@@ -59,8 +59,7 @@ abbrev pub fresh_behind : Bool → List Readiness → Bool
 fresh_behind fresh [] = fresh
 fresh_behind fresh (r ∷ rs) = false
 
--- it is fresh where a tick woke somebody, or it minded a deadline, until it pokes for that or has a ticket to claim; the book's clock
--- shows this moment then
+-- it is fresh where a tick woke somebody, or it minded a deadline, until it pokes for that; the book's clock shows this moment then
 abbrev pub fresh_by : Machine → Hand → ℕ → Bool
 fresh_by m (Look proc) moment = if m.turns == 16 then (m.fresh || wakes_some m.book.log.state.table moment) else fresh_behind m.fresh m.queue.items
 fresh_by m (Claim proc ticket) moment = false
