@@ -1,6 +1,6 @@
 use Rattle.std.proofs.Common.{◌≡◌, ◌≤◌, ◌++◌, drop, length}
 use Rattle.gmp_seq.specs.Waits.{offers_from}
-use Rattle.gmp_check.proofs.offers.offers_of.Given as goal
+use Rattle.gmp_seq.proofs.status.Offers.of.Given as goal
 
 -- with those of the cases that are left, the offers so far are all
 abbrev pub invariant-loop-i : goal.invariant-loop-i
