@@ -1,7 +1,7 @@
 use Rattle.std.proofs.Common.{arith}
 use Rattle.std.proofs.lemmas.Nat.{pow_pos}
 use Rattle.gmp_idle.proofs.Masks.{flags_all, ones_of}
-use Rattle.gmp_idle.proofs.numbers.Numbers.all.Goals as goal
+use Rattle.gmp_idle.proofs.small_set.SmallSet.all.Goals as goal
 
 pub invariant_of-result : goal.invariant_of-result
 invariant_of-result c =

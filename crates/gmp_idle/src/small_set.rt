@@ -8,12 +8,12 @@ use std::marker::Model;
 ///
 /// Each call is constant: a few instructions.
 #[derive(Drop)]
-pub(crate) struct Numbers {
+pub(crate) struct SmallSet {
     bits: u64,
     size: u8,
 }
 
-impl Model for Numbers {
+impl Model for SmallSet {
     ghost use Rattle.std.specs.Prelude.{◌≤◌, ◌<◌, ◌^◌, Bool, List};
     ghost use Rattle.gmp_idle.specs.Flags.{flags};
 
@@ -24,13 +24,13 @@ impl Model for Numbers {
     ghost invariant = { λ s. (s.size ≤ 64) × (s.bits < 2 ^ s.size) };
 }
 
-impl Numbers {
+impl SmallSet {
     /// No number below `size`.
     pub(crate) fn none(size: u8) -> Self
         requires { size ≤ 64 }
         ensures { result ≡ replicate size false }
     {
-        Numbers { bits: 0, size }
+        SmallSet { bits: 0, size }
     }
 
     /// Each number below `size`.
@@ -39,7 +39,7 @@ impl Numbers {
         requires room { size ≤ 64 }
         ensures { result ≡ replicate size true }
     {
-        Numbers {
+        SmallSet {
             bits: u64::MAX >> (u64::BITS - size as u32),
             size,
         }

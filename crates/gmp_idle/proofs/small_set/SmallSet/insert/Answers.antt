@@ -1,6 +1,6 @@
 use Rattle.std.proofs.Common.{true, set, ap, ◌∙◌, arith}
 use Rattle.gmp_idle.proofs.Masks.{below_size, flags_set, set_fits}
-use Rattle.gmp_idle.proofs.numbers.Numbers.insert.Goals as goal
+use Rattle.gmp_idle.proofs.small_set.SmallSet.insert.Goals as goal
 
 pub prove-unreachable-requires : goal.prove-unreachable-requires
 prove-unreachable-requires c =

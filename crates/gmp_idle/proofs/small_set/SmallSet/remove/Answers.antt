@@ -1,6 +1,6 @@
 use Rattle.std.proofs.Common.{false, set, ap, ◌∙◌, arith}
 use Rattle.gmp_idle.proofs.Masks.{below_size, clear_fits, flags_clear}
-use Rattle.gmp_idle.proofs.numbers.Numbers.remove.Goals as goal
+use Rattle.gmp_idle.proofs.small_set.SmallSet.remove.Goals as goal
 
 pub prove-unreachable-requires : goal.prove-unreachable-requires
 prove-unreachable-requires c =

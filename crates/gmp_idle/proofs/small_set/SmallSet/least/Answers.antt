@@ -1,7 +1,7 @@
 use Rattle.std.proofs.Common.{ap, ◌∙◌}
 use Rattle.std.specs.Prelude.{position}
 use Rattle.gmp_idle.proofs.Masks.{least_none, least_some}
-use Rattle.gmp_idle.proofs.numbers.Numbers.least.Goals as goal
+use Rattle.gmp_idle.proofs.small_set.SmallSet.least.Goals as goal
 
 pub returns-then-self-eq0 : goal.returns-then-self-eq0
 returns-then-self-eq0 c = least_none c.self.inside.bits c.self.inside.size c.if-self-eq0.true ∙ ap (position (λ b. b)) c.self.view_is
