@@ -251,7 +251,7 @@ impl Goroutines {
         ensures order { Wakes (Wake.Due self.new.table.clock) self.old.table self.old.shelf self.new.shelf }
         ensures only { OnlyTable self.old self.new }
     {
-        let now = self.table.show(moment);
+        let now = self.table.advance_clock(moment);
         self.wake_all(Wake::Due(now))
     }
 }

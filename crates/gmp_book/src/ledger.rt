@@ -140,7 +140,7 @@ impl Ledger {
             bodies,
             &capacities,
         )?;
-        let machines = Machines::awake(alloc, limits.procs, limits.machines)?;
+        let machines = Machines::opening(alloc, limits.procs, limits.machines)?;
         let journal = Journal::with_room(alloc, limits.machines, limits.entries)?;
         Ok(Ledger {
             run,

@@ -1,6 +1,5 @@
 pub mod Decides
 pub mod Causes
-pub mod Statuses
 pub mod First
 pub mod Reached
 pub mod Ways

@@ -6,7 +6,7 @@ ghost use Rattle.gmp_seq.specs.Waits.{closed_answer};
 ghost use Rattle.gmp_check.specs.Causes.{answer_for};
 
 use gmp_base::{CNo, Woke};
-use gmp_seq::{Kind, Offer, Status};
+use gmp_seq::{Kind, Offers, Status};
 
 /// Why several goroutines become ready at once.
 #[derive(Clone, Copy)]
@@ -17,18 +17,11 @@ pub(crate) enum Cause {
     Closed(CNo),
 }
 
-/// The first of the offers that is on the channel.
-fn first_on(offers: &[Offer], c: CNo) -> Option<Offer>
-    ensures { result ≡ find (λ (o : Offer). o.channel.0 == c.0) offers.now }
-{
-    offers.iter().copied().find(|offer| offer.channel.0 == c.0)
-}
-
 /// What one that waits with these offers is told when the channel is closed, by the first offer on it.
-fn told_at_close(kind: Kind, offers: &[Offer], c: CNo) -> Option<Woke>
+fn told_at_close(kind: Kind, offers: &Offers, c: CNo) -> Option<Woke>
     ensures { result ≡ option_map (closed_answer kind) (find (λ (o : Offer). o.channel.0 == c.0) offers.now) }
 {
-    match first_on(offers, c) {
+    match offers.first_on(c) {
         Some(offer) => Some(offer.closed_answer(kind)),
         None => None,
     }
@@ -47,7 +40,7 @@ impl Cause {
                 Some(until) if until <= now => Some(wait.kind.late_answer()),
                 _ => None,
             },
-            Cause::Closed(c) => told_at_close(wait.kind, wait.offers.as_slice(), c),
+            Cause::Closed(c) => told_at_close(wait.kind, &wait.offers, c),
         }
     }
 }

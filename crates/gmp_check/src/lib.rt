@@ -9,10 +9,8 @@ mod answers;
 mod channels;
 mod error;
 mod machines;
-mod offers;
 mod replay;
 mod state;
-mod status;
 mod table;
 #[cfg(test)]
 mod tests;

@@ -11,7 +11,6 @@ mod calls;
 mod waiting;
 mod waking;
 
-use crate::status::{is_astir, is_calling_on, is_ready_or_running, is_running_on, is_shelved};
 use gmp_base::{GNo, MNo, Readiness, Woke};
 use gmp_seq::{Goroutine, Kind, Offers, Place, Status, Wait};
 use std::alloc::{AllocError, Global};
@@ -101,14 +100,14 @@ impl Table {
     pub(crate) fn has_shelved(&self) -> bool
         ensures { result ≡ some_status is_shelved self.now }
     {
-        self.goroutines.iter().any(|row| is_shelved(&row.status))
+        self.goroutines.iter().any(|row| row.status.is_shelved())
     }
 
     /// Whether somebody can go on, or comes back from a blocking call or at a deadline.
     pub(crate) fn has_astir(&self) -> bool
         ensures { result ≡ some_status is_astir self.now }
     {
-        self.goroutines.iter().any(|row| is_astir(&row.status))
+        self.goroutines.iter().any(|row| row.status.is_astir())
     }
 
     fn has_ready_or_running(&self) -> bool
@@ -116,7 +115,7 @@ impl Table {
     {
         self.goroutines
             .iter()
-            .any(|row| is_ready_or_running(&row.status))
+            .any(|row| row.status.is_ready_or_running())
     }
 
     pub(crate) fn runs_some(&self, m: MNo) -> bool
@@ -124,7 +123,7 @@ impl Table {
     {
         self.goroutines
             .iter()
-            .any(|row| is_running_on(m, &row.status))
+            .any(|row| row.status.is_running_on(m))
     }
 
     /// Whom m runs.
@@ -133,7 +132,7 @@ impl Table {
         ensures none { IfNone result ((g : GNo) → IsRunning self.now g m → ⊥) }
     {
         let mut rows = self.goroutines.iter();
-        let g = rows.position(|row| is_running_on(m, &row.status))?;
+        let g = rows.position(|row| row.status.is_running_on(m))?;
         Some(GNo(g as u16))
     }
 
@@ -143,7 +142,7 @@ impl Table {
         ensures none { IfNone result ((g : GNo) → IsCalling self.now g m → ⊥) }
     {
         let mut rows = self.goroutines.iter();
-        let g = rows.position(|row| is_calling_on(m, &row.status))?;
+        let g = rows.position(|row| row.status.is_calling_on(m))?;
         Some(GNo(g as u16))
     }
 

@@ -7,7 +7,7 @@ use Rattle.gmp_script.specs.declared.commands.Command.{Command}
 use Rattle.gmp_cli.specs.declared.machine.Hand.{Hand}
 use Rattle.gmp_cli.specs.declared.machine.Hand.TheVariants.{Block}
 use Rattle.gmp_cli.specs.Driven.{BlocksBy}
-use Rattle.gmp_script.specs.Script.{Commands, Resumes, ask_of, behind, called_number, number_in, place_of}
+use Rattle.gmp_script.specs.Script.{Commands, AsksNext, ask_of, behind, called_number, number_in, place_of}
 
 -- a body that stands behind this command
 number_behind : (commands : List Command) (place : ℕ) (b : Commands) → b.commands ≡ commands → b.next ≡ place + 1 → called_number b ≡ number_in (slice_get commands place)
@@ -17,7 +17,7 @@ number_behind commands place b same next =
     rw (same, next, some, back) refl
 
 -- the number of the command by which it asked
-asked_number : (before after : Commands) → Resumes before ask.Block after → called_number after ≡ number_in (slice_get before.commands (place_of before))
+asked_number : (before after : Commands) → AsksNext before ask.Block after → called_number after ≡ number_in (slice_get before.commands (place_of before))
 asked_number before after resumes = by_command (slice_get before.commands (place_of before)) refl
   where
     by_command : (o : Option Command) → slice_get before.commands (place_of before) ≡ o → called_number after ≡ number_in (slice_get before.commands (place_of before))
@@ -25,6 +25,6 @@ asked_number before after resumes = by_command (slice_get before.commands (place
     by_command (Some c) at =
         number_behind before.commands (place_of before) after resumes.same (resumes.goes ∙ ap (λ (o : Option Command). behind o (place_of before)) at)
 
-pub blocks_by : (before after : Commands) (held : Held Commands) (hand : Hand) → Resumes before ask.Block after → held.body ≡ after
+pub blocks_by : (before after : Commands) (held : Held Commands) (hand : Hand) → AsksNext before ask.Block after → held.body ≡ after
     → hand ≡ Block (record { run = held.run; g = held.g; body = held.body }) → BlocksBy before hand
 blocks_by before after held hand resumes body is = rw (is, body) (asked_number before after resumes)

@@ -50,7 +50,7 @@ use Rattle.gmp_seq.specs.Table.{RunsNothing, is_outstanding, made_ready, made_wa
 use Rattle.gmp_slots.specs.Slots.{is_vacant, all_filled}
 use Rattle.gmp_cli.specs.declared.machine.Hand.{Hand}
 use Rattle.gmp_cli.specs.declared.machine.Hand.TheVariants.{Start, Look, Claim, Drop, Park, Mind, Poke, Run}
-use Rattle.gmp_cli.specs.Driven.{Drives, GoesOn, IsDriven, IsLatest, LacksOne, machine, looking, pushed, running_one, starting}
+use Rattle.gmp_cli.specs.Driven.{Drives, AddsEntry, IsDriven, IsLatest, LacksOne, machine, looking, pushed, running_one, starting}
 use Rattle.gmp_script.specs.Script.{Commands}
 use Rattle.gmp_cli.proofs.Driving.{opening_driven, started_driven, taken_driven, none_driven, claimed_driven, poked_driven, poked_on, declared_driven, declare_needs, park_idle, park_stirs, ticked_driven, gone_driven, ready_driven, made_driven, dealt_driven, closed_driven, selected_driven, len_driven, cap_driven, waited_driven, yielded_driven, exited_driven, claim_needs}
 use Rattle.gmp_cli.proofs.Tickets.{first_out}
@@ -83,7 +83,7 @@ lacks slots i x all at = record {
 -- The pass
 
 -- a run that a call goes on with
-pub goes_on : (old new : Log) (before after : Pass) (asked : Call) (answer : Reply) → Records old before asked answer new after → GoesOn old new
+pub goes_on : (old new : Log) (before after : Pass) (asked : Call) (answer : Reply) → Records old before asked answer new after → AddsEntry old new
 goes_on old new before after asked answer records = record {
   opened = record {
     limits = ap (λ (l : Log). l.limits) records.opened;

@@ -45,18 +45,18 @@ pub record SameOpening (old new : Log) : Type 0 where
   pub capacities : new.capacities ≡ old.capacities
 
 -- the run goes on by one entry
-pub record GoesOn (old new : Log) : Type 0 where
+pub record AddsEntry (old new : Log) : Type 0 where
   pub opened : SameOpening old new
   pub longer : length new.history ≡ length old.history + 1
 
 -- the call that the run goes on by is this
-pub record GoesOnBy (call : Call) (old new : Log) : Type 0 where
+pub record AddsEntryBy (call : Call) (old new : Log) : Type 0 where
   pub entry : Entry
   pub last : new.history ≡ old.history ++ entry ∷ []
   pub made : entry.call ≡ call
 
 -- the run goes on by a select, and where that takes a case, it is the one that the word chooses
-pub record GoesOnByChoice (cases : List Case) (word : ℕ) (old new : Log) : Type 0 where
+pub record AddsEntryByChoice (cases : List Case) (word : ℕ) (old new : Log) : Type 0 where
   pub entry : Entry
   pub last : new.history ≡ old.history ++ entry ∷ []
   pub choice : IsChoice old.state cases word entry.reply

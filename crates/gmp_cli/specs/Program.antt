@@ -8,7 +8,7 @@ use Rattle.gmp_script.specs.Script.{called_number, next_ask}
 use Rattle.gmp_cli.specs.declared.machine.Hand.{Hand}
 use Rattle.gmp_cli.specs.declared.machine.Hand.TheVariants.{Start, Look, Claim, Drop, Park, Mind, Poke, Run, Block}
 use Rattle.gmp_cli.specs.declared.machine.Machine.{Machine}
-use Rattle.gmp_cli.specs.Clock.{Readings, clock_after, reading}
+use Rattle.gmp_cli.specs.Clock.{ClockState, clock_after, reading}
 use Rattle.gmp_cli.specs.Driven.{call_of, wakes_some}
 
 -- a ticket is claimed; a fresh machine wakes another one first
@@ -49,7 +49,7 @@ turns_after turns (call.Tick moment) = 0
 turns_after turns _ = turns
 
 -- the clock is read for a tick alone
-abbrev pub clock_by : Machine → Hand → Readings
+abbrev pub clock_by : Machine → Hand → ClockState
 clock_by m (Look proc) = if m.turns == 16 then clock_after m.clock None else m.clock
 clock_by m (Mind until) = clock_after m.clock (Some until)
 clock_by m _ = m.clock

@@ -14,9 +14,9 @@ pub(crate) struct Clock {
 
 impl Model for Clock {
     ghost use Rattle.std.specs.Prelude.{drop};
-    ghost use Rattle.gmp_cli.specs.Clock.{Readings};
+    ghost use Rattle.gmp_cli.specs.Clock.{ClockState};
 
-    ghost Value = { Readings };
+    ghost Value = { ClockState };
 
     ghost view = { λ c. record { ahead = drop c.next c.readings.items; greatest = c.greatest } };
 }

@@ -117,7 +117,7 @@ fn give_proc(book: &mut Book<ScriptBody, ()>, proc: Proc<()>)
 
 impl Machine {
     ghost use Rattle.gmp_cli.specs.Clock.{unread};
-    ghost use Rattle.gmp_cli.specs.Driven.{Driving, GoesOn, GoesOnBy, IsReportOf};
+    ghost use Rattle.gmp_cli.specs.Driven.{Driving, AddsEntry, AddsEntryBy, IsReportOf};
     ghost use Rattle.gmp_cli.specs.Program.{SameOwn, clock_by, fresh_by, next_call, turns_after};
     ghost use Rattle.gmp_seq.specs.declared.call.Call.TheVariants.{Acquire, Declare, Poke, Take};
 
@@ -244,8 +244,8 @@ impl Machine {
         requires ongoing { self.old.book.log.state.outcome ≡ None }
         requires drives { Driving self.old hand }
         ensures drives { IfOk result (Driving self.new) }
-        ensures goes { OnOk result (GoesOn self.old.book.log self.new.book.log) }
-        ensures made { OnOk result (GoesOnBy (next_call self.old hand) self.old.book.log self.new.book.log) }
+        ensures goes { OnOk result (AddsEntry self.old.book.log self.new.book.log) }
+        ensures made { OnOk result (AddsEntryBy (next_call self.old hand) self.old.book.log self.new.book.log) }
         ensures turns { OnOk result (self.new.turns ≡ turns_after self.old.turns (next_call self.old hand)) }
         ensures fresh { OnOk result (self.new.fresh ≡ fresh_by self.old hand self.new.book.log.state.table.clock) }
         ensures clock { OnOk result (self.new.clock ≡ clock_by self.old hand) }
@@ -269,9 +269,9 @@ impl Machine {
         requires ongoing { self.old.book.log.state.outcome ≡ None }
         requires drives { Driving self.old Hand.Start }
         ensures drives { Driving self.new result }
-        ensures goes { GoesOn self.old.book.log self.new.book.log }
+        ensures goes { AddsEntry self.old.book.log self.new.book.log }
         ensures own { SameOwn self.old self.new }
-        ensures call { GoesOnBy Acquire self.old.book.log self.new.book.log }
+        ensures call { AddsEntryBy Acquire self.old.book.log self.new.book.log }
     {
         match self.book.acquire(&mut self.pass) {
             Ok(Some(proc)) => Hand::Look(proc),
@@ -284,12 +284,12 @@ impl Machine {
         requires ongoing { self.old.book.log.state.outcome ≡ None }
         requires drives { Driving self.old (Hand.Look proc) }
         ensures drives { Driving self.new result }
-        ensures goes { GoesOn self.old.book.log self.new.book.log }
+        ensures goes { AddsEntry self.old.book.log self.new.book.log }
         ensures turns { self.new.turns ≡ turns_after self.old.turns (next_call self.old (Hand.Look proc)) }
         ensures fresh { self.new.fresh ≡ fresh_by self.old (Hand.Look proc) self.new.book.log.state.table.clock }
         ensures clock { self.new.clock ≡ clock_by self.old (Hand.Look proc) }
         ensures word { self.new.word ≡ self.old.word }
-        ensures call { GoesOnBy (next_call self.old (Hand.Look proc)) self.old.book.log self.new.book.log }
+        ensures call { AddsEntryBy (next_call self.old (Hand.Look proc)) self.old.book.log self.new.book.log }
     {
         if self.turns == TURNS {
             return self.tick(proc);
@@ -306,9 +306,9 @@ impl Machine {
         requires empty { self.old.queue.items ≡ [] }
         requires drives { Driving self.old (Hand.Look proc) }
         ensures drives { Driving self.new result }
-        ensures goes { GoesOn self.old.book.log self.new.book.log }
+        ensures goes { AddsEntry self.old.book.log self.new.book.log }
         ensures own { SameOwn self.old self.new }
-        ensures call { GoesOnBy Take self.old.book.log self.new.book.log }
+        ensures call { AddsEntryBy Take self.old.book.log self.new.book.log }
     {
         match self.book.take(&mut self.pass) {
             Ok(Some(ticket)) => Hand::Claim(proc, ticket),
@@ -322,9 +322,9 @@ impl Machine {
         requires ongoing { self.old.book.log.state.outcome ≡ None }
         requires drives { Driving self.old (Hand.Drop proc) }
         ensures drives { Driving self.new result }
-        ensures goes { GoesOn self.old.book.log self.new.book.log }
+        ensures goes { AddsEntry self.old.book.log self.new.book.log }
         ensures own { SameOwn self.old self.new }
-        ensures call { GoesOnBy Declare self.old.book.log self.new.book.log }
+        ensures call { AddsEntryBy Declare self.old.book.log self.new.book.log }
     {
         match self.book.declare(&mut self.pass, proc) {
             Ok(()) => Hand::Park,
@@ -337,12 +337,12 @@ impl Machine {
         requires ongoing { self.old.book.log.state.outcome ≡ None }
         requires drives { Driving self.old (Hand.Claim proc ticket) }
         ensures drives { Driving self.new result }
-        ensures goes { GoesOn self.old.book.log self.new.book.log }
+        ensures goes { AddsEntry self.old.book.log self.new.book.log }
         ensures turns { self.new.turns ≡ turns_after self.old.turns (next_call self.old (Hand.Claim proc ticket)) }
         ensures fresh { self.new.fresh ≡ false }
         ensures clock { self.new.clock ≡ self.old.clock }
         ensures word { self.new.word ≡ self.old.word }
-        ensures call { GoesOnBy (next_call self.old (Hand.Claim proc ticket)) self.old.book.log self.new.book.log }
+        ensures call { AddsEntryBy (next_call self.old (Hand.Claim proc ticket)) self.old.book.log self.new.book.log }
     {
         if self.fresh {
             return self.freshen(proc, ticket);
@@ -361,12 +361,12 @@ impl Machine {
         requires ongoing { self.old.book.log.state.outcome ≡ None }
         requires drives { Driving self.old (Hand.Claim proc ticket) }
         ensures drives { Driving self.new result }
-        ensures goes { GoesOn self.old.book.log self.new.book.log }
+        ensures goes { AddsEntry self.old.book.log self.new.book.log }
         ensures turns { self.new.turns ≡ self.old.turns }
         ensures fresh { self.new.fresh ≡ false }
         ensures clock { self.new.clock ≡ self.old.clock }
         ensures word { self.new.word ≡ self.old.word }
-        ensures call { GoesOnBy Poke self.old.book.log self.new.book.log }
+        ensures call { AddsEntryBy Poke self.old.book.log self.new.book.log }
     {
         match self.book.poke(&mut self.pass) {
             Ok(_) => {
@@ -382,9 +382,9 @@ impl Machine {
         requires ongoing { self.old.book.log.state.outcome ≡ None }
         requires drives { Driving self.old (Hand.Poke proc held) }
         ensures drives { Driving self.new result }
-        ensures goes { GoesOn self.old.book.log self.new.book.log }
+        ensures goes { AddsEntry self.old.book.log self.new.book.log }
         ensures own { SameOwn self.old self.new }
-        ensures call { GoesOnBy Poke self.old.book.log self.new.book.log }
+        ensures call { AddsEntryBy Poke self.old.book.log self.new.book.log }
     {
         match self.book.poke(&mut self.pass) {
             Ok(_) => Hand::Run(proc, held),

@@ -15,7 +15,7 @@ use Rattle.gmp_seq.specs.declared.status.Mode.TheVariants.{Awake, Parked, Callin
 use Rattle.gmp_seq.specs.Machines.{Machines, Enters, Holds, IsAwake, IsParked, Pokes, how_many_spin, is_held_by, is_parked, set_holder, set_mode, some_idle, some_parked, wants_poke}
 use Rattle.gmp_idle.specs.Kept.{IsKept, flag_of}
 use Rattle.gmp_idle.specs.Replies.{poked}
-use Rattle.gmp_idle.specs.Tables.{Wakes}
+use Rattle.gmp_idle.specs.Tables.{WakesLeast}
 use Rattle.gmp_idle.proofs.Holding.{flag-set_same, flag_told, given_up, holder_within, list_any-count_by, number_of, taken, turned}
 use Rattle.gmp_idle.proofs.Marking.{not-not}
 
@@ -84,7 +84,7 @@ module _ (holders : List (Option MNo)) (modes : List Mode) (holding spinning : L
           let here : slice_get modes m.0 ≡ Some Calling = ap (slice_get modes) (sym same) ∙ calls in
           cc
 
-  pub kept_woken : (r : Option MNo) (woken : List Mode) → Wakes r modes woken → IsKept holders woken holding spinning
+  pub kept_woken : (r : Option MNo) (woken : List Mode) → WakesLeast r modes woken → IsKept holders woken holding spinning
   kept_woken None woken wakes = rw wakes.1 kept
   kept_woken (Some n) woken wakes = rw wakes.1 (turned holders modes holding spinning kept n Awake (λ e. absurd cc))
 
@@ -96,7 +96,7 @@ module _ (holders : List (Option MNo)) (modes : List Mode) (holding spinning : L
       sym (flag_told (set holders i None) modes (set holding m.0 false) spinning m free) ∙ flag-set_same holding m.0 m false within refl
 
   -- a machine that holds no processor goes into a blocking call, and another may have woken
-  pub kept_entered : (m : MNo) (r : Option MNo) (woken : List Mode) → list_any (is_held_by m) holders ≡ false → Wakes r modes woken
+  pub kept_entered : (m : MNo) (r : Option MNo) (woken : List Mode) → list_any (is_held_by m) holders ≡ false → WakesLeast r modes woken
       → IsKept holders (set woken m.0 Calling) holding spinning
   kept_entered m r woken bare wakes =
       turned holders woken holding spinning (kept_woken r woken wakes) m Calling (λ e. flag_told holders modes holding spinning m kept ∙ bare)
@@ -126,7 +126,7 @@ wants : (w : Machines) (may some : Bool) → may_wake w ≡ may → some_parked 
 wants w may some e parked =
     both (how_many_spin w == 0) (some_idle w) (some_parked w) ∙ (ap (λ (a : Bool). a && some_parked w) e ∙ ap (λ (a : Bool). may && a) parked)
 
-pub pokes : (old value : Machines) (m : MNo) (r : Option MNo) (woken : List Mode) → old ≡ value → IsAwake value m → may_wake old ≡ true → Wakes r old.modes woken
+pub pokes : (old value : Machines) (m : MNo) (r : Option MNo) (woken : List Mode) → old ≡ value → IsAwake value m → may_wake old ≡ true → WakesLeast r old.modes woken
     → Pokes m (poked r) value (record { holders = old.holders; modes = woken; spinning = old.spinning })
 pokes old value m None woken is awake may wakes = (
   awake,
@@ -142,7 +142,7 @@ pokes old value m (Some n) woken is awake may wakes = (
 
 -- between, the machine's processor is idle, and nothing else is done
 pub enters : (between value : Machines) (m : MNo) (p : PNo) (r : Option MNo) (woken : List Mode) → between ≡ set_holder value p None → IsAwake value m
-    → Holds value m p → Wakes r between.modes woken
+    → Holds value m p → WakesLeast r between.modes woken
     → Enters m (reply.Entered p r) value (record { holders = between.holders; modes = set woken m.0 Calling; spinning = between.spinning })
 enters between value m p None woken is awake holds wakes = (
   holds,

@@ -8,11 +8,11 @@ use Rattle.gmp_seq.specs.declared.status.Mode.TheVariants.{Awake}
 use Rattle.gmp_seq.specs.Machines.{is_parked}
 
 -- the machine holds the least idle processor from now on, or none is idle
-abbrev pub Takes : MNo → Option PNo → List (Option MNo) → List (Option MNo) → Type 0
-Takes m (Some p) old new = (position is_none old ≡ Some p.0) × (new ≡ slice_set old p.0 (Some m))
-Takes m None old new = (list_any is_none old ≡ false) × (new ≡ old)
+abbrev pub TakesLeast : MNo → Option PNo → List (Option MNo) → List (Option MNo) → Type 0
+TakesLeast m (Some p) old new = (position is_none old ≡ Some p.0) × (new ≡ slice_set old p.0 (Some m))
+TakesLeast m None old new = (list_any is_none old ≡ false) × (new ≡ old)
 
 -- the least parked machine is awake from now on, or none is parked
-abbrev pub Wakes : Option MNo → List Mode → List Mode → Type 0
-Wakes (Some m) old new = (position is_parked old ≡ Some m.0) × (new ≡ slice_set old m.0 Awake)
-Wakes None old new = (list_any is_parked old ≡ false) × (new ≡ old)
+abbrev pub WakesLeast : Option MNo → List Mode → List Mode → Type 0
+WakesLeast (Some m) old new = (position is_parked old ≡ Some m.0) × (new ≡ slice_set old m.0 Awake)
+WakesLeast None old new = (list_any is_parked old ≡ false) × (new ≡ old)

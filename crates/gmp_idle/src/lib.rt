@@ -6,8 +6,8 @@
 
 mod machines;
 mod modes;
-mod numbers;
 mod processors;
+mod small_set;
 
 pub use machines::Machines;
 

@@ -8,8 +8,8 @@ ghost use Rattle.gmp_seq.specs.Machines.{Acquires, Declares, Enters, Holds, IsAw
 ghost use Rattle.gmp_idle.specs.Replies.{acquired, is_awake_mode, is_calling_mode, poked};
 
 use crate::modes::Modes;
-use crate::numbers::Numbers;
 use crate::processors::Processors;
+use crate::small_set::SmallSet;
 use gmp_base::{MNo, PNo};
 use gmp_seq::Mode;
 use std::alloc::{AllocError, Global};
@@ -23,8 +23,8 @@ pub struct Machines {
     processors: Processors,
     modes: Modes,
     /// Those that hold a processor.
-    holding: Numbers,
-    spinning: Numbers,
+    holding: SmallSet,
+    spinning: SmallSet,
 }
 
 impl Model for Machines {
@@ -40,7 +40,7 @@ impl Model for Machines {
 
 impl Machines {
     /// No processor is held, all machines are awake, and nobody spins. It alone takes memory, and its cost is linear.
-    pub fn awake(alloc: Global, procs: u8, machines: u8) -> Result<Self, AllocError>
+    pub fn opening(alloc: Global, procs: u8, machines: u8) -> Result<Self, AllocError>
         requires some { 1 ≤ procs }
         requires procs { procs ≤ 32 }
         requires machines { machines ≤ 64 }
@@ -48,9 +48,9 @@ impl Machines {
     {
         Ok(Machines {
             processors: Processors::idle(alloc, procs)?,
-            modes: Modes::awake(alloc, machines)?,
-            holding: Numbers::none(machines),
-            spinning: Numbers::none(machines),
+            modes: Modes::all_awake(alloc, machines)?,
+            holding: SmallSet::none(machines),
+            spinning: SmallSet::none(machines),
         })
     }
 

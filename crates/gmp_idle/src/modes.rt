@@ -1,9 +1,9 @@
 //! What each machine does.
 ghost use Rattle.std.specs.Prelude.{◌≡◌, ◌≤◌, ◌<◌, length, replicate, slice_get, slice_set, IfOk};
 ghost use Rattle.gmp_seq.specs.declared.status.Mode.{Mode};
-ghost use Rattle.gmp_idle.specs.Tables.{Wakes};
+ghost use Rattle.gmp_idle.specs.Tables.{WakesLeast};
 
-use crate::numbers::Numbers;
+use crate::small_set::SmallSet;
 use gmp_base::MNo;
 use gmp_seq::Mode;
 use std::alloc::{AllocError, Global};
@@ -16,7 +16,7 @@ use std::marker::Model;
 pub(crate) struct Modes {
     modes: Vec<Mode>,
     /// Those that are parked.
-    parked: Numbers,
+    parked: SmallSet,
 }
 
 impl Model for Modes {
@@ -33,13 +33,13 @@ impl Model for Modes {
 
 impl Modes {
     /// All machines are awake. The cost is linear.
-    pub(crate) fn awake(alloc: Global, machines: u8) -> Result<Self, AllocError>
+    pub(crate) fn all_awake(alloc: Global, machines: u8) -> Result<Self, AllocError>
         requires { machines ≤ 64 }
         ensures { IfOk result (λ w. w ≡ replicate machines Mode.Awake) }
     {
         Ok(Modes {
             modes: vec![in alloc; Mode::Awake; machines as usize]?,
-            parked: Numbers::none(machines),
+            parked: SmallSet::none(machines),
         })
     }
 
@@ -64,7 +64,7 @@ impl Modes {
 
     /// Wakes the least parked machine.
     pub(crate) fn wake_least(&mut self) -> Option<MNo>
-        ensures { Wakes result self.old self.new }
+        ensures { WakesLeast result self.old self.new }
     {
         let m = MNo(self.parked.least()?);
         self.put(m, Mode::Awake);

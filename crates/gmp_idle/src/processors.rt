@@ -3,9 +3,9 @@ ghost use Rattle.std.specs.Prelude.{◌≡◌, ◌≤◌, ◌<◌, false, None, 
 ghost use Rattle.std.specs.List.{list_any};
 ghost use Rattle.std.specs.Option.{option_map_or};
 ghost use Rattle.gmp_seq.specs.Machines.{is_held_by};
-ghost use Rattle.gmp_idle.specs.Tables.{Takes};
+ghost use Rattle.gmp_idle.specs.Tables.{TakesLeast};
 
-use crate::numbers::Numbers;
+use crate::small_set::SmallSet;
 use gmp_base::{MNo, PNo};
 use std::alloc::{AllocError, Global};
 use std::marker::Model;
@@ -17,7 +17,7 @@ use std::marker::Model;
 pub(crate) struct Processors {
     holders: Vec<Option<MNo>>,
     /// Those that nobody holds.
-    idle: Numbers,
+    idle: SmallSet,
 }
 
 impl Model for Processors {
@@ -40,7 +40,7 @@ impl Processors {
     {
         Ok(Processors {
             holders: vec![in alloc; None; procs as usize]?,
-            idle: Numbers::all(procs),
+            idle: SmallSet::all(procs),
         })
     }
 
@@ -69,7 +69,7 @@ impl Processors {
 
     /// Lets m hold the least idle processor.
     pub(crate) fn take(&mut self, m: MNo) -> Option<PNo>
-        ensures { Takes m result self.old self.new }
+        ensures { TakesLeast m result self.old self.new }
     {
         let p = self.idle.least()?;
         self.idle.remove(p);

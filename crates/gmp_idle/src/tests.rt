@@ -59,7 +59,7 @@ fn poke(rt: &impl Abort, w: &mut Machines, m: u8) -> Option<u8> {
 
 #[test]
 fn the_least_idle_is_acquired(rt: HostRuntime) -> Result<(), Fail> {
-    let mut w = Machines::awake(rt.alloc(), 2, 3)?;
+    let mut w = Machines::opening(rt.alloc(), 2, 3)?;
     assert!(rt; w.has_idle());
     assert_eq!(rt; acquire(&rt, &mut w, 0), Some(0));
     assert_eq!(rt; acquire(&rt, &mut w, 1), Some(1));
@@ -79,7 +79,7 @@ fn the_least_idle_is_acquired(rt: HostRuntime) -> Result<(), Fail> {
 
 #[test]
 fn as_many_as_there_may_be(rt: HostRuntime) -> Result<(), Fail> {
-    let mut w = Machines::awake(rt.alloc(), 32, 64)?;
+    let mut w = Machines::opening(rt.alloc(), 32, 64)?;
     for m in 0..32u8 {
         assert_eq!(rt; acquire(&rt, &mut w, m), Some(m), "at {m}");
     }
@@ -102,7 +102,7 @@ fn as_many_as_there_may_be(rt: HostRuntime) -> Result<(), Fail> {
 
 #[test]
 fn as_many_spin_as_there_are_processors(rt: HostRuntime) -> Result<(), Fail> {
-    let mut w = Machines::awake(rt.alloc(), 2, 3)?;
+    let mut w = Machines::opening(rt.alloc(), 2, 3)?;
     assert!(rt; spin(&rt, &mut w, 0));
     assert!(rt; !spin(&rt, &mut w, 0));
     assert!(rt; spin(&rt, &mut w, 1));
@@ -122,7 +122,7 @@ fn as_many_spin_as_there_are_processors(rt: HostRuntime) -> Result<(), Fail> {
 #[test]
 fn nobody_is_poked(rt: HostRuntime) -> Result<(), Fail> {
     // The one processor is held.
-    let mut held = Machines::awake(rt.alloc(), 1, 2)?;
+    let mut held = Machines::opening(rt.alloc(), 1, 2)?;
     assert_eq!(rt; acquire(&rt, &mut held, 0), Some(0));
     park(&rt, &mut held, 1);
     assert_eq!(rt; poke(&rt, &mut held, 0), None);
@@ -133,7 +133,7 @@ fn nobody_is_poked(rt: HostRuntime) -> Result<(), Fail> {
     assert_eq!(rt; poke(&rt, &mut held, 0), None);
 
     // Somebody spins.
-    let mut spun = Machines::awake(rt.alloc(), 1, 3)?;
+    let mut spun = Machines::opening(rt.alloc(), 1, 3)?;
     park(&rt, &mut spun, 1);
     assert!(rt; spin(&rt, &mut spun, 2));
     assert_eq!(rt; poke(&rt, &mut spun, 0), None);
@@ -144,7 +144,7 @@ fn nobody_is_poked(rt: HostRuntime) -> Result<(), Fail> {
 
 #[test]
 fn a_blocking_call_hands_the_processor_on(rt: HostRuntime) -> Result<(), Fail> {
-    let mut w = Machines::awake(rt.alloc(), 1, 4)?;
+    let mut w = Machines::opening(rt.alloc(), 1, 4)?;
     assert_eq!(rt; acquire(&rt, &mut w, 0), Some(0));
     park(&rt, &mut w, 3);
     park(&rt, &mut w, 2);
@@ -176,7 +176,7 @@ fn woken(rt: &impl Abort, w: &Machines, m: u8) -> bool {
 
 #[test]
 fn a_machine_looks_whether_it_was_woken(rt: HostRuntime) -> Result<(), Fail> {
-    let mut w = Machines::awake(rt.alloc(), 1, 2)?;
+    let mut w = Machines::opening(rt.alloc(), 1, 2)?;
     assert!(rt; woken(&rt, &w, 1));
     assert!(rt; w.is_awake(MNo(1)));
     park_and_look(&rt, &mut w, 1);

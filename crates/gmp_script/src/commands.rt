@@ -129,9 +129,9 @@ impl ScriptBody {
 
 impl Body for ScriptBody {
     ghost use Rattle.std.specs.Prelude.{◌≡◌};
-    ghost use Rattle.gmp_script.specs.Script.{Resumes, called_number};
+    ghost use Rattle.gmp_script.specs.Script.{AsksNext, called_number};
 
-    ghost resumed = { λ before _ ask after. Resumes before ask after };
+    ghost resumed = { λ before _ ask after. AsksNext before ask after };
 
     ghost blocked = { λ before n after. (n ≡ called_number before) × (after ≡ before) };
 

@@ -1,44 +1,14 @@
 //! Who waits for any of its cases, and the case that proceeds.
-ghost use Rattle.std.specs.Prelude.{◌≡◌, ◌<◌, [], ◌∷◌, ◌++◌, Some, true, count_by, is_some, option_to_list, IfNone, IfSome};
+ghost use Rattle.std.specs.Prelude.{◌≡◌, ◌<◌, ◌++◌, Some, true, count_by, is_some, IfNone, IfSome};
 ghost use Rattle.gmp_seq.specs.declared.status.Kind.{Kind};
 ghost use Rattle.gmp_seq.specs.declared.status.Waiter.{Waiter};
-ghost use Rattle.gmp_seq.specs.Waits.{Proceeds, as_waiters, can, channel_of, names_no_missing, offers_from, offers_of};
+ghost use Rattle.gmp_seq.specs.Waits.{Proceeds, as_waiters, can, channel_of, names_no_missing, offers_of};
 ghost use Rattle.gmp_chan.specs.Contents.{is_of, without, without_served};
 ghost use Rattle.gmp_select.specs.Waiting.{served};
 
 use gmp_base::{Case, Cases, GNo};
 use gmp_chan::Channels;
-use gmp_seq::{Deal, Kind, Offer, Offers, Transfer};
-
-/// What a case offers once it waits: nothing on nil.
-pub fn offer_of(i: u8, case: Case) -> Option<Offer>
-    ensures { option_to_list result ≡ offers_from i (case ∷ []) }
-{
-    let (channel, deal) = match case {
-        Case::Send(c, v) => (c?, Deal::Send(v)),
-        Case::Recv(c) => (c?, Deal::Receive),
-    };
-    Some(Offer {
-        case: i,
-        channel,
-        deal,
-    })
-}
-
-/// The offers of a select: one for each case that isn't on nil, by its number.
-fn offers_of(cases: &Cases) -> Offers
-    ensures { result ≡ offers_of cases.now }
-{
-    let mut offers = Offers::new();
-    let mut i = 0;
-    for case in cases.as_slice() {
-        if let Some(offer) = offer_of(i, *case) {
-            offers.push(offer);
-        }
-        i += 1;
-    }
-    offers
-}
+use gmp_seq::{Kind, Offers, Transfer};
 
 /// Goroutine g begins to wait for any of these cases, since this arrival, and answers what it waits for. It has no offer yet.
 pub fn register(channels: &mut Channels, g: GNo, arrival: u64, cases: &Cases) -> Offers
@@ -47,7 +17,7 @@ pub fn register(channels: &mut Channels, g: GNo, arrival: u64, cases: &Cases) ->
     ensures offers { result ≡ offers_of cases.now }
     ensures waiters { channels.new ≡ record channels.old { waiters = channels.old.waiters ++ as_waiters g arrival Kind.Select (offers_of cases.now) } }
 {
-    let offers = offers_of(cases);
+    let offers = Offers::of(cases.as_slice());
     channels.wait_on(g, arrival, Kind::Select, &offers);
     offers
 }

@@ -4,8 +4,26 @@ ghost use Rattle.gmp_seq.specs.Fits.{AreLimits};
 
 use crate::call::Limits;
 
+/// The most processors.
+pub const MOST_PROCS: u8 = 32;
+
+/// The most machines.
+pub const MOST_MACHINES: u8 = 64;
+
+/// The most bodies, and so goroutines.
+pub const MOST_BODIES: usize = 4096;
+
+/// The most channels.
+pub const MOST_CHANNELS: u16 = 1024;
+
 /// The most that a channel's buffer may hold.
-const MOST_CAPACITY: u32 = 4096;
+pub const MOST_CAPACITY: u32 = 4096;
+
+/// The fewest entries of a history.
+pub const LEAST_ENTRIES: u32 = 16;
+
+/// The most entries of a history.
+pub const MOST_ENTRIES: u32 = 1_000_000;
 
 fn fit_all(capacities: &[u32]) -> bool
     ensures { IsTrue result ↔ All (λ capacity. capacity ≤ 4096) capacities.now }
@@ -26,12 +44,16 @@ impl Limits {
     {
         let machines = self.machines as usize;
         let channels = self.channels as usize;
-        is_between(1, self.procs as usize, 32)
-            & is_between(self.procs as usize, machines, 64)
-            & is_between(1, bodies, 4096)
-            & is_between(capacities.len(), channels, 1024)
+        is_between(1, self.procs as usize, MOST_PROCS as usize)
+            & is_between(self.procs as usize, machines, MOST_MACHINES as usize)
+            & is_between(1, bodies, MOST_BODIES)
+            & is_between(capacities.len(), channels, MOST_CHANNELS as usize)
             & fit_all(capacities)
-            & is_between(16, self.entries as usize, 1_000_000)
+            & is_between(
+                LEAST_ENTRIES as usize,
+                self.entries as usize,
+                MOST_ENTRIES as usize,
+            )
     }
 }
 

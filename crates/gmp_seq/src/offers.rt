@@ -1,10 +1,21 @@
-//! What an offer would do, and what one that waited is told.
-ghost use Rattle.std.specs.Prelude.{◌≡◌};
+//! What a case offers, what an offer would do, and what one that waited is told.
+ghost use Rattle.std.specs.Prelude.{◌≡◌, ◌≤◌, ◌==◌, ◌∷◌, [], find, length, option_to_list};
+ghost use Rattle.gmp_seq.specs.declared.status.Offer.{Offer};
 ghost use Rattle.gmp_seq.specs.Table.{late_answer};
-ghost use Rattle.gmp_seq.specs.Waits.{closed_answer, direction_of, is_on, is_select, offered, receiver_answer, same_direction, sender_answer};
+ghost use Rattle.gmp_seq.specs.Waits.{channel_of, closed_answer, direction_of, is_on, is_select, offered, offers_from, offers_of, receiver_answer, same_direction, sender_answer};
 
-use crate::status::{Deal, Direction, Kind, Offer, Waiter};
-use gmp_base::{CNo, Fault, Woke};
+use crate::status::{Deal, Direction, Kind, Offer, Offers, Waiter};
+use gmp_base::{CNo, Case, Fault, Woke};
+
+/// The channel that a case names: none is nil.
+pub fn channel_of(case: Case) -> Option<CNo>
+    ensures { result ≡ channel_of case }
+{
+    match case {
+        Case::Send(c, _) => c,
+        Case::Recv(c) => c,
+    }
+}
 
 fn same_direction(a: Direction, b: Direction) -> bool
     ensures { result ≡ same_direction a b }
@@ -46,6 +57,21 @@ impl Kind {
 }
 
 impl Offer {
+    /// What the case of this number offers once it waits: nothing on nil.
+    pub fn of(number: u8, case: Case) -> Option<Self>
+        ensures { option_to_list result ≡ offers_from number (case ∷ []) }
+    {
+        let (channel, deal) = match case {
+            Case::Send(c, v) => (c?, Deal::Send(v)),
+            Case::Recv(c) => (c?, Deal::Receive),
+        };
+        Some(Offer {
+            case: number,
+            channel,
+            deal,
+        })
+    }
+
     /// What a receiver is told that gets v, which was sent or not.
     pub fn receiver_answer(self, kind: Kind, v: u64, sent: bool) -> Woke
         ensures { result ≡ receiver_answer kind self v sent }
@@ -65,6 +91,32 @@ impl Offer {
             Deal::Send(_) => Woke::Fault(Fault::SendOnClosed),
             Deal::Receive => self.receiver_answer(kind, 0, false),
         }
+    }
+}
+
+impl Offers {
+    /// An offer for each case that isn't on nil, by its number.
+    pub fn of(cases: &[Case]) -> Self
+        requires { length cases.now ≤ 8 }
+        ensures { result ≡ offers_of cases.now }
+    {
+        let mut offers = Offers::new();
+        for (i, case) in cases.iter().enumerate() {
+            if let Some(offer) = Offer::of(i as u8, *case) {
+                offers.push(offer);
+            }
+        }
+        offers
+    }
+
+    /// The first that is on this channel.
+    pub fn first_on(&self, c: CNo) -> Option<Offer>
+        ensures { result ≡ find (λ (o : Offer). o.channel.0 == c.0) self.now }
+    {
+        self.as_slice()
+            .iter()
+            .copied()
+            .find(|offer| offer.channel.0 == c.0)
     }
 }
 

@@ -37,31 +37,16 @@ impl Model for Rows {
     ghost invariant = { λ r. IsCounted r.list.items r.bodies r.going r.calling r.timed };
 }
 
-fn is_going(status: &Status) -> bool
-    ensures { result ≡ is_ready_or_running status.now }
-{
-    matches!(status, Status::Ready(_, _) | Status::Running(_))
-}
-
 fn is_calling(status: &Status) -> bool
     ensures { result ≡ is_calling status.now }
 {
     matches!(status, Status::Calling(_))
 }
 
-fn deadline(status: &Status) -> Option<u64>
-    ensures { result ≡ deadline_of status.now }
-{
-    match status {
-        Status::Waiting(wait) => wait.until,
-        _ => None,
-    }
-}
-
 fn has_deadline(status: &Status) -> bool
     ensures { result ≡ has_deadline status.now }
 {
-    deadline(status).is_some()
+    status.deadline().is_some()
 }
 
 /// The earlier of two deadlines, where they stand.
@@ -140,8 +125,12 @@ impl Rows {
     {
         let i = g.0 as usize;
         let was = &self.list[i].status;
-        let (going, calling, timed) = (is_going(was), is_calling(was), has_deadline(was));
-        self.going = self.going - going as usize + is_going(&row.status) as usize;
+        let (going, calling, timed) = (
+            was.is_ready_or_running(),
+            is_calling(was),
+            has_deadline(was),
+        );
+        self.going = self.going - going as usize + row.status.is_ready_or_running() as usize;
         self.calling = self.calling - calling as usize + is_calling(&row.status) as usize;
         self.timed = self.timed - timed as usize + has_deadline(&row.status) as usize;
         self.list[i] = row;
@@ -230,7 +219,7 @@ impl Rows {
         let mut i = self.list.len();
         while i > 0 {
             i -= 1;
-            least = earlier(deadline(&self.list[i].status), least);
+            least = earlier(self.list[i].status.deadline(), least);
         }
         least
     }

@@ -287,7 +287,7 @@ impl StatusTable {
     }
 
     /// Lets the clock show this moment, in nanoseconds, unless it showed a later one, and answers what it shows.
-    pub fn show(&mut self, moment: u64) -> u64
+    pub fn advance_clock(&mut self, moment: u64) -> u64
         ensures shown { result ≡ max self.old.table.clock moment }
         ensures table { self.new ≡ record self.old { table = record self.old.table { clock = result } } }
     {

@@ -111,7 +111,7 @@ fn claims(rt: HostRuntime) -> Result<(), Fail> {
 fn the_clock_never_goes_back(rt: HostRuntime) -> Result<(), Fail> {
     let mut table = StatusTable::open(rt.alloc(), 1)?;
     for (moment, shown) in [(0, 0), (7, 7), (3, 7), (8, 8), (0, 8)] {
-        assert_eq!(rt; table.show(moment), shown, "at {moment}");
+        assert_eq!(rt; table.advance_clock(moment), shown, "at {moment}");
         assert_eq!(rt; table.clock(), shown, "at {moment}");
     }
     Ok(())

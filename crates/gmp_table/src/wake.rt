@@ -1,11 +1,10 @@
 //! Whom a close or a tick wakes.
-ghost use Rattle.std.specs.Prelude.{◌≡◌, ◌==◌, find};
-ghost use Rattle.gmp_seq.specs.declared.status.Offer.{Offer};
+ghost use Rattle.std.specs.Prelude.{◌≡◌};
 ghost use Rattle.gmp_seq.specs.declared.status.Status.{Status};
 ghost use Rattle.gmp_table.specs.Waking.{is_before, candidate_of, earlier_of, rank_of, answer_of};
 
 use gmp_base::{CNo, GNo, Woke};
-use gmp_seq::{Offer, Status, Wait};
+use gmp_seq::{Status, Wait};
 
 /// Why goroutines are woken.
 #[derive(Clone, Copy, Debug, PartialEq, Eq)]
@@ -88,20 +87,13 @@ impl Candidate {
     }
 }
 
-/// The first of these offers on the channel.
-fn first_on(offers: &[Offer], c: CNo) -> Option<Offer>
-    ensures { result ≡ find (λ (o : Offer). o.channel.0 == c.0) offers.now }
-{
-    offers.iter().copied().find(|offer| offer.channel.0 == c.0)
-}
-
 /// What one that waits is told, if it is woken.
 fn answer(wake: Wake, wait: &Wait) -> Option<Woke>
     ensures { result ≡ answer_of wake (Status.Waiting wait.now) }
 {
     match wake {
         Wake::Closed(c) => {
-            let offer = first_on(wait.offers.as_slice(), c)?;
+            let offer = wait.offers.first_on(c)?;
             Some(offer.closed_answer(wait.kind))
         }
         Wake::Due(now) => {

@@ -11,8 +11,8 @@ ghost use Rattle.gmp_book.specs.Served.{plain_reply, served_answer, with_served}
 
 use crate::goroutines::Goroutines;
 use gmp_base::{CNo, Case, Fault, GNo, MNo, Woke};
-use gmp_select::{complete, offer_of};
-use gmp_seq::{Kind, Offers, Relay, Reply, Taken, Transfer, Waiter};
+use gmp_select::complete;
+use gmp_seq::{Kind, Offer, Offers, Relay, Reply, Taken, Transfer, Waiter};
 use gmp_table::StatusTable;
 
 /// The channel that a case names.
@@ -30,7 +30,7 @@ fn one_offer(case: Case) -> Offers
     ensures { result ≡ offers_of (case ∷ []) }
 {
     let mut offers = Offers::new();
-    if let Some(offer) = offer_of(0, case) {
+    if let Some(offer) = Offer::of(0, case) {
         offers.push(offer);
     }
     offers

@@ -1,25 +1,13 @@
 //! Sends, receives, selects and closes. Each answers whether the reply is one that the definitions allow, and changes the state only where it is.
 ghost use Rattle.std.specs.Prelude.{◌≡◌, ◌≤◌, length, slice_get};
 ghost use Rattle.gmp_seq.specs.Step.{Blocks, Closes, Deals, Selects, none_missing};
-ghost use Rattle.gmp_seq.specs.Waits.{channel_of};
 ghost use Rattle.gmp_check.specs.Decides.{Decides};
 ghost use Rattle.gmp_check.specs.Reached.{IsReached, SameRest};
 
 use super::State;
 use crate::answers::Cause;
-use crate::offers::offers_of;
 use gmp_base::{CNo, Case, Fault, GNo};
-use gmp_seq::{Kind, Reply, Taken};
-
-/// The channel that a case names.
-fn channel_of(case: Case) -> Option<CNo>
-    ensures { result ≡ channel_of case }
-{
-    match case {
-        Case::Send(c, _) => c,
-        Case::Recv(c) => c,
-    }
-}
+use gmp_seq::{Kind, Offers, Reply, Taken, channel_of};
 
 fn case_at(cases: &[Case], i: u8) -> Option<Case>
     ensures { result ≡ slice_get cases.now i }
@@ -47,7 +35,7 @@ impl State {
         if self.some_can(cases) {
             return false;
         }
-        self.table.make_wait(g, kind, offers_of(cases), until);
+        self.table.make_wait(g, kind, Offers::of(cases), until);
         true
     }
 

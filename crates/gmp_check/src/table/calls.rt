@@ -5,7 +5,6 @@ ghost use Rattle.gmp_seq.specs.Table.{epoch_at};
 ghost use Rattle.gmp_check.specs.Decides.{Decides};
 
 use super::Table;
-use crate::status::{is_dormant, is_parked};
 use gmp_base::{Fault, GNo, MNo, Readiness, Woke};
 use gmp_seq::{Kind, Offers, Place, Reply, Status};
 
@@ -60,7 +59,7 @@ impl Table {
                 true
             }
             (Reply::Fault(Fault::NoSuchBody), None) => true,
-            (Reply::Fault(Fault::AlreadyStarted), Some(status)) => !is_dormant(status),
+            (Reply::Fault(Fault::AlreadyStarted), Some(status)) => !status.is_dormant(),
             _ => false,
         }
     }
@@ -123,12 +122,12 @@ impl Table {
         ensures { Decides (Readies g reply) self.old self.new result }
     {
         match (reply, self.status(g)) {
-            (Reply::Ticket(r), Some(status)) if is_parked(status) && r == self.next(g) => {
+            (Reply::Ticket(r), Some(status)) if status.is_parked() && r == self.next(g) => {
                 self.make_ready(g, Place::Out, Woke::Done);
                 true
             }
             (Reply::Fault(Fault::NoSuchBody), None) => true,
-            (Reply::Fault(Fault::NotParked), Some(status)) => !is_parked(status),
+            (Reply::Fault(Fault::NotParked), Some(status)) => !status.is_parked(),
             _ => false,
         }
     }

@@ -9,7 +9,6 @@ ghost use Rattle.gmp_check.specs.Decides.{Decides};
 
 use super::Table;
 use crate::answers::Cause;
-use crate::status::deadline;
 use gmp_base::GNo;
 use gmp_seq::{Goroutine, Place, Reply, Status};
 
@@ -28,7 +27,7 @@ fn least_of(rows: &[Goroutine]) -> Option<u64>
 {
     let mut least = None;
     for row in rows {
-        least = earlier(least, deadline(&row.status));
+        least = earlier(least, row.status.deadline());
     }
     least
 }

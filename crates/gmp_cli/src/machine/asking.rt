@@ -9,7 +9,7 @@ use gmp_script::ScriptBody;
 use std::alloc::{AllocError, Global};
 
 impl Machine {
-    ghost use Rattle.gmp_cli.specs.Driven.{BlocksBy, Driving, Drives, GoesOn, GoesOnBy, GoesOnByChoice, call_of, is_poke, pushed};
+    ghost use Rattle.gmp_cli.specs.Driven.{BlocksBy, Driving, Drives, AddsEntry, AddsEntryBy, AddsEntryByChoice, call_of, is_poke, pushed};
     ghost use Rattle.gmp_cli.specs.Program.{SameOwn};
     ghost use Rattle.gmp_script.specs.Script.{next_ask};
     ghost use Rattle.gmp_seq.specs.declared.call.Call.TheVariants.{Cap, Close, Exit, Go, Gopark, Len, Make, Ready, Recv, Select, Send, Sleep, Yield};
@@ -24,9 +24,9 @@ impl Machine {
         requires ongoing { self.old.book.log.state.outcome ≡ None }
         requires drives { Driving self.old (Hand.Run proc held) }
         ensures drives { IfOk result (Driving self.new) }
-        ensures goes { OnOk result (GoesOn self.old.book.log self.new.book.log) }
+        ensures goes { OnOk result (AddsEntry self.old.book.log self.new.book.log) }
         ensures own { OnOk result (SameOwn self.old self.new) }
-        ensures asked { OnOk result (GoesOnBy (call_of (next_ask held.body)) self.old.book.log self.new.book.log) }
+        ensures asked { OnOk result (AddsEntryBy (call_of (next_ask held.body)) self.old.book.log self.new.book.log) }
         ensures blocks { next_ask held.body ≡ Ask.Block → IfOk result (BlocksBy held.body) }
     {
         let (run, g, woke, mut body) = held.open();
@@ -82,9 +82,9 @@ impl Machine {
         requires ongoing { self.old.book.log.state.outcome ≡ None }
         requires drives { Driving self.old (Hand.Run proc held) }
         ensures drives { Driving self.new result }
-        ensures goes { GoesOn self.old.book.log self.new.book.log }
+        ensures goes { AddsEntry self.old.book.log self.new.book.log }
         ensures own { SameOwn self.old self.new }
-        ensures call { GoesOnBy Yield self.old.book.log self.new.book.log }
+        ensures call { AddsEntryBy Yield self.old.book.log self.new.book.log }
     {
         match self.book.yield_to(&mut self.pass, held) {
             Ok(()) => Hand::Look(proc),
@@ -97,9 +97,9 @@ impl Machine {
         requires ongoing { self.old.book.log.state.outcome ≡ None }
         requires drives { Driving self.old (Hand.Run proc held) }
         ensures drives { Driving self.new result }
-        ensures goes { GoesOn self.old.book.log self.new.book.log }
+        ensures goes { AddsEntry self.old.book.log self.new.book.log }
         ensures own { SameOwn self.old self.new }
-        ensures call { GoesOnBy Exit self.old.book.log self.new.book.log }
+        ensures call { AddsEntryBy Exit self.old.book.log self.new.book.log }
     {
         match self.book.exit(&mut self.pass, held) {
             Ok(_) => Hand::Look(proc),
@@ -112,9 +112,9 @@ impl Machine {
         requires ongoing { self.old.book.log.state.outcome ≡ None }
         requires drives { Driving self.old (Hand.Run proc held) }
         ensures drives { Driving self.new result }
-        ensures goes { GoesOn self.old.book.log self.new.book.log }
+        ensures goes { AddsEntry self.old.book.log self.new.book.log }
         ensures own { SameOwn self.old self.new }
-        ensures call { GoesOnBy (Sleep until) self.old.book.log self.new.book.log }
+        ensures call { AddsEntryBy (Sleep until) self.old.book.log self.new.book.log }
     {
         match self.book.sleep(&mut self.pass, held, until) {
             Ok(()) => Hand::Look(proc),
@@ -127,9 +127,9 @@ impl Machine {
         requires ongoing { self.old.book.log.state.outcome ≡ None }
         requires drives { Driving self.old (Hand.Run proc held) }
         ensures drives { Driving self.new result }
-        ensures goes { GoesOn self.old.book.log self.new.book.log }
+        ensures goes { AddsEntry self.old.book.log self.new.book.log }
         ensures own { SameOwn self.old self.new }
-        ensures call { GoesOnBy Gopark self.old.book.log self.new.book.log }
+        ensures call { AddsEntryBy Gopark self.old.book.log self.new.book.log }
     {
         match self.book.park_g(&mut self.pass, held) {
             Ok(()) => Hand::Look(proc),
@@ -142,9 +142,9 @@ impl Machine {
         requires ongoing { self.old.book.log.state.outcome ≡ None }
         requires drives { Driving self.old (Hand.Run proc held) }
         ensures drives { Driving self.new result }
-        ensures goes { GoesOn self.old.book.log self.new.book.log }
+        ensures goes { AddsEntry self.old.book.log self.new.book.log }
         ensures own { SameOwn self.old self.new }
-        ensures call { GoesOnBy (Ready g) self.old.book.log self.new.book.log }
+        ensures call { AddsEntryBy (Ready g) self.old.book.log self.new.book.log }
     {
         match self.book.ready(&mut self.pass, held, g) {
             Ok(went) => self.settle(proc, went, 0),
@@ -157,9 +157,9 @@ impl Machine {
         requires ongoing { self.old.book.log.state.outcome ≡ None }
         requires drives { Driving self.old (Hand.Run proc held) }
         ensures drives { Driving self.new result }
-        ensures goes { GoesOn self.old.book.log self.new.book.log }
+        ensures goes { AddsEntry self.old.book.log self.new.book.log }
         ensures own { SameOwn self.old self.new }
-        ensures call { GoesOnBy (Go body) self.old.book.log self.new.book.log }
+        ensures call { AddsEntryBy (Go body) self.old.book.log self.new.book.log }
     {
         match self.book.go(&mut self.pass, held, body) {
             Ok(went) => self.settle(proc, went, 0),
@@ -178,9 +178,9 @@ impl Machine {
         requires ongoing { self.old.book.log.state.outcome ≡ None }
         requires drives { Driving self.old (Hand.Run proc held) }
         ensures drives { IfOk result (Driving self.new) }
-        ensures goes { OnOk result (GoesOn self.old.book.log self.new.book.log) }
+        ensures goes { OnOk result (AddsEntry self.old.book.log self.new.book.log) }
         ensures own { OnOk result (SameOwn self.old self.new) }
-        ensures call { OnOk result (GoesOnBy (Make capacity) self.old.book.log self.new.book.log) }
+        ensures call { OnOk result (AddsEntryBy (Make capacity) self.old.book.log self.new.book.log) }
     {
         match self.book.make(alloc, &mut self.pass, held, capacity) {
             Ok(went) => Ok(self.settle(proc, went, 0)),
@@ -198,9 +198,9 @@ impl Machine {
         requires ongoing { self.old.book.log.state.outcome ≡ None }
         requires drives { Driving self.old (Hand.Run proc held) }
         ensures drives { Driving self.new result }
-        ensures goes { GoesOn self.old.book.log self.new.book.log }
+        ensures goes { AddsEntry self.old.book.log self.new.book.log }
         ensures own { SameOwn self.old self.new }
-        ensures call { GoesOnBy (Send c v) self.old.book.log self.new.book.log }
+        ensures call { AddsEntryBy (Send c v) self.old.book.log self.new.book.log }
     {
         match self.book.send(&mut self.pass, held, c, v) {
             Ok(moved) => match moved {
@@ -216,9 +216,9 @@ impl Machine {
         requires ongoing { self.old.book.log.state.outcome ≡ None }
         requires drives { Driving self.old (Hand.Run proc held) }
         ensures drives { Driving self.new result }
-        ensures goes { GoesOn self.old.book.log self.new.book.log }
+        ensures goes { AddsEntry self.old.book.log self.new.book.log }
         ensures own { SameOwn self.old self.new }
-        ensures call { GoesOnBy (Recv c) self.old.book.log self.new.book.log }
+        ensures call { AddsEntryBy (Recv c) self.old.book.log self.new.book.log }
     {
         match self.book.recv(&mut self.pass, held, c) {
             Ok(moved) => match moved {
@@ -242,10 +242,10 @@ impl Machine {
         requires ongoing { self.old.book.log.state.outcome ≡ None }
         requires drives { Driving self.old (Hand.Run proc held) }
         ensures drives { Driving self.new result }
-        ensures goes { GoesOn self.old.book.log self.new.book.log }
+        ensures goes { AddsEntry self.old.book.log self.new.book.log }
         ensures own { SameOwn self.old self.new }
-        ensures call { GoesOnBy (Select cases.now has_default until) self.old.book.log self.new.book.log }
-        ensures choice { GoesOnByChoice cases.now self.old.word self.old.book.log self.new.book.log }
+        ensures call { AddsEntryBy (Select cases.now has_default until) self.old.book.log self.new.book.log }
+        ensures choice { AddsEntryByChoice cases.now self.old.word self.old.book.log self.new.book.log }
     {
         match self
             .book
@@ -264,9 +264,9 @@ impl Machine {
         requires ongoing { self.old.book.log.state.outcome ≡ None }
         requires drives { Driving self.old (Hand.Run proc held) }
         ensures drives { Driving self.new result }
-        ensures goes { GoesOn self.old.book.log self.new.book.log }
+        ensures goes { AddsEntry self.old.book.log self.new.book.log }
         ensures own { SameOwn self.old self.new }
-        ensures call { GoesOnBy (Close c) self.old.book.log self.new.book.log }
+        ensures call { AddsEntryBy (Close c) self.old.book.log self.new.book.log }
     {
         match self.book.close(&mut self.pass, held, c) {
             Ok((went, woken)) => self.settle(proc, went, woken),
@@ -279,9 +279,9 @@ impl Machine {
         requires ongoing { self.old.book.log.state.outcome ≡ None }
         requires drives { Driving self.old (Hand.Run proc held) }
         ensures drives { Driving self.new result }
-        ensures goes { GoesOn self.old.book.log self.new.book.log }
+        ensures goes { AddsEntry self.old.book.log self.new.book.log }
         ensures own { SameOwn self.old self.new }
-        ensures call { GoesOnBy (Len c) self.old.book.log self.new.book.log }
+        ensures call { AddsEntryBy (Len c) self.old.book.log self.new.book.log }
     {
         match self.book.len(&mut self.pass, held, c) {
             Ok(went) => self.settle(proc, went, 0),
@@ -294,9 +294,9 @@ impl Machine {
         requires ongoing { self.old.book.log.state.outcome ≡ None }
         requires drives { Driving self.old (Hand.Run proc held) }
         ensures drives { Driving self.new result }
-        ensures goes { GoesOn self.old.book.log self.new.book.log }
+        ensures goes { AddsEntry self.old.book.log self.new.book.log }
         ensures own { SameOwn self.old self.new }
-        ensures call { GoesOnBy (Cap c) self.old.book.log self.new.book.log }
+        ensures call { AddsEntryBy (Cap c) self.old.book.log self.new.book.log }
     {
         match self.book.cap(&mut self.pass, held, c) {
             Ok(went) => self.settle(proc, went, 0),

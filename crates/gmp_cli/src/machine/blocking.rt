@@ -8,7 +8,7 @@ use gmp_script::ScriptBody;
 
 impl Machine {
     ghost use Rattle.gmp_cli.specs.Program.{SameOwn};
-    ghost use Rattle.gmp_cli.specs.Driven.{Driving, GoesOn, GoesOnBy, RunsOn};
+    ghost use Rattle.gmp_cli.specs.Driven.{Driving, AddsEntry, AddsEntryBy, RunsOn};
     ghost use Rattle.gmp_script.specs.Script.{called_number};
     ghost use Rattle.gmp_seq.specs.declared.call.Call.TheVariants.{Enter, Leave};
 
@@ -17,9 +17,9 @@ impl Machine {
         requires ongoing { self.old.book.log.state.outcome ≡ None }
         requires drives { Driving self.old (Hand.Run proc held) }
         ensures drives { Driving self.new result }
-        ensures goes { GoesOn self.old.book.log self.new.book.log }
+        ensures goes { AddsEntry self.old.book.log self.new.book.log }
         ensures own { SameOwn self.old self.new }
-        ensures call { GoesOnBy Enter self.old.book.log self.new.book.log }
+        ensures call { AddsEntryBy Enter self.old.book.log self.new.book.log }
         ensures called { result ≡ Hand.Block (record { run = held.run; g = held.g; body = held.body }) }
     {
         match self.book.enter(&mut self.pass, held, proc) {
@@ -34,9 +34,9 @@ impl Machine {
         requires ongoing { self.old.book.log.state.outcome ≡ None }
         requires drives { Driving self.old (Hand.Block called) }
         ensures drives { Driving self.new result }
-        ensures goes { GoesOn self.old.book.log self.new.book.log }
+        ensures goes { AddsEntry self.old.book.log self.new.book.log }
         ensures own { SameOwn self.old self.new }
-        ensures call { GoesOnBy (Leave (called_number called.body)) self.old.book.log self.new.book.log }
+        ensures call { AddsEntryBy (Leave (called_number called.body)) self.old.book.log self.new.book.log }
         ensures runs { RunsOn called result }
     {
         let (run, g, mut body) = called.open();

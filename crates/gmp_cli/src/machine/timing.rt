@@ -10,7 +10,7 @@ use gmp_book::Parking;
 impl Machine {
     ghost use Rattle.gmp_cli.specs.Program.{SameOwn};
     ghost use Rattle.gmp_cli.specs.Clock.{clock_after, reading};
-    ghost use Rattle.gmp_cli.specs.Driven.{Driving, GoesOn, GoesOnBy, wakes_some};
+    ghost use Rattle.gmp_cli.specs.Driven.{Driving, AddsEntry, AddsEntryBy, wakes_some};
     ghost use Rattle.gmp_seq.specs.declared.call.Call.TheVariants.{Park, Tick};
 
     /// Tells the book the clock's reading.
@@ -18,8 +18,8 @@ impl Machine {
         requires ongoing { self.old.book.log.state.outcome ≡ None }
         requires drives { Driving self.old (Hand.Look proc) }
         ensures drives { Driving self.new result }
-        ensures goes { GoesOn self.old.book.log self.new.book.log }
-        ensures call { GoesOnBy (Tick (reading self.old.clock None)) self.old.book.log self.new.book.log }
+        ensures goes { AddsEntry self.old.book.log self.new.book.log }
+        ensures call { AddsEntryBy (Tick (reading self.old.clock None)) self.old.book.log self.new.book.log }
         ensures clock { self.new.clock ≡ clock_after self.old.clock None }
         ensures turns { self.new.turns ≡ 0 }
         ensures word { self.new.word ≡ self.old.word }
@@ -41,9 +41,9 @@ impl Machine {
         requires ongoing { self.old.book.log.state.outcome ≡ None }
         requires drives { Driving self.old Hand.Park }
         ensures drives { Driving self.new result }
-        ensures goes { GoesOn self.old.book.log self.new.book.log }
+        ensures goes { AddsEntry self.old.book.log self.new.book.log }
         ensures own { SameOwn self.old self.new }
-        ensures call { GoesOnBy Park self.old.book.log self.new.book.log }
+        ensures call { AddsEntryBy Park self.old.book.log self.new.book.log }
         ensures asleep { self.new.book.log.state.outcome ≡ Some Outcome.AllAsleep ↔ IsAsleep self.old.book.log.state.table }
         ensures minds { (until : ℕ) → result ≡ Hand.Mind until ↔ (minded self.old.book.log.state.table ≡ Some until) }
     {
@@ -62,8 +62,8 @@ impl Machine {
         requires ongoing { self.old.book.log.state.outcome ≡ None }
         requires drives { Driving self.old (Hand.Mind until) }
         ensures drives { Driving self.new result }
-        ensures goes { GoesOn self.old.book.log self.new.book.log }
-        ensures call { GoesOnBy (Tick (reading self.old.clock (Some until))) self.old.book.log self.new.book.log }
+        ensures goes { AddsEntry self.old.book.log self.new.book.log }
+        ensures call { AddsEntryBy (Tick (reading self.old.clock (Some until))) self.old.book.log self.new.book.log }
         ensures clock { self.new.clock ≡ clock_after self.old.clock (Some until) }
         ensures turns { self.new.turns ≡ 0 }
         ensures word { self.new.word ≡ self.old.word }

@@ -1,5 +1,0 @@
-use Rattle.gmp_idle.proofs.Masks.{flags_none}
-use Rattle.gmp_idle.proofs.numbers.Numbers.none.Goals as goal
-
-pub returns : goal.returns
-returns c = flags_none c.args.size

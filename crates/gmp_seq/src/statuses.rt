@@ -1,0 +1,80 @@
+//! Questions on one goroutine's status.
+ghost use Rattle.std.specs.Prelude.{◌≡◌};
+ghost use Rattle.gmp_seq.specs.Table.{deadline_of, is_astir, is_calling_on, is_dormant, is_parked, is_ready_or_running, is_running_on, is_shelved};
+
+use crate::status::{Kind, Place, Status};
+use gmp_base::MNo;
+
+impl Status {
+    /// Whether it was not started.
+    pub fn is_dormant(&self) -> bool
+        ensures { result ≡ is_dormant self.now }
+    {
+        matches!(self, Status::Dormant)
+    }
+
+    /// Whether its ticket is on the shelf.
+    pub fn is_shelved(&self) -> bool
+        ensures { result ≡ is_shelved self.now }
+    {
+        matches!(self, Status::Ready(Place::Shelf, _))
+    }
+
+    /// Whether it waits for a `Ready`.
+    pub fn is_parked(&self) -> bool
+        ensures { result ≡ is_parked self.now }
+    {
+        match self {
+            Status::Waiting(wait) => matches!(wait.kind, Kind::Parked),
+            _ => false,
+        }
+    }
+
+    /// Whether this machine runs it.
+    pub fn is_running_on(&self, m: MNo) -> bool
+        ensures { result ≡ is_running_on m self.now }
+    {
+        match self {
+            Status::Running(n) => m.0 == n.0,
+            _ => false,
+        }
+    }
+
+    /// Whether this machine makes its blocking call.
+    pub fn is_calling_on(&self, m: MNo) -> bool
+        ensures { result ≡ is_calling_on m self.now }
+    {
+        match self {
+            Status::Calling(n) => m.0 == n.0,
+            _ => false,
+        }
+    }
+
+    /// Whether it can go on without anybody else.
+    pub fn is_ready_or_running(&self) -> bool
+        ensures { result ≡ is_ready_or_running self.now }
+    {
+        matches!(self, Status::Ready(_, _) | Status::Running(_))
+    }
+
+    /// Whether it can go on, or comes back by itself from a blocking call or at a deadline.
+    pub fn is_astir(&self) -> bool
+        ensures { result ≡ is_astir self.now }
+    {
+        match self {
+            Status::Ready(_, _) | Status::Running(_) | Status::Calling(_) => true,
+            Status::Waiting(wait) => wait.until.is_some(),
+            Status::Dormant | Status::Dead => false,
+        }
+    }
+
+    /// The moment at which it stops waiting, in nanoseconds, where there is one.
+    pub fn deadline(&self) -> Option<u64>
+        ensures { result ≡ deadline_of self.now }
+    {
+        match self {
+            Status::Waiting(wait) => wait.until,
+            _ => None,
+        }
+    }
+}
