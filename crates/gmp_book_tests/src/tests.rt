@@ -1,15 +1,17 @@
-//! Openings, runs and refusals, compared with worked examples. Bodies are 70 and up, owners 80 and up.
+//! Openings, refusals, want of memory, values of a second book, what bodies are told, the order on the shelf, and what is taken back. Bodies
+//! are 70 and up, owners 80 and up.
+use gmp_base::Refusal;
 use gmp_book_trials::{Desk, Judge, same};
 use std::fmt::Display;
 use std::process::Abort;
 
+mod ending;
 mod memory;
 mod opening;
-mod order;
+mod other_books;
 mod refusals;
-mod refusals_of_asks;
-mod runs;
-mod select_refused;
+mod shelf;
+mod told;
 
 /// What is wrong ends the test.
 #[derive(Drop)]
@@ -21,13 +23,13 @@ impl<R: Abort> Judge for Strict<R> {
     }
 }
 
-/// A report is refused with this number.
-fn unreported(judge: &Strict<impl Abort>, book: Desk, number: u8) -> Desk {
+/// A report is refused so, and the book comes back.
+fn unreported(judge: &Strict<impl Abort>, book: Desk, want: Refusal) -> Desk {
     match book.into_report() {
         Ok(_) => panic!(judge.0; "reported"),
         Err(refused) => {
             let (why, book) = refused.open();
-            same(judge, why.number(), number);
+            same(judge, why, want);
             book
         }
     }

@@ -9,17 +9,15 @@ pub mod endings;
 mod granting;
 mod histories;
 mod judge;
-pub mod machines;
 mod opening;
 pub mod reports;
 pub mod scripts;
 mod spare;
 
 pub use granting::{accepted, made, refused, there, why_not};
-pub use histories::{ends_with, is_checked, is_legal, is_told, is_true, told};
+pub use histories::{is_legal, is_true};
 pub use judge::{Judge, lists, same};
 pub use opening::{
-    Desk, LONE, SMALL, alone, close, desk, in_order, last_pass, only_pass, opened, opened_with,
-    pair, small, two,
+    Desk, LONE, SMALL, close, in_order, last_pass, only_pass, opened_with, pair, small,
 };
 pub use spare::Spare;

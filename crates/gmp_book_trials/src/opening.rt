@@ -48,42 +48,19 @@ pub fn opened_with<T: Drop>(
 }
 
 /// A book of two channels, with bodies 70, 71 and 72, and its passes.
-pub fn opened(alloc: Global, run: u64, limits: Limits) -> Result<(Desk, Vec<Pass>), Fail> {
+fn opened(alloc: Global, run: u64, limits: Limits) -> Result<(Desk, Vec<Pass>), Fail> {
     let bodies = in_order(alloc, 70, 3)?;
     opened_with(alloc, run, limits, &[0, 4096], bodies)
 }
 
-/// A book of run 7 and one machine with so many bodies, and its pass.
-pub fn desk(
-    judge: &impl Judge,
-    alloc: Global,
-    limits: Limits,
-    capacities: &[u32],
-    bodies: u8,
-) -> Result<(Desk, Pass), Fail> {
-    let bodies = in_order(alloc, 70, bodies)?;
-    let (book, passes) = opened_with(alloc, 7, limits, capacities, bodies)?;
-    Ok((book, only_pass(judge, passes)))
-}
-
 /// A book of one machine, and its pass.
-pub fn alone(
-    judge: &impl Judge,
-    alloc: Global,
-    run: u64,
-    limits: Limits,
-) -> Result<(Desk, Pass), Fail> {
-    let (book, passes) = opened(alloc, run, limits)?;
-    Ok((book, only_pass(judge, passes)))
-}
-
-/// A small book, and its pass.
 pub fn small(judge: &impl Judge, alloc: Global, run: u64) -> Result<(Desk, Pass), Fail> {
-    alone(judge, alloc, run, SMALL)
+    let (book, passes) = opened(alloc, run, SMALL)?;
+    Ok((book, only_pass(judge, passes)))
 }
 
 /// So many processors and two machines.
-pub fn two(procs: u8) -> Limits {
+fn two(procs: u8) -> Limits {
     Limits {
         procs,
         machines: 2,

@@ -20,8 +20,8 @@ pub enum Asks {
     Send(u16, u64),
     Recv(u16),
     Close(u16),
-    /// The cases, whether there is a default, and the deadline.
-    Select([Option<Case>; 8], bool, Option<u64>),
+    /// The cases and the deadline.
+    Select([Option<Case>; 8], Option<u64>),
     Sleep(u64),
     Park,
     Ready(u16),
@@ -35,24 +35,14 @@ pub fn recvs(c: u16) -> Case {
     Case::Recv(Some(CNo(c)))
 }
 
-/// A select of these cases, 8 at most, without a default.
+/// A select of these cases, 8 at most.
 pub fn select(cases: &[Case]) -> Asks {
-    Asks::Select(listed(cases), false, None)
-}
-
-/// The same with a default.
-pub fn select_or_default(cases: &[Case]) -> Asks {
-    Asks::Select(listed(cases), true, None)
+    Asks::Select(listed(cases), None)
 }
 
 /// The same with a deadline.
 pub fn select_until(cases: &[Case], until: u64) -> Asks {
-    Asks::Select(listed(cases), false, Some(until))
-}
-
-/// The same with both.
-pub fn select_or_default_until(cases: &[Case], until: u64) -> Asks {
-    Asks::Select(listed(cases), true, Some(until))
+    Asks::Select(listed(cases), Some(until))
 }
 
 fn listed(cases: &[Case]) -> [Option<Case>; 8] {
@@ -118,13 +108,12 @@ fn resumed(held: Held<Player>) -> (Held<Player>, Asks) {
     (Held::of(run, g, woke, body), asks)
 }
 
-/// The machine: its book, its pass, its own tickets in order, four at most, the word of each select, what the clock will show, and whether
-/// it has found nothing since it last had a ticket.
+/// The machine: its book, its pass, its own tickets in order, four at most, what the clock will show, and whether it has found nothing since
+/// it last had a ticket.
 struct Play<'a> {
     book: Book<Player<'a>, u32>,
     pass: Pass,
     queue: [Option<Readiness>; 4],
-    word: u64,
     moments: &'a [u64],
     idles: bool,
 }
@@ -185,12 +174,10 @@ impl<'a> Play<'a> {
         judge: &impl Judge,
         held: Held<Player<'a>>,
         list: &[Option<Case>],
-        has_default: bool,
         until: Option<u64>,
     ) -> Option<Held<Player<'a>>> {
-        let cases = cases_in(list);
-        let (book, word) = (&mut self.book, self.word);
-        let moved = book.select(&mut self.pass, held, &cases, has_default, until, word);
+        let (book, cases) = (&mut self.book, cases_in(list));
+        let moved = book.select(&mut self.pass, held, &cases, false, until, 0);
         self.moved(judge, accepted(judge, moved))
     }
 
@@ -220,9 +207,7 @@ impl<'a> Play<'a> {
                 let (went, _) = accepted(judge, book.close(pass, held, at(c)));
                 Moved::On(went)
             }
-            Asks::Select(list, has_default, until) => {
-                return self.select(judge, held, &list, has_default, until);
-            }
+            Asks::Select(list, until) => return self.select(judge, held, &list, until),
             Asks::Yield | Asks::Exit | Asks::Sleep(_) | Asks::Park => {
                 self.stops(judge, held, asks);
                 return None;
@@ -301,7 +286,6 @@ impl<'a> Play<'a> {
             book,
             pass,
             queue,
-            word: _,
             moments,
             idles: _,
         } = self;
@@ -320,34 +304,12 @@ impl<'a> Play<'a> {
     }
 }
 
-/// The bodies play their scripts, to the end of the run. Each select draws this word.
+/// The bodies play their scripts, to the end of the run. The clock shows these moments.
 pub fn played<'a>(
     judge: &impl Judge,
     alloc: Global,
     capacities: &[u32],
     scripts: &[&'a [Asks]],
-    word: u64,
-) -> Result<Report<Player<'a>, u32>, Fail> {
-    by_clock(judge, alloc, capacities, scripts, word, &[])
-}
-
-/// The same with word 0, where the clock shows these moments.
-pub fn clocked<'a>(
-    judge: &impl Judge,
-    alloc: Global,
-    capacities: &[u32],
-    scripts: &[&'a [Asks]],
-    moments: &'a [u64],
-) -> Result<Report<Player<'a>, u32>, Fail> {
-    by_clock(judge, alloc, capacities, scripts, 0, moments)
-}
-
-fn by_clock<'a>(
-    judge: &impl Judge,
-    alloc: Global,
-    capacities: &[u32],
-    scripts: &[&'a [Asks]],
-    word: u64,
     moments: &'a [u64],
 ) -> Result<Report<Player<'a>, u32>, Fail> {
     let mut bodies = Vec::new(alloc);
@@ -361,7 +323,6 @@ fn by_clock<'a>(
         book,
         pass,
         queue: [None; 4],
-        word,
         moments,
         idles: false,
     };

@@ -1,6 +1,6 @@
 //! Values that stand in.
-use gmp_base::{CNo, GNo, Held, MNo, PNo, Proc, Ticket, Woke};
-use gmp_book::{Exited, Moved, Parking, Went};
+use gmp_base::{Called, GNo, Held, MNo, PNo, Proc, Ticket, Woke};
+use gmp_book::{Exited, Moved, Parking, Returned, Went};
 
 /// A value of the type can stand in where an answer has none, and each can be let go.
 pub trait Spare {
@@ -136,5 +136,63 @@ impl<T: Spare> Spare for (Went<T>, u64) {
     fn spent(self) {
         let (went, _) = self;
         went.spent();
+    }
+}
+
+impl Spare for bool {
+    fn spare() -> bool {
+        false
+    }
+
+    fn spent(self) {}
+}
+
+impl<T: Spare> Spare for Called<T> {
+    fn spare() -> Called<T> {
+        Called::of(0, GNo(0), T::spare())
+    }
+
+    fn spent(self) {
+        let (_, _, body) = self.open();
+        body.spent();
+    }
+}
+
+impl<T: Spare, Q: Spare> Spare for (Held<T>, Proc<Q>) {
+    fn spare() -> (Held<T>, Proc<Q>) {
+        (Held::spare(), Proc::spare())
+    }
+
+    fn spent(self) {
+        let (held, proc) = self;
+        held.spent();
+        proc.spent();
+    }
+}
+
+impl<T: Spare> Spare for (Called<T>, Option<MNo>) {
+    fn spare() -> (Called<T>, Option<MNo>) {
+        (Called::spare(), None)
+    }
+
+    fn spent(self) {
+        let (called, _) = self;
+        called.spent();
+    }
+}
+
+impl<T: Spare, Q: Spare> Spare for Returned<T, Q> {
+    fn spare() -> Returned<T, Q> {
+        Returned::Shelved
+    }
+
+    fn spent(self) {
+        match self {
+            Returned::Runs(held, proc) => {
+                held.spent();
+                proc.spent();
+            }
+            Returned::Shelved => {}
+        }
     }
 }

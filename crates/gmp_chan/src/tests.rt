@@ -3,12 +3,6 @@ use gmp_base::{CNo, GNo};
 use gmp_seq::{Deal, Kind, Offer, Offers, Transfer, Waiter};
 use std::process::Abort;
 
-const RECEIVE: Offer = Offer {
-    case: 0,
-    channel: CNo(0),
-    deal: Deal::Receive,
-};
-
 const SEND_7: Offer = Offer {
     case: 0,
     channel: CNo(0),
@@ -65,24 +59,6 @@ fn values_come_in_the_order_in_which_they_were_sent(rt: HostRuntime) {
     assert_eq!(rt; recv(&rt, &mut chans), Some(Transfer::First(7)));
     assert_eq!(rt; recv(&rt, &mut chans), Some(Transfer::Drained));
     assert!(rt; chans.is_closed(CNo(0)));
-}
-
-#[test]
-fn a_receiver_that_waits_is_served_once(rt: HostRuntime) {
-    let mut chans = Channels::open(rt.alloc(), 4, 8, &[0]).expect(&rt, "memory");
-    chans.wait_on(GNo(2), 4, Kind::Plain, &one(RECEIVE));
-    let served = Transfer::Handed(waiter(2, 4, RECEIVE));
-    assert_eq!(rt; send(&rt, &mut chans, 9), Some(served));
-    assert_eq!(rt; send(&rt, &mut chans, 9), None);
-}
-
-#[test]
-fn a_receiver_that_is_withdrawn_is_not_served(rt: HostRuntime) {
-    let mut chans = Channels::open(rt.alloc(), 4, 8, &[0]).expect(&rt, "memory");
-    chans.wait_on(GNo(2), 4, Kind::Plain, &one(RECEIVE));
-    chans.withdraw(GNo(2));
-    assert_eq!(rt; send(&rt, &mut chans, 9), None);
-    assert_eq!(rt; recv(&rt, &mut chans), None);
 }
 
 #[test]

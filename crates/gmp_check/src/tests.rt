@@ -14,7 +14,6 @@ mod crews;
 mod ends;
 mod faults;
 mod memory;
-mod opening;
 mod others;
 mod refused;
 mod rows;
@@ -50,10 +49,6 @@ struct History {
 }
 
 impl History {
-    fn open(&self, alloc: Global) -> Result<Replay, OpenError> {
-        Replay::open(alloc, self.limits, self.bodies, self.capacities)
-    }
-
     fn outcome_of(&self, alloc: Global) -> Result<Option<Outcome>, ReplayError> {
         outcome_of(
             alloc,

@@ -2,18 +2,10 @@
 #![tactic(auto)]
 
 #[cfg(test)]
-mod blocking_tests;
-#[cfg(test)]
-mod channel_tests;
-#[cfg(test)]
-mod deadline_tests;
-#[cfg(test)]
-mod reading;
-#[cfg(test)]
 mod script_tests;
-#[cfg(test)]
-mod select_tests;
 #[cfg(test)]
 mod step_tests;
 #[cfg(test)]
 mod tests;
+#[cfg(test)]
+mod trace_tests;

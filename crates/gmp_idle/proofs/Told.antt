@@ -7,8 +7,7 @@ use Rattle.gmp_base.specs.declared.number.MNo.{MNo}
 use Rattle.gmp_base.specs.declared.number.PNo.{PNo}
 use Rattle.gmp_seq.specs.declared.status.Mode.{Mode}
 use Rattle.gmp_seq.specs.declared.status.Mode.TheVariants.{Awake, Parked, Calling}
-use Rattle.gmp_seq.specs.Machines.{Machines, Holds, IsAwake, IsParked, is_held_by, set_mode}
-use Rattle.gmp_seq.proofs.Epochs.{slice_get-set_same}
+use Rattle.gmp_seq.specs.Machines.{Machines, Holds, IsAwake, is_held_by}
 use Rattle.gmp_idle.specs.Replies.{is_awake_mode, is_calling_mode}
 
 awake_in : (o : Option Mode) → option_map_or is_awake_mode o false ≡ true → o ≡ Some Awake
@@ -36,6 +35,3 @@ held_in m None e = absurd (false≢true e)
 
 pub holds_told : (w : Machines) (m : MNo) (p : PNo) → option_map_or (is_held_by m) (slice_get w.holders p.0) false ≡ true → Holds w m p
 holds_told w m p e = held_in m (slice_get w.holders p.0) e
-
-pub parked_after : (w : Machines) (m : MNo) → IsAwake w m → IsParked (set_mode w m Parked) m
-parked_after w m awake = slice_get-set_same w.modes m.0 Parked Awake awake

@@ -40,41 +40,9 @@ fn leave(rt: &impl Abort, w: &mut Machines, m: u8) -> Option<u8> {
 }
 
 #[tactic(auto, using(crate::proofs::Told::awake_told))]
-fn spin(rt: &impl Abort, w: &mut Machines, m: u8) -> bool {
-    assert!(rt; w.is_awake(MNo(m)));
-    w.spin(MNo(m))
-}
-
-#[tactic(auto, using(crate::proofs::Told::awake_told))]
-fn unspin(rt: &impl Abort, w: &mut Machines, m: u8) {
-    assert!(rt; w.is_awake(MNo(m)));
-    w.unspin(MNo(m));
-}
-
-#[tactic(auto, using(crate::proofs::Told::awake_told))]
 fn poke(rt: &impl Abort, w: &mut Machines, m: u8) -> Option<u8> {
     assert!(rt; w.is_awake(MNo(m)));
     w.poke(MNo(m)).map(|n| n.0)
-}
-
-#[test]
-fn the_least_idle_is_acquired(rt: HostRuntime) -> Result<(), Fail> {
-    let mut w = Machines::opening(rt.alloc(), 2, 3)?;
-    assert!(rt; w.has_idle());
-    assert_eq!(rt; acquire(&rt, &mut w, 0), Some(0));
-    assert_eq!(rt; acquire(&rt, &mut w, 1), Some(1));
-    assert!(rt; !w.has_idle());
-    assert_eq!(rt; acquire(&rt, &mut w, 2), None);
-
-    declare(&rt, &mut w, 0, 0);
-    assert!(rt; w.has_idle());
-    assert!(rt; !w.has_processor(MNo(0)));
-    assert!(rt; !w.holds(MNo(0), PNo(0)));
-    assert!(rt; w.has_processor(MNo(1)));
-    assert_eq!(rt; acquire(&rt, &mut w, 2), Some(0));
-    assert!(rt; w.holds(MNo(2), PNo(0)));
-    assert!(rt; w.holds(MNo(1), PNo(1)));
-    Ok(())
 }
 
 #[test]
@@ -97,48 +65,6 @@ fn as_many_as_there_may_be(rt: HostRuntime) -> Result<(), Fail> {
         assert_eq!(rt; poke(&rt, &mut w, 63), Some(m), "at {m}");
     }
     assert_eq!(rt; poke(&rt, &mut w, 63), None);
-    Ok(())
-}
-
-#[test]
-fn as_many_spin_as_there_are_processors(rt: HostRuntime) -> Result<(), Fail> {
-    let mut w = Machines::opening(rt.alloc(), 2, 3)?;
-    assert!(rt; spin(&rt, &mut w, 0));
-    assert!(rt; !spin(&rt, &mut w, 0));
-    assert!(rt; spin(&rt, &mut w, 1));
-    assert!(rt; !spin(&rt, &mut w, 2));
-    for (m, spins) in [(0, true), (1, true), (2, false), (3, false)] {
-        assert_eq!(rt; w.spins(MNo(m)), spins, "at {m}");
-    }
-
-    unspin(&rt, &mut w, 0);
-    assert!(rt; !w.spins(MNo(0)));
-    assert!(rt; spin(&rt, &mut w, 2));
-    unspin(&rt, &mut w, 0);
-    assert!(rt; w.spins(MNo(1)));
-    Ok(())
-}
-
-#[test]
-fn nobody_is_poked(rt: HostRuntime) -> Result<(), Fail> {
-    // The one processor is held.
-    let mut held = Machines::opening(rt.alloc(), 1, 2)?;
-    assert_eq!(rt; acquire(&rt, &mut held, 0), Some(0));
-    park(&rt, &mut held, 1);
-    assert_eq!(rt; poke(&rt, &mut held, 0), None);
-    declare(&rt, &mut held, 0, 0);
-    assert_eq!(rt; poke(&rt, &mut held, 0), Some(1));
-
-    // Nobody is parked.
-    assert_eq!(rt; poke(&rt, &mut held, 0), None);
-
-    // Somebody spins.
-    let mut spun = Machines::opening(rt.alloc(), 1, 3)?;
-    park(&rt, &mut spun, 1);
-    assert!(rt; spin(&rt, &mut spun, 2));
-    assert_eq!(rt; poke(&rt, &mut spun, 0), None);
-    unspin(&rt, &mut spun, 2);
-    assert_eq!(rt; poke(&rt, &mut spun, 0), Some(1));
     Ok(())
 }
 
@@ -166,30 +92,4 @@ fn a_blocking_call_hands_the_processor_on(rt: HostRuntime) -> Result<(), Fail> {
     assert!(rt; w.holds(MNo(2), PNo(0)));
     assert_eq!(rt; enter(&rt, &mut w, 2, 0), None);
     Ok(())
-}
-
-#[tactic(auto, using(crate::proofs::Told::awake_told))]
-fn woken(rt: &impl Abort, w: &Machines, m: u8) -> bool {
-    assert!(rt; w.is_awake(MNo(m)));
-    w.woken(MNo(m))
-}
-
-#[test]
-fn a_machine_looks_whether_it_was_woken(rt: HostRuntime) -> Result<(), Fail> {
-    let mut w = Machines::opening(rt.alloc(), 1, 2)?;
-    assert!(rt; woken(&rt, &w, 1));
-    assert!(rt; w.is_awake(MNo(1)));
-    park_and_look(&rt, &mut w, 1);
-    assert_eq!(rt; poke(&rt, &mut w, 0), Some(1));
-    assert!(rt; woken(&rt, &w, 1));
-    Ok(())
-}
-
-/// Parks m, which is not woken then.
-#[tactic(auto, using(crate::proofs::Told::awake_told, crate::proofs::Told::parked_after))]
-fn park_and_look(rt: &impl Abort, w: &mut Machines, m: u8) {
-    assert!(rt; w.is_awake(MNo(m)));
-    w.park(MNo(m));
-    assert!(rt; !w.woken(MNo(m)));
-    assert!(rt; !w.is_calling(MNo(m)));
 }

@@ -64,48 +64,6 @@ fn waiter(offer: Offer) -> Waiter {
 }
 
 #[test]
-fn a_case_is_ready_where_there_is_room_or_a_value(rt: HostRuntime) {
-    let mut chans = Channels::open(rt.alloc(), 4, 8, &[1]).expect(&rt, "memory");
-    let list = [recv(0), send(0, 7)];
-    assert_eq!(rt; ready(&rt, &chans, &list), 0b10);
-    assert_eq!(rt; proceed(&rt, &mut chans, send(0, 7)), Transfer::Stored);
-    assert_eq!(rt; ready(&rt, &chans, &list), 0b01);
-    assert_eq!(rt; proceed(&rt, &mut chans, recv(0)), Transfer::First(7));
-}
-
-#[test]
-fn nil_is_never_ready(rt: HostRuntime) {
-    let chans = Channels::open(rt.alloc(), 4, 8, &[1]).expect(&rt, "memory");
-    let list = [Case::Send(None, 7), Case::Recv(None)];
-    assert_eq!(rt; ready(&rt, &chans, &list), 0);
-    assert_eq!(rt; ready(&rt, &chans, &[]), 0);
-}
-
-#[test]
-fn a_closed_channel_is_ready_both_ways(rt: HostRuntime) {
-    let mut chans = Channels::open(rt.alloc(), 4, 8, &[0]).expect(&rt, "memory");
-    let list = [send(0, 7), recv(0)];
-    assert_eq!(rt; ready(&rt, &chans, &list), 0);
-    close(&rt, &mut chans, 0);
-    assert_eq!(rt; ready(&rt, &chans, &list), 0b11);
-    assert_eq!(rt; proceed(&rt, &mut chans, send(0, 7)), Transfer::Failed);
-    assert_eq!(rt; proceed(&rt, &mut chans, recv(0)), Transfer::Drained);
-}
-
-#[test]
-fn a_case_is_ready_where_another_waits_the_other_way(rt: HostRuntime) {
-    let mut chans = Channels::open(rt.alloc(), 4, 8, &[0, 0]).expect(&rt, "memory");
-    let list = [send(0, 7), recv(0), send(1, 7), recv(1)];
-    chans.wait_on(GNo(3), 0, Kind::Plain, &one(offer(0, 0, Deal::Receive)));
-    assert_eq!(rt; ready(&rt, &chans, &list), 0b0001);
-    chans.withdraw(GNo(3));
-    assert_eq!(rt; ready(&rt, &chans, &list), 0);
-    let mut others = Channels::open(rt.alloc(), 4, 8, &[0, 0]).expect(&rt, "memory");
-    others.wait_on(GNo(3), 0, Kind::Plain, &one(offer(0, 1, Deal::Send(9))));
-    assert_eq!(rt; ready(&rt, &others, &list), 0b1000);
-}
-
-#[test]
 fn eight_cases_have_eight_bits(rt: HostRuntime) {
     let mut chans = Channels::open(rt.alloc(), 4, 8, &[1, 0, 0]).expect(&rt, "memory");
     chans.wait_on(GNo(3), 0, Kind::Plain, &one(offer(0, 2, Deal::Receive)));
@@ -159,40 +117,4 @@ fn a_select_waits_for_its_cases_in_order(rt: HostRuntime) {
     assert_eq!(rt; offers.as_slice(), [first, second].as_slice());
     let served = Transfer::Relayed(8, waiter(second));
     assert_eq!(rt; proceed(&rt, &mut chans, recv(0)), served);
-}
-
-#[test]
-fn the_first_of_two_cases_on_a_channel_is_served(rt: HostRuntime) {
-    let mut chans = Channels::open(rt.alloc(), 4, 8, &[0]).expect(&rt, "memory");
-    let cases = select(&rt, &[send(0, 6), recv(0), recv(0)]);
-    register(&mut chans, GNo(2), 5, &cases);
-    let served = Transfer::Handed(waiter(offer(1, 0, Deal::Receive)));
-    assert_eq!(rt; proceed(&rt, &mut chans, send(0, 9)), served);
-}
-
-#[test]
-fn a_select_that_is_served_waits_no_more(rt: HostRuntime) {
-    let mut chans = Channels::open(rt.alloc(), 4, 8, &[0, 0, 0]).expect(&rt, "memory");
-    let cases = select(&rt, &[recv(0), recv(1), send(2, 9)]);
-    register(&mut chans, GNo(2), 5, &cases);
-    let others = [send(0, 4), send(1, 4), recv(2)];
-    assert_eq!(rt; ready(&rt, &chans, &others), 0b111);
-    let served = Transfer::Handed(waiter(offer(1, 1, Deal::Receive)));
-    assert_eq!(rt; proceed(&rt, &mut chans, send(1, 4)), served);
-    assert_eq!(rt; ready(&rt, &chans, &others), 0);
-    assert!(rt; chans.has(Some(CNo(0))));
-    assert_eq!(rt; chans.try_send(Some(CNo(0)), 4), None);
-}
-
-#[test]
-fn a_select_that_is_withdrawn_is_not_served(rt: HostRuntime) {
-    let mut chans = Channels::open(rt.alloc(), 4, 8, &[0, 0]).expect(&rt, "memory");
-    let cases = select(&rt, &[recv(0), send(1, 9)]);
-    register(&mut chans, GNo(2), 5, &cases);
-    withdraw_all(&mut chans, GNo(3));
-    assert_eq!(rt; ready(&rt, &chans, &[send(0, 4), recv(1)]), 0b11);
-    withdraw_all(&mut chans, GNo(2));
-    assert_eq!(rt; ready(&rt, &chans, &[send(0, 4), recv(1)]), 0);
-    register(&mut chans, GNo(2), 5, &cases);
-    assert_eq!(rt; ready(&rt, &chans, &[send(0, 4), recv(1)]), 0b11);
 }

@@ -2,45 +2,6 @@ use super::*;
 use std::process::Abort;
 use std::test::Fail;
 
-#[test]
-fn taken_and_put_back(rt: HostRuntime) -> Result<(), Fail> {
-    let alloc = rt.alloc();
-    let mut slots = match Slots::of(alloc, vec![in alloc; 10, 20, 30]?) {
-        Ok(slots) => slots,
-        Err(back) => {
-            assert_eq!(rt; back.as_slice(), [10, 20, 30].as_slice());
-            return Err(Fail::new("no memory for the slots"));
-        }
-    };
-    assert_eq!(rt; slots.len(), 3);
-    assert!(rt; slots.all_filled());
-    for (i, filled) in [(0, true), (1, true), (2, true), (3, false)] {
-        assert_eq!(rt; slots.is_filled(i), filled, "at {i}");
-        assert_eq!(rt; slots.is_vacant(i), false, "at {i}");
-    }
-
-    assert!(rt; slots.is_filled(1));
-    assert_eq!(rt; slots.take(1), 20);
-    assert_eq!(rt; slots.len(), 3);
-    assert!(rt; !slots.all_filled());
-    for (i, filled, vacant) in [
-        (0, true, false),
-        (1, false, true),
-        (2, true, false),
-        (3, false, false),
-    ] {
-        assert_eq!(rt; slots.is_filled(i), filled, "at {i}");
-        assert_eq!(rt; slots.is_vacant(i), vacant, "at {i}");
-    }
-
-    assert!(rt; slots.is_vacant(1));
-    slots.put(1, 21);
-    assert!(rt; slots.is_filled(1));
-    assert!(rt; slots.all_filled());
-    assert_eq!(rt; slots.into_items().as_slice(), [10, 21, 30].as_slice());
-    Ok(())
-}
-
 /// A value that has to be spent: it is neither copied nor let go.
 struct Token(u8);
 

@@ -3,7 +3,7 @@ mod sample;
 use super::*;
 use gmp_base::{MNo, PNo};
 use gmp_seq::{Call, Entry, Limits, Outcome, Reply};
-use sample::{Sample, at};
+use sample::Sample;
 use std::alloc::{AllocError, Global};
 use std::io;
 use std::test::Fail;
@@ -50,50 +50,6 @@ fn every_call_and_reply(rt: HostRuntime) -> Result<(), Fail> {
         .strip_prefix(before)
         .ok_or("other lines before the entries")?;
     assert_eq!(rt; lines.strip_suffix(after), Some(text.as_str()));
-    Ok(())
-}
-
-#[test]
-fn a_run_of_main(rt: HostRuntime) -> Result<(), Fail> {
-    let alloc = rt.alloc();
-    let mut entries = Vec::new(alloc);
-    for (k, (call, reply)) in [
-        (Call::Acquire, Reply::Proc(PNo(0))),
-        (Call::Take, Reply::Ticket(at(0, 1))),
-        (Call::Claim(at(0, 1)), Reply::Held),
-        (Call::Yield, Reply::Shelved(at(0, 2))),
-        (Call::Take, Reply::Ticket(at(0, 2))),
-        (Call::Claim(at(0, 2)), Reply::Held),
-        (Call::Exit, Reply::MainEnded),
-    ]
-    .into_iter()
-    .enumerate()
-    {
-        entries.push(Entry {
-            m: MNo(0),
-            k: k as u64,
-            call,
-            reply,
-        })?;
-    }
-    let trace = small(alloc, entries, End::of(Some(Outcome::MainEnded)));
-    let mut out = Vec::new(alloc);
-    write(alloc, &trace, &mut out)?;
-    assert_eq!(rt;
-        String::from_utf8(out)?.as_str(),
-        "gmp-trace 1
-limits procs 1 machines 1 bodies 1 channels 16 entries 10000
-caps
-0 0.0 acquire -> proc 0
-1 0.1 take -> ticket 0.1
-2 0.2 claim 0.1 -> held
-3 0.3 yield -> shelf 0.2
-4 0.4 take -> ticket 0.2
-5 0.5 claim 0.2 -> held
-6 0.6 exit -> main ended
-end main ended
-"
-    );
     Ok(())
 }
 

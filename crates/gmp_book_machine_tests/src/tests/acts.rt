@@ -1,9 +1,9 @@
 //! Rows of a run: a machine, its call, and what it is answered.
-use gmp_base::{Fault, GNo, MNo, PNo, Readiness, Woke};
-use gmp_seq::{Call, Entry, Reply};
+use gmp_base::{CNo, GNo, MNo, PNo, Readiness, Woke};
+use gmp_seq::Reply;
 
 /// A call. A ticket is named by its goroutine and its epoch.
-#[derive(Clone, Copy, Debug, PartialEq)]
+#[derive(Clone, Copy, Debug)]
 pub enum Act {
     Acquire,
     Take,
@@ -13,6 +13,14 @@ pub enum Act {
     Go(u16),
     Yield,
     Exit,
+    Make(u32),
+    Send(u16, u64),
+    Recv(u16),
+    Close(u16),
+    Len(u16),
+    Cap(u16),
+    /// Without cases, with a default.
+    Select,
     Sleep(u64),
     Gopark,
     Ready(u16),
@@ -29,7 +37,7 @@ pub enum Act {
 }
 
 /// An answer.
-#[derive(Clone, Copy, Debug, PartialEq)]
+#[derive(Clone, Copy)]
 pub enum Says {
     Proc(u8),
     Nothing,
@@ -39,6 +47,14 @@ pub enum Says {
     Shelved(u16, u64),
     Dead,
     MainEnded,
+    Channel(u16),
+    /// A value that serves nobody.
+    Sent,
+    /// A value that was sent, and serves nobody.
+    Got(u64),
+    Closed(u64),
+    Number(u64),
+    Default,
     Waits,
     Entered(u8, Option<u8>),
     Runs(u8),
@@ -49,14 +65,12 @@ pub enum Says {
     Parked,
     Work,
     Mind(u64),
-    AllAsleep,
     Woke(u64),
-    Fault(Fault),
 }
 
 pub type Row = (u8, Act, Says);
 
-pub fn readiness(g: u16, epoch: u64) -> Readiness {
+fn readiness(g: u16, epoch: u64) -> Readiness {
     Readiness { g: GNo(g), epoch }
 }
 
@@ -72,6 +86,12 @@ impl Says {
             Says::Shelved(g, epoch) => Reply::Shelved(readiness(g, epoch)),
             Says::Dead => Reply::Dead,
             Says::MainEnded => Reply::MainEnded,
+            Says::Channel(c) => Reply::Channel(CNo(c)),
+            Says::Sent => Reply::Sent(None),
+            Says::Got(value) => Reply::Got(value, true, None),
+            Says::Closed(count) => Reply::Closed(count),
+            Says::Number(n) => Reply::Number(n),
+            Says::Default => Reply::Default,
             Says::Waits => Reply::Waits,
             Says::Entered(p, Some(m)) => Reply::Entered(PNo(p), Some(MNo(m))),
             Says::Entered(p, None) => Reply::Entered(PNo(p), None),
@@ -83,43 +103,7 @@ impl Says {
             Says::Parked => Reply::Parked,
             Says::Work => Reply::Work,
             Says::Mind(until) => Reply::Mind(until),
-            Says::AllAsleep => Reply::AllAsleep,
             Says::Woke(count) => Reply::Woke(count),
-            Says::Fault(fault) => Reply::Fault(fault),
         }
     }
-}
-
-impl Act {
-    /// Whether it is this call.
-    fn is_call(self, call: &Call) -> bool {
-        match (self, call) {
-            (Act::Acquire, Call::Acquire) => true,
-            (Act::Take, Call::Take) => true,
-            (Act::Put(g, epoch), Call::Put(r)) => *r == readiness(g, epoch),
-            (Act::Claim(g, epoch, _), Call::Claim(r)) => *r == readiness(g, epoch),
-            (Act::Go(g), Call::Go(body)) => g == body.0,
-            (Act::Yield, Call::Yield) => true,
-            (Act::Exit, Call::Exit) => true,
-            (Act::Sleep(until), Call::Sleep(moment)) => until == *moment,
-            (Act::Gopark, Call::Gopark) => true,
-            (Act::Ready(g), Call::Ready(parked)) => g == parked.0,
-            (Act::Enter, Call::Enter) => true,
-            (Act::Leave(n), Call::Leave(number)) => n == *number,
-            (Act::Spin, Call::Spin) => true,
-            (Act::Unspin, Call::Unspin) => true,
-            (Act::Woken, Call::Woken) => true,
-            (Act::Poke, Call::Poke) => true,
-            (Act::Declare, Call::Declare) => true,
-            (Act::Bare, Call::Bare) => true,
-            (Act::Park, Call::Park) => true,
-            (Act::Tick(now), Call::Tick(moment)) => now == *moment,
-            _ => false,
-        }
-    }
-}
-
-/// Whether the entry is that of the row, where the machine has made k calls before.
-pub fn is_entry((m, act, says): Row, k: u64, entry: &Entry) -> bool {
-    entry.m == MNo(m) && entry.k == k && act.is_call(&entry.call) && entry.reply == says.reply()
 }

@@ -1,10 +1,12 @@
 //! Calls by rows: each is made with what the machine has in its hands, and its answer told as the reply that says the same.
 use crate::tests::acts::Act;
 use crate::tests::hands::Hand;
-use gmp_base::{GNo, MNo, Pass, Ticket, Woke};
-use gmp_book::{Exited, Parking, Returned};
+use gmp_base::{Cases, GNo, MNo, Pass, Ticket, Woke};
+use gmp_book::{Exited, Moved, Parking, Returned};
+use gmp_book_trials::answers::at;
 use gmp_book_trials::{Desk, Judge, accepted, made, same};
 use gmp_seq::Reply;
+use std::alloc::Global;
 
 fn forged(g: u16, epoch: u64) -> Ticket {
     Ticket::of(7, GNo(g), epoch)
@@ -121,16 +123,81 @@ fn yielded(judge: &impl Judge, book: &mut Desk, pass: &mut Pass, hand: &mut Hand
     shelved(judge, book, g)
 }
 
+/// What a goroutine is told of a channel, as the reply that says so.
+fn replied(judge: &impl Judge, woke: Woke) -> Reply {
+    match woke {
+        Woke::Done => Reply::Sent(None),
+        Woke::Made(c) => Reply::Channel(c),
+        Woke::Got(value, was_sent) => Reply::Got(value, was_sent, None),
+        Woke::Number(n) => Reply::Number(n),
+        Woke::Default => Reply::Default,
+        _ => {
+            judge.wrong(format_args!("{woke:?}"));
+            Reply::Nothing
+        }
+    }
+}
+
+/// A send, a receive or a select, which serves nobody.
+fn moved(judge: &impl Judge, hand: &mut Hand, moved: Moved<u32>) -> Reply {
+    match moved {
+        Moved::On(went) => replied(judge, hand.goes_on(judge, went)),
+        Moved::Waits => Reply::Waits,
+    }
+}
+
+/// The calls on channels.
+fn on_channel(
+    judge: &impl Judge,
+    alloc: Global,
+    book: &mut Desk,
+    pass: &mut Pass,
+    hand: &mut Hand,
+    act: Act,
+) -> Reply {
+    let held = hand.gives_held(judge);
+    let went = match act {
+        Act::Make(capacity) => accepted(judge, book.make(alloc, pass, held, capacity)),
+        Act::Len(c) => accepted(judge, book.len(pass, held, at(c))),
+        Act::Cap(c) => accepted(judge, book.cap(pass, held, at(c))),
+        Act::Send(c, v) => {
+            return moved(
+                judge,
+                hand,
+                accepted(judge, book.send(pass, held, at(c), v)),
+            );
+        }
+        Act::Recv(c) => return moved(judge, hand, accepted(judge, book.recv(pass, held, at(c)))),
+        Act::Close(c) => {
+            let (went, count) = accepted(judge, book.close(pass, held, at(c)));
+            same(judge, hand.goes_on(judge, went), Woke::Done);
+            return Reply::Closed(count);
+        }
+        _ => {
+            let selected = book.select(pass, held, &Cases::new(), true, None, 0);
+            return moved(judge, hand, accepted(judge, selected));
+        }
+    };
+    replied(judge, hand.goes_on(judge, went))
+}
+
 /// The calls of a goroutine.
-fn asked(judge: &impl Judge, book: &mut Desk, pass: &mut Pass, hand: &mut Hand, act: Act) -> Reply {
+fn asked(
+    judge: &impl Judge,
+    alloc: Global,
+    book: &mut Desk,
+    pass: &mut Pass,
+    hand: &mut Hand,
+    act: Act,
+) -> Reply {
     match act {
         Act::Go(g) => {
             let held = hand.gives_held(judge);
-            hand.goes_on(judge, accepted(judge, book.go(pass, held, GNo(g))))
+            hand.gives_out(judge, accepted(judge, book.go(pass, held, GNo(g))))
         }
         Act::Ready(g) => {
             let held = hand.gives_held(judge);
-            hand.goes_on(judge, accepted(judge, book.ready(pass, held, GNo(g))))
+            hand.gives_out(judge, accepted(judge, book.ready(pass, held, GNo(g))))
         }
         Act::Sleep(until) => {
             accepted(judge, book.sleep(pass, hand.gives_held(judge), until));
@@ -142,16 +209,14 @@ fn asked(judge: &impl Judge, book: &mut Desk, pass: &mut Pass, hand: &mut Hand, 
         }
         Act::Yield => yielded(judge, book, pass, hand),
         Act::Exit => exited(judge, book, pass, hand),
-        _ => {
-            judge.wrong(format_args!("{act:?} is no call of a goroutine"));
-            Reply::Nothing
-        }
+        _ => on_channel(judge, alloc, book, pass, hand, act),
     }
 }
 
 /// The calls about processors, and blocking calls.
 fn placed(
     judge: &impl Judge,
+    alloc: Global,
     book: &mut Desk,
     pass: &mut Pass,
     hand: &mut Hand,
@@ -163,13 +228,14 @@ fn placed(
         Act::Enter => entered(judge, book, pass, hand),
         Act::Leave(number) => left(judge, book, pass, hand, number),
         Act::Claim(g, epoch, woke) => claimed(judge, book, pass, hand, forged(g, epoch), woke),
-        _ => asked(judge, book, pass, hand, act),
+        _ => asked(judge, alloc, book, pass, hand, act),
     }
 }
 
 /// What the machine of this pass and these hands is answered.
 pub fn answered(
     judge: &impl Judge,
+    alloc: Global,
     book: &mut Desk,
     pass: &mut Pass,
     hand: &mut Hand,
@@ -194,6 +260,6 @@ pub fn answered(
         Act::Poke => poked(made(judge, book.poke(pass))),
         Act::Park => parked(judge, book, pass),
         Act::Tick(now) => Reply::Woke(made(judge, book.tick(pass, now))),
-        _ => placed(judge, book, pass, hand, act),
+        _ => placed(judge, alloc, book, pass, hand, act),
     }
 }

@@ -2,9 +2,9 @@
 //! that spends it. Bodies are 70 and up, owners 80 and up.
 use gmp_base::{Called, GNo, Held, MNo, PNo, Pass, Proc, Woke};
 use gmp_book::Went;
-use gmp_book_trials::endings::{gives_back, gives_back_held};
-use gmp_book_trials::machines::gives_back_called;
-use gmp_book_trials::{Desk, Judge, Spare, same};
+use gmp_book_trials::answers::without;
+use gmp_book_trials::endings::{gives_back, gives_back_called, gives_back_held};
+use gmp_book_trials::{Desk, Judge, Spare, same, there};
 use gmp_seq::Reply;
 
 /// The marks of a machine's pass, the processor that it holds, the goroutine that it runs, and the one whose blocking call it makes.
@@ -33,11 +33,6 @@ impl Hand {
         held: None,
         called: None,
     };
-
-    /// How many calls the machine made, and what it has seen.
-    pub fn marks(&self) -> (u64, u64) {
-        (self.calls, self.seen)
-    }
 
     pub fn pass(&self, m: u8) -> Pass {
         Pass::of(7, MNo(m), self.calls, self.seen)
@@ -107,23 +102,23 @@ impl Hand {
         }
     }
 
-    /// The goroutine goes on: it is told Done and a ticket is given out, or it is told a fault.
-    pub fn goes_on(&mut self, judge: &impl Judge, went: Went<u32>) -> Reply {
+    /// The goroutine goes on, told Done, and a ticket is given out.
+    pub fn gives_out(&mut self, judge: &impl Judge, went: Went<u32>) -> Reply {
         let Went { held, push } = went;
         let (_, woke) = self.runs(judge, held);
-        match (push, woke) {
-            (Some(ticket), _) => {
-                same(judge, (ticket.run, woke), (7, Woke::Done));
-                let readiness = ticket.readiness();
-                ticket.open();
-                Reply::Ticket(readiness)
-            }
-            (None, Woke::Fault(fault)) => Reply::Fault(fault),
-            (None, _) => {
-                judge.wrong("no ticket");
-                Reply::Nothing
-            }
-        }
+        let ticket = there(judge, push);
+        same(judge, (ticket.run, woke), (7, Woke::Done));
+        let readiness = ticket.readiness();
+        ticket.open();
+        Reply::Ticket(readiness)
+    }
+
+    /// The goroutine goes on, and no ticket is given out: what it is told.
+    pub fn goes_on(&mut self, judge: &impl Judge, went: Went<u32>) -> Woke {
+        let Went { held, push } = went;
+        without(judge, push);
+        let (_, woke) = self.runs(judge, held);
+        woke
     }
 
     /// The run is over: what is in hand is taken back.

@@ -89,36 +89,6 @@ fn changed_replies(rt: HostRuntime) -> Result<(), Fail> {
     Ok(())
 }
 
-#[test]
-fn other_numbers(rt: HostRuntime) -> Result<(), Fail> {
-    let alloc = rt.alloc();
-    for history in histories(alloc)?.iter_mut() {
-        for i in 0..history.entries.len() {
-            let (m, k) = (history.entry(&rt, i).m, history.entry(&rt, i).k);
-            for other in [k.wrapping_add(1), k.wrapping_sub(1), k ^ 1 << 32, u64::MAX] {
-                let refused = history.is_refused_of(&rt, alloc, i, m, other);
-                assert!(rt; refused, "{} {i} {other}", history.name);
-            }
-        }
-    }
-    Ok(())
-}
-
-#[test]
-fn machines_that_are_missing(rt: HostRuntime) -> Result<(), Fail> {
-    let alloc = rt.alloc();
-    for history in histories(alloc)?.iter_mut() {
-        for i in 0..history.entries.len() {
-            let k = history.entry(&rt, i).k;
-            for m in [history.limits.machines, 64, u8::MAX] {
-                let refused = history.is_refused_of(&rt, alloc, i, MNo(m), k);
-                assert!(rt; refused, "{} {i} {m}", history.name);
-            }
-        }
-    }
-    Ok(())
-}
-
 // With the number that is the other machine's next, and with the old one, where that is another.
 #[test]
 fn other_machines(rt: HostRuntime) -> Result<(), Fail> {
@@ -140,30 +110,6 @@ fn other_machines(rt: HostRuntime) -> Result<(), Fail> {
                 }
             }
         }
-    }
-    Ok(())
-}
-
-// The replay goes on after all of them.
-#[test]
-fn refusals_change_nothing(rt: HostRuntime) -> Result<(), Fail> {
-    let alloc = rt.alloc();
-    for history in histories(alloc)?.iter_mut() {
-        let name = history.name;
-        let mut replay = history.open(alloc)?;
-        for i in 0..history.entries.len() {
-            let entry = history.entry(&rt, i);
-            let old = entry.reply;
-            for reply in OTHERS {
-                if reply != old {
-                    entry.reply = reply;
-                    assert_eq!(rt; replay.step(entry), Ok(false), "{name} {i} {reply:?}");
-                }
-            }
-            entry.reply = old;
-            assert_eq!(rt; replay.step(entry), Ok(true), "{name} {i}");
-        }
-        assert_eq!(rt; replay.outcome(), history.outcome, "{name}");
     }
     Ok(())
 }

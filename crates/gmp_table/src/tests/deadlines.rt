@@ -42,24 +42,3 @@ fn a_tick_wakes_by_deadline_and_then_by_arrival(rt: HostRuntime) -> Result<(), F
     assert_eq!(rt; table.unshelve(), None);
     Ok(())
 }
-
-#[test]
-fn the_first_and_the_last_moment_are_deadlines(rt: HostRuntime) -> Result<(), Fail> {
-    let mut table = StatusTable::open(rt.alloc(), 3)?;
-    sleep(&rt, &mut table, 1, u64::MAX);
-    assert_eq!(rt; table.least_deadline(), Some(u64::MAX));
-    select(&rt, &mut table, 2, 0);
-    assert_eq!(rt; table.least_deadline(), Some(0));
-    let last = Wake::Due(u64::MAX);
-    let first = candidate(2, 0, 1, Woke::Late);
-    assert_eq!(rt; table.next_to_wake(last), Some(first));
-    assert_eq!(rt; wake_next(&rt, &mut table, Wake::Due(0)), Some(first));
-    assert_eq!(rt; table.next_to_wake(Wake::Due(u64::MAX - 1)), None);
-    assert_eq!(rt;
-        wake_next(&rt, &mut table, last),
-        Some(candidate(1, u64::MAX, 0, Woke::Done))
-    );
-    assert_eq!(rt; wake_next(&rt, &mut table, last), None);
-    assert_eq!(rt; table.least_deadline(), None);
-    Ok(())
-}

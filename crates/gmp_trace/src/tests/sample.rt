@@ -37,7 +37,7 @@ impl Sample {
     }
 }
 
-pub fn at(g: u16, epoch: u64) -> Readiness {
+fn at(g: u16, epoch: u64) -> Readiness {
     Readiness { g: GNo(g), epoch }
 }
 

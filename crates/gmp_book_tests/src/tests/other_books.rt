@@ -3,7 +3,7 @@ use super::Strict;
 use gmp_base::{GNo, Pass, Refusal, Ticket, Woke};
 use gmp_book_trials::answers::{claims, ends};
 use gmp_book_trials::calls::{acquires, begin, takes};
-use gmp_book_trials::endings::is_over;
+use gmp_book_trials::endings::report_of;
 use gmp_book_trials::{Desk, Judge, refused, same, small, why_not};
 use std::alloc::Global;
 use std::test::Fail;
@@ -61,7 +61,7 @@ fn tickets(rt: HostRuntime) -> Result<(), Fail> {
     ends(&judge, &mut book, &mut pass, held);
     stranger.open();
     drop(other);
-    is_over(&judge, alloc, book, pass, proc);
+    report_of(&judge, alloc, book, pass, proc);
     Ok(())
 }
 
@@ -73,13 +73,12 @@ fn passes(rt: HostRuntime) -> Result<(), Fail> {
     let (mut book, mut other, mut stranger) = (book, other, stranger);
     let (proc, held) = begin(&judge, &mut other, &mut stranger);
     let want = Refusal::OutOfTurn(0);
-    same(&judge, why_not(&judge, book.spin(&mut stranger)), want);
     same(&judge, why_not(&judge, book.acquire(&mut stranger)), want);
     let (why, (held, proc)) = refused(&judge, book.enter(&mut stranger, held, proc));
     same(&judge, (why, book.history().len()), (want, 0));
     ends(&judge, &mut other, &mut stranger, held);
     pass.open();
     drop(book);
-    is_over(&judge, alloc, other, stranger, proc);
+    report_of(&judge, alloc, other, stranger, proc);
     Ok(())
 }
