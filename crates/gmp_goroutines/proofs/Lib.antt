@@ -1,0 +1,5 @@
+pub mod Answered
+pub mod Arrivals
+pub mod Ties
+pub mod Running
+pub mod Choices

@@ -1,0 +1,18 @@
+use Rattle.std.proofs.Common.{◌≡◌, [], None, replicate, rules, ap}
+use Rattle.std.proofs.lemmas.List.{length-replicate}
+use Rattle.gmp_table.specs.Contents.{opening_contents}
+use Rattle.gmp_goroutines.proofs.Running.{opening_runners}
+use Rattle.gmp_goroutines.proofs.Ties.{opening_tied}
+use Rattle.gmp_goroutines.proofs.goroutines.Goroutines.open.Goals as goal
+
+pub invariant_of-result : goal.invariant_of-result
+invariant_of-result c =
+    let n = c.args.bodies in
+    let table : c.in_ok-table.table ≡ opening_contents n = search rules in
+    let waiters : c.in_ok-channels.channels.waiters ≡ [] = search rules in
+    let bodies : c.in_ok-channels.channels.bodies ≡ n = search rules in
+    let runners : c.in_ok-runners.runners ≡ replicate c.args.machines None = search rules in
+    let rows = ap (λ v. v.table.goroutines) table in (
+      rw (waiters, bodies) (opening_tied n c.in_ok-table.table.table c.requires.some rows (ap (λ v. v.table.arrivals) table)),
+      rw (runners, length-replicate) (opening_runners n c.args.machines c.in_ok-table.table.table rows),
+    )

@@ -1,0 +1,8 @@
+pub mod Present
+pub mod Tied
+pub mod Runners
+pub mod Served
+pub mod Stored
+pub mod Replies
+pub mod Choice
+pub mod Shelf

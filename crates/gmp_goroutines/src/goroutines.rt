@@ -1,0 +1,271 @@
+//! The goroutines, the channels on which they wait, and who runs on each machine.
+ghost use Rattle.std.specs.Prelude.{◌≡◌, ◌<◌, ◌≤◌, ◌^◌, ◌++◌, ◌∷◌, [], true, Some, List, IfOk, IfSome, IsTrue, ◌↔◌, option_copied, length, slice_get};
+ghost use Rattle.gmp_base.specs.declared.number.GNo.{GNo};
+ghost use Rattle.gmp_seq.specs.declared.call.Reply.{Reply};
+ghost use Rattle.gmp_seq.specs.declared.status.Kind.{Kind};
+ghost use Rattle.gmp_seq.specs.declared.status.Place.TheVariants.{Shelf, Out};
+ghost use Rattle.gmp_seq.specs.declared.status.Status.{Status};
+ghost use Rattle.gmp_seq.specs.Step.{Takes, Puts, Claims, Starts, Ticks};
+ghost use Rattle.gmp_seq.specs.Table.{IsReady, IsRunning, RunsNothing, all_woken, epoch_at, how_many_woken, is_astir, is_outstanding, is_running_on, is_shelved, made_ready, made_wait, minded, next_of, set_status, some_status, status_at};
+ghost use Rattle.gmp_seq.specs.declared.call.Call.{Call};
+ghost use Rattle.gmp_table.specs.Waking.{answer_of};
+ghost use Rattle.gmp_goroutines.specs.Shelf.{Shelves, Wakes};
+ghost use Rattle.gmp_goroutines.specs.Present.{OnlyTable, opening_present};
+ghost use Rattle.gmp_goroutines.specs.Stored.{stored_at};
+ghost use Rattle.gmp_goroutines.specs.Replies.{taken, started};
+
+mod calling;
+mod communicating;
+mod pausing;
+mod selecting;
+mod serving;
+
+use crate::runners::Runners;
+use gmp_base::{Fault, GNo, MNo, Readiness, Woke};
+use gmp_chan::Channels;
+use gmp_select::withdraw_all;
+use gmp_seq::{Goroutine, Kind, Offers, Status};
+use gmp_table::{StatusTable, Wake};
+use std::alloc::{AllocError, Global};
+use std::marker::Model;
+
+/// A contract sees the table, the shelf in order, the channels, how many channels there may be, and how many machines there are.
+#[derive(Drop)]
+pub struct Goroutines {
+    table: StatusTable,
+    channels: Channels,
+    runners: Runners,
+}
+
+impl Model for Goroutines {
+    ghost use Rattle.std.specs.Prelude.{length};
+    ghost use Rattle.gmp_goroutines.specs.Runners.{AreRunners};
+    ghost use Rattle.gmp_goroutines.specs.Present.{Present};
+    ghost use Rattle.gmp_goroutines.specs.Tied.{IsTied};
+
+    ghost Value = { Present };
+
+    ghost view = { λ g. record { table = g.table.table; shelf = g.table.shelf; channels = g.channels.channels; limit = g.channels.limit; machines = length g.runners } };
+
+    ghost invariant = { λ g. IsTied g.table.table g.channels.waiters g.channels.bodies × AreRunners g.table.table (length g.runners) g.runners };
+}
+
+/// Starts a body, where there is one that is dormant.
+fn start(table: &mut StatusTable, body: GNo) -> Result<Readiness, Fault>
+    requires { epoch_at table.old.table body < 2 ^ 63 }
+    ensures starts { Starts body (started result) table.old.table table.new.table }
+    ensures shelf { table.new.shelf ≡ table.old.shelf }
+{
+    match table.get(body) {
+        None => Err(Fault::NoSuchBody),
+        Some(row) => match row.status {
+            Status::Dormant => Ok(table.start(body)),
+            _ => Err(Fault::AlreadyStarted),
+        },
+    }
+}
+
+impl Goroutines {
+    /// Goroutine 0 is on the shelf, all others are dormant, and the channels are open and empty.
+    pub fn open(
+        alloc: Global,
+        machines: u8,
+        limit: u16,
+        bodies: u16,
+        capacities: &[u32],
+    ) -> Result<Self, AllocError>
+        requires some { 1 ≤ bodies }
+        requires few { length capacities.now ≤ limit }
+        ensures { IfOk result (λ g. g ≡ opening_present machines limit bodies capacities.now) }
+    {
+        let table = StatusTable::open(alloc, bodies)?;
+        let channels = Channels::open(alloc, limit, bodies, capacities)?;
+        let runners = Runners::none(alloc, machines)?;
+        Ok(Goroutines {
+            table,
+            channels,
+            runners,
+        })
+    }
+
+    pub fn get(&self, g: GNo) -> Option<&Goroutine>
+        ensures { option_copied result ≡ slice_get self.now.table.goroutines g.0 }
+    {
+        self.table.get(g)
+    }
+
+    /// What is stored for g, where it is ready.
+    pub fn stored(&self, g: GNo) -> Woke
+        ensures { result ≡ stored_at self.now.table g }
+    {
+        match self.table.get(g) {
+            Some(row) => match row.status {
+                Status::Ready(_, woke) => woke,
+                _ => Woke::Done,
+            },
+            None => Woke::Done,
+        }
+    }
+
+    /// Whether the ticket of this readiness is given out, and not yet claimed or put back.
+    pub fn is_outstanding(&self, r: Readiness) -> bool
+        ensures { result ≡ is_outstanding self.now.table r }
+    {
+        self.table.is_outstanding(r)
+    }
+
+    /// Whether m runs g.
+    pub fn runs(&self, m: MNo, g: GNo) -> bool
+        ensures { IsTrue result ↔ (status_at self.now.table g ≡ Some (Status.Running m)) }
+    {
+        self.table.runs(m, g)
+    }
+
+    /// Whether m runs some goroutine.
+    pub fn runs_some(&self, m: MNo) -> bool
+        ensures { result ≡ some_status (is_running_on m) self.now.table }
+    {
+        self.runners.runs(m)
+    }
+
+    /// Whether somebody is on the shelf.
+    pub fn has_shelved(&self) -> bool
+        ensures { result ≡ some_status is_shelved self.now.table }
+    {
+        self.table.has_shelved()
+    }
+
+    /// Whether somebody is ready, running or calling, or waits with a deadline.
+    pub fn has_astir(&self) -> bool
+        ensures { result ≡ some_status is_astir self.now.table }
+    {
+        self.table.has_astir()
+    }
+
+    /// The least deadline, where nobody is ready or running: where one stands, it is found by a look at all goroutines.
+    pub fn minded(&self) -> Option<u64>
+        ensures { result ≡ minded self.now.table }
+    {
+        if self.table.has_going() {
+            return None;
+        }
+        self.table.least_deadline()
+    }
+
+    /// Gives out the ticket of the goroutine that is on the shelf for longest.
+    pub fn take(&mut self) -> Option<Readiness>
+        ensures takes { Takes (taken result) self.old.table self.new.table }
+        ensures shelf { Shelves Call.Take (taken result) self.old.table self.new.table self.old.shelf self.new.shelf }
+        ensures only { OnlyTable self.old self.new }
+    {
+        self.table.unshelve()
+    }
+
+    /// Puts a ticket that is out onto the shelf, last.
+    pub fn put(&mut self, r: Readiness)
+        requires { is_outstanding self.old.table r ≡ true }
+        ensures puts { Puts r Reply.Shelf self.old.table self.new.table }
+        ensures last { self.new.shelf ≡ self.old.shelf ++ r.g ∷ [] }
+        ensures only { OnlyTable self.old self.new }
+    {
+        self.table.shelve(r);
+    }
+
+    /// Spends a ticket that is out: m, which runs nothing, runs its goroutine, which is to be told the answer.
+    pub fn claim(&mut self, m: MNo, r: Readiness) -> Woke
+        requires out { is_outstanding self.old.table r ≡ true }
+        requires free { RunsNothing self.old.table m }
+        requires there { m.0 < self.old.machines }
+        ensures claims { Claims m r Reply.Held self.old.table self.new.table }
+        ensures answer { IsReady self.old.table r Out result }
+        ensures shelf { self.new.shelf ≡ self.old.shelf }
+        ensures only { OnlyTable self.old self.new }
+    {
+        let woke = self.table.claim(m, r);
+        self.runners.set(m, Some(r.g));
+        woke
+    }
+
+    /// Starts a body, whose ticket is given out.
+    pub fn go(&mut self, body: GNo) -> Result<Readiness, Fault>
+        requires young { epoch_at self.old.table body < 2 ^ 63 }
+        ensures starts { Starts body (started result) self.old.table self.new.table }
+        ensures shelf { self.new.shelf ≡ self.old.shelf }
+        ensures only { OnlyTable self.old self.new }
+    {
+        start(&mut self.table, body)
+    }
+
+    /// g, which m runs, goes onto the shelf, last.
+    pub fn yield_to(&mut self, m: MNo, g: GNo) -> Readiness
+        requires runs { IsRunning self.old.table g m }
+        requires young { epoch_at self.old.table g < 2 ^ 63 }
+        requires there { m.0 < self.old.machines }
+        ensures ticket { result ≡ next_of self.old.table g }
+        ensures table { self.new.table ≡ made_ready self.old.table g Shelf Woke.Done }
+        ensures last { self.new.shelf ≡ self.old.shelf ++ g ∷ [] }
+        ensures only { OnlyTable self.old self.new }
+    {
+        let r = self.table.requeue(g, Woke::Done);
+        self.runners.set(m, None);
+        r
+    }
+
+    /// g, which m runs, ends.
+    pub fn exit(&mut self, m: MNo, g: GNo)
+        requires runs { IsRunning self.old.table g m }
+        requires there { m.0 < self.old.machines }
+        ensures table { self.new.table ≡ set_status self.old.table g Status.Dead }
+        ensures shelf { self.new.shelf ≡ self.old.shelf }
+        ensures only { OnlyTable self.old self.new }
+    {
+        self.table.dead(g);
+        self.runners.set(m, None);
+    }
+
+    /// g, which m runs, begins to wait, with these offers, until this moment.
+    fn wait(&mut self, m: MNo, g: GNo, kind: Kind, offers: Offers, until: Option<u64>)
+        requires runs { IsRunning self.old.table g m }
+        requires few { self.old.table.arrivals < 2 ^ 63 }
+        requires there { m.0 < self.old.machines }
+        // Who is parked offers nothing.
+        requires bare { kind ≡ Kind.Parked → offers ≡ [] }
+        ensures table { self.new.table ≡ made_wait self.old.table g kind offers until }
+        ensures shelf { self.new.shelf ≡ self.old.shelf }
+        ensures only { OnlyTable self.old self.new }
+    {
+        self.channels
+            .wait_on(g, self.table.arrivals(), kind, &offers);
+        self.table.wait(g, kind, offers, until);
+        self.runners.set(m, None);
+    }
+
+    /// Wakes all these onto the shelf, one after another, and counts them: each is found by a look at all goroutines.
+    fn wake_all(&mut self, wake: Wake) -> u64
+        requires young { (g : GNo) → epoch_at self.old.table g < 2 ^ 63 }
+        ensures table { self.new.table ≡ all_woken (answer_of wake) self.old.table }
+        ensures count { result ≡ how_many_woken (answer_of wake) self.old.table }
+        ensures order { Wakes wake self.old.table self.old.shelf self.new.shelf }
+        ensures only { OnlyTable self.old self.new }
+    {
+        let mut count = 0;
+        while let Some(next) = self.table.next_to_wake(wake) {
+            self.table.requeue(next.g, next.woke);
+            withdraw_all(&mut self.channels, next.g);
+            count += 1;
+        }
+        count
+    }
+
+    /// Lets the clock show this moment, in nanoseconds, unless it showed a later one. All that wait until then or a moment before
+    /// go onto the shelf, by their deadlines, and then by their arrivals. It counts them.
+    pub fn tick(&mut self, moment: u64) -> u64
+        requires young { (g : GNo) → epoch_at self.old.table g < 2 ^ 63 }
+        ensures ticks { Ticks moment (Reply.Woke result) self.old.table self.new.table }
+        ensures order { Wakes (Wake.Due self.new.table.clock) self.old.table self.old.shelf self.new.shelf }
+        ensures only { OnlyTable self.old self.new }
+    {
+        let now = self.table.show(moment);
+        self.wake_all(Wake::Due(now))
+    }
+}

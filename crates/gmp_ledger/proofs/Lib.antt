@@ -1,0 +1,5 @@
+pub mod Lines
+pub mod Choices
+pub mod Granted
+pub mod Counted
+pub mod Saying

@@ -1,0 +1,14 @@
+use Rattle.std.proofs.Common.{sym}
+use Rattle.gmp_ledger.specs.Refusals.{need_lines, turn_lines}
+use Rattle.gmp_ledger.proofs.Lines.{allowed_where, by_first}
+use Rattle.gmp_ledger.proofs.ledger.Ledger.refusal.Goals as goal
+
+pub returns-in-Some-clause-why : goal.returns-in-Some-clause-why
+returns-in-Some-clause-why c =
+    let a = c.args in
+    sym (by_first (turn_lines a.self.now a.pass.now a.values.now) (need_lines a.self.now.state a.pass.now.m a.call.now a.values.now) c.in-Some.why (sym c.in-Some.ensures.why))
+
+pub returns-clause-allowed : goal.returns-clause-allowed
+returns-clause-allowed c =
+    let a = c.args in
+    allowed_where a.self.now a.pass.now a.call.now a.values.now c.need_refusal.result c.need_refusal.ensures c.in_default.ensures.current c.in_default.ensures.ours

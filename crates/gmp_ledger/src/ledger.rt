@@ -1,0 +1,216 @@
+//! The run so far, and the call that goes on with it.
+ghost use Rattle.std.specs.Prelude.{◌≡◌, None, false, IfNone, IfOk, OnErr, OnOk};
+ghost use Rattle.gmp_seq.specs.Fits.{AreLimits};
+ghost use Rattle.gmp_seq.specs.Run.{IsLegal};
+ghost use Rattle.gmp_seq.specs.Table.{is_outstanding};
+ghost use Rattle.gmp_ledger.specs.Grants.{Chooses, Grants, NeedsMemory, Suits, WantsMemory};
+ghost use Rattle.gmp_ledger.specs.Handed.{goroutine_in, names_other, processor_in};
+ghost use Rattle.gmp_ledger.specs.Known.{known_by};
+ghost use Rattle.gmp_seq.specs.Laws.{IsInOrder};
+ghost use Rattle.gmp_ledger.specs.Log.{Records, opening_log};
+ghost use Rattle.gmp_ledger.specs.Refusals.{IsAllowed, IsCurrent, Says, first_refusal, is_foreign, need_lines, refusal_in, refusal_of, turn_lines};
+
+use crate::handed::Handed;
+use crate::scheduler::Scheduler;
+use gmp_base::{MNo, Pass, Readiness, Refusal, Woke};
+use gmp_seq::{Call, Entry, Limits, Outcome, Reply};
+use std::alloc::{AllocError, Global};
+use std::marker::Model;
+
+/// A run of the scheduler. A contract sees what it was opened with, its history, and its present state.
+///
+/// The history is a legal run from the opening to the present state, whatever is called. Only the opening and a make take memory.
+#[derive(Drop)]
+pub struct Ledger {
+    run: u64,
+    limits: Limits,
+    bodies: u16,
+    capacities: Vec<u32>,
+    scheduler: Scheduler,
+    entries: Vec<Entry>,
+}
+
+impl Model for Ledger {
+    ghost use Rattle.std.specs.Prelude.{vec_capacity};
+    ghost use Rattle.gmp_ledger.specs.Kept.{IsKept, IsSized};
+    ghost use Rattle.gmp_ledger.specs.LedgerView.{log_of};
+    ghost use Rattle.gmp_ledger.specs.Log.{Log};
+
+    ghost Value = { Log };
+
+    ghost view = { log_of };
+
+    ghost invariant = { λ l. IsKept (log_of l) (vec_capacity l.entries) × IsSized l.limits l.scheduler };
+}
+
+impl Ledger {
+    /// A run that has made no call yet.
+    pub fn open(
+        alloc: Global,
+        run: u64,
+        limits: Limits,
+        bodies: u16,
+        capacities: Vec<u32>,
+    ) -> Result<Self, AllocError>
+        requires { AreLimits limits bodies capacities.items }
+        ensures { IfOk result (λ l. l ≡ opening_log run limits bodies capacities.items) }
+    {
+        let scheduler = Scheduler::open(alloc, limits, bodies, &capacities)?;
+        let entries = Vec::with_capacity(alloc, limits.entries as usize)?;
+        Ok(Ledger {
+            run,
+            limits,
+            bodies,
+            capacities,
+            scheduler,
+            entries,
+        })
+    }
+
+    /// The run's number.
+    pub fn run(&self) -> u64
+        ensures { result ≡ self.now.run }
+    {
+        self.run
+    }
+
+    /// How the run ended, if it did.
+    pub fn outcome(&self) -> Option<Outcome>
+        ensures { result ≡ self.now.state.outcome }
+    {
+        self.scheduler.outcome()
+    }
+
+    /// Every accepted call with its reply, in order: a legal run.
+    pub fn history(&self) -> &[Entry]
+        ensures entries { result.now ≡ self.now.history }
+        ensures legal { IsLegal self.now.limits self.now.bodies self.now.capacities self.now.history self.now.state }
+        ensures within { AreLimits self.now.limits self.now.bodies self.now.capacities }
+    {
+        self.entries.as_slice()
+    }
+
+    /// Whether the ticket of this readiness is given out, and not yet claimed or put back.
+    pub fn is_outstanding(&self, r: Readiness) -> bool
+        ensures { result ≡ is_outstanding self.now.state.table r }
+    {
+        self.scheduler.is_outstanding(r)
+    }
+
+    /// What a call has for a goroutine to be told, whatever the reply.
+    pub fn known(&self, call: &Call) -> Option<Woke>
+        ensures { result ≡ known_by call.now self.now.state.table }
+    {
+        match call {
+            Call::Claim(r) => Some(self.scheduler.stored(r.g)),
+            Call::Leave(number) => Some(Woke::Number(*number)),
+            _ => None,
+        }
+    }
+
+    /// Why a call with these values is refused, if it is.
+    fn refusal(&self, pass: &Pass, call: &Call, values: &Handed) -> Option<Refusal>
+        ensures why { result ≡ refusal_of self.now pass.now call.now values.now }
+        ensures allowed { IfNone result (IsAllowed self.now pass.now call.now values.now) }
+    {
+        if let Some(why) = self.turn_refusal(pass, values) {
+            return Some(why);
+        }
+        self.need_refusal(pass.m, call, values)
+    }
+
+    /// Does the state allow what the machine asks?
+    fn need_refusal(&self, m: MNo, call: &Call, values: &Handed) -> Option<Refusal>
+        ensures { result ≡ first_refusal (need_lines self.now.state m call.now values.now) }
+    {
+        self.scheduler.need_refusal(m, call, values)
+    }
+
+    /// Is the pass the machine's latest, of this run, and does the run last?
+    fn turn_refusal(&self, pass: &Pass, values: &Handed) -> Option<Refusal>
+        ensures why { result ≡ first_refusal (turn_lines self.now pass.now values.now) }
+        ensures current { IfNone result (IsCurrent self.now pass.now) }
+        ensures ours { IfNone result (names_other self.now.run values.now ≡ false) }
+    {
+        if self.is_foreign(pass, values) {
+            return Some(Refusal::WrongRun);
+        }
+        let calls = self.scheduler.calls(pass.m);
+        if pass.calls != calls {
+            return Some(Refusal::OutOfTurn(calls));
+        }
+        let length = self.entries.len() as u64;
+        if pass.seen > length {
+            return Some(Refusal::Behind(length, pass.seen));
+        }
+        if self.scheduler.outcome().is_some() {
+            return Some(Refusal::Over);
+        }
+        None
+    }
+
+    fn is_foreign(&self, pass: &Pass, values: &Handed) -> bool
+        ensures { result ≡ is_foreign self.now pass.now values.now }
+    {
+        pass.run != self.run || pass.m.0 >= self.limits.machines || values.names_other(self.run)
+    }
+
+    /// The machine of the pass makes the call, which is allowed. Where that is refused memory there is no entry.
+    fn accept(
+        &mut self,
+        memory: Option<Global>,
+        pass: &mut Pass,
+        call: Call,
+        values: &Handed,
+        word: u64,
+    ) -> Result<Reply, AllocError>
+        requires suits { Suits call values.now }
+        requires memory { NeedsMemory call memory }
+        requires allowed { IsAllowed self.old pass.old call values.now }
+        ensures records { IfOk result (λ reply. Records self.old pass.old call reply self.new pass.new) }
+        ensures choice { IfOk result (λ reply. Chooses call word reply self.old.state self.old.shelf) }
+        ensures grants { Grants pass.old.m (goroutine_in values.now) (processor_in values.now) call self.old.state }
+        ensures ours { names_other self.old.run values.now ≡ false }
+        ensures order { OnOk result (IsInOrder self.old.limits self.old.state) }
+        ensures err { OnErr result ((self.new ≡ self.old) × (pass.new ≡ pass.old)) }
+        ensures wanted { OnErr result (WantsMemory self.old.limits call self.old.state) }
+    {
+        let (m, k) = (pass.m, pass.calls);
+        let (g, p) = (values.goroutine(), values.processor());
+        let made = self.entries.len() + 1;
+        let reply = self
+            .scheduler
+            .step(memory, self.limits, m, g, p, &call, word, made)?;
+        self.entries.push_reserved(Entry { m, k, call, reply });
+        pass.advance(made as u64);
+        Ok(reply)
+    }
+
+    /// The machine of the pass makes the call, with these values, or it is refused. `word` chooses among the cases of a select.
+    pub fn call(
+        &mut self,
+        memory: Option<Global>,
+        pass: &mut Pass,
+        call: Call,
+        values: &Handed,
+        word: u64,
+    ) -> Result<Reply, Refusal>
+        requires suits { Suits call values.now }
+        requires memory { NeedsMemory call memory }
+        ensures refused { Says (WantsMemory self.old.limits call self.old.state) (refusal_of self.old pass.old call values.now) (refusal_in result) }
+        ensures err { OnErr result ((self.new ≡ self.old) × (pass.new ≡ pass.old)) }
+        ensures records { IfOk result (λ reply. Records self.old pass.old call reply self.new pass.new) }
+        ensures choice { IfOk result (λ reply. Chooses call word reply self.old.state self.old.shelf) }
+        ensures grants { OnOk result (Grants pass.old.m (goroutine_in values.now) (processor_in values.now) call self.old.state) }
+        ensures order { OnOk result (IsInOrder self.old.limits self.old.state) }
+        ensures ours { OnOk result (names_other self.old.run values.now ≡ false) }
+    {
+        if let Some(why) = self.refusal(pass, &call, values) {
+            return Err(why);
+        }
+        match self.accept(memory, pass, call, values, word) {
+            Ok(reply) => Ok(reply),
+            Err(_) => Err(Refusal::OutOfMemory),
+        }
+    }
+}

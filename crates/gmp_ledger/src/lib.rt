@@ -1,0 +1,10 @@
+//! The ledger: every call of the scheduler, made whole by a pass or refused. What it keeps is always a legal run.
+#![tactic(auto)]
+
+mod handed;
+mod ledger;
+mod replies;
+mod scheduler;
+
+pub use handed::Handed;
+pub use ledger::Ledger;

@@ -1,0 +1,109 @@
+//! Whether the state allows what a machine asks.
+ghost use Rattle.std.specs.Prelude.{◌≡◌, false};
+ghost use Rattle.std.specs.Option.{option_map_or};
+ghost use Rattle.gmp_seq.specs.Table.{is_running_on, status_at};
+ghost use Rattle.gmp_ledger.specs.Refusals.{first_refusal, need_lines, is_busy, lacks_processor, is_spent, is_anothers, is_calling_on, runs_some};
+
+use crate::handed::Handed;
+use crate::scheduler::Scheduler;
+use gmp_base::{GNo, MNo, Refusal};
+use gmp_seq::{Call, Status};
+
+impl Scheduler {
+    /// Does the state allow what the machine asks?
+    pub(crate) fn need_refusal(&self, m: MNo, call: &Call, values: &Handed) -> Option<Refusal>
+        ensures { result ≡ first_refusal (need_lines self.now.state m call.now values.now) }
+    {
+        if self.is_busy(m, call) {
+            return Some(Refusal::Busy);
+        }
+        if self.lacks_processor(m, call) {
+            return Some(Refusal::NoProcessor);
+        }
+        if self.is_spent(values) {
+            return Some(Refusal::NotOutstanding);
+        }
+        if self.is_anothers(m, values) {
+            return Some(Refusal::NotHeld);
+        }
+        None
+    }
+
+    /// Whether m's state forbids the call.
+    fn is_busy(&self, m: MNo, call: &Call) -> bool
+        ensures { result ≡ is_busy self.now.state m call.now }
+    {
+        match call {
+            Call::Acquire => !self.machines.is_awake(m) || self.machines.has_processor(m),
+            Call::Take | Call::Put(_) | Call::Unspin | Call::Poke | Call::Tick(_) => {
+                !self.machines.is_awake(m)
+            }
+            Call::Claim(_) => {
+                !self.machines.is_awake(m) || self.runs_some(m) || self.machines.spins(m)
+            }
+            Call::Spin => !self.machines.is_awake(m) || self.runs_some(m),
+            Call::Woken => self.machines.is_calling(m),
+            Call::Declare => self.runs_some(m) || self.machines.spins(m),
+            Call::Bare | Call::Park => {
+                !self.machines.is_awake(m)
+                    || self.machines.has_processor(m)
+                    || self.machines.spins(m)
+            }
+            _ => false,
+        }
+    }
+
+    fn lacks_processor(&self, m: MNo, call: &Call) -> bool
+        ensures { result ≡ lacks_processor self.now.state m call.now }
+    {
+        match call {
+            Call::Claim(_) => !self.machines.has_processor(m),
+            _ => false,
+        }
+    }
+
+    /// Whether a ticket is not outstanding.
+    fn is_spent(&self, values: &Handed) -> bool
+        ensures { result ≡ is_spent self.now.state values.now }
+    {
+        values
+            .ticket
+            .is_some_and(|(_, r)| !self.goroutines.is_outstanding(r))
+    }
+
+    /// Whether a value, no ticket, is not m's.
+    fn is_anothers(&self, m: MNo, values: &Handed) -> bool
+        ensures { result ≡ is_anothers self.now.state m values.now }
+    {
+        values.held.is_some_and(|(_, g)| !self.runs(m, g))
+            || values.called.is_some_and(|(_, g)| !self.calls_for(m, g))
+            || values.proc.is_some_and(|(_, p)| !self.machines.holds(m, p))
+    }
+
+    /// Whether m runs some goroutine.
+    fn runs_some(&self, m: MNo) -> bool
+        ensures { result ≡ runs_some self.now.state m }
+    {
+        self.goroutines.runs_some(m)
+    }
+
+    /// Whether m runs g.
+    fn runs(&self, m: MNo, g: GNo) -> bool
+        ensures { result ≡ option_map_or (is_running_on m) (status_at self.now.state.table g) false }
+    {
+        self.goroutines.runs(m, g)
+    }
+
+    /// Whether m makes the blocking call of g.
+    fn calls_for(&self, m: MNo, g: GNo) -> bool
+        ensures { result ≡ option_map_or (is_calling_on m) (status_at self.now.state.table g) false }
+    {
+        match self.goroutines.get(g) {
+            Some(row) => match &row.status {
+                Status::Calling(n) => m.0 == n.0,
+                _ => false,
+            },
+            None => false,
+        }
+    }
+}
