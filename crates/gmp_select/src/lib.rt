@@ -7,7 +7,8 @@ mod choosing;
 mod waiting;
 
 pub use choosing::{choose, ready_cases};
-pub use waiting::{complete, offer_of, register, withdraw_all};
+pub use gmp_chan::offer_of;
+pub use waiting::{complete, register, withdraw_all};
 
 #[cfg(test)]
 mod tests;

@@ -1,29 +1,14 @@
 //! Who waits for any of its cases, and the case that proceeds.
-ghost use Rattle.std.specs.Prelude.{◌≡◌, ◌<◌, [], ◌∷◌, ◌++◌, Some, true, count_by, is_some, option_to_list, IfNone, IfSome};
+ghost use Rattle.std.specs.Prelude.{◌≡◌, ◌<◌, ◌++◌, Some, true, count_by, is_some, IfNone, IfSome};
 ghost use Rattle.gmp_seq.specs.declared.status.Kind.{Kind};
 ghost use Rattle.gmp_seq.specs.declared.status.Waiter.{Waiter};
-ghost use Rattle.gmp_seq.specs.Waits.{Proceeds, as_waiters, can, channel_of, names_no_missing, offers_from, offers_of};
+ghost use Rattle.gmp_seq.specs.Waits.{Proceeds, as_waiters, can, channel_of, names_no_missing, offers_of};
 ghost use Rattle.gmp_chan.specs.Contents.{is_of, without, without_served};
 ghost use Rattle.gmp_select.specs.Waiting.{served};
 
 use gmp_base::{Case, Cases, GNo};
-use gmp_chan::Channels;
-use gmp_seq::{Deal, Kind, Offer, Offers, Transfer};
-
-/// What a case offers once it waits: nothing on nil.
-pub fn offer_of(i: u8, case: Case) -> Option<Offer>
-    ensures { option_to_list result ≡ offers_from i (case ∷ []) }
-{
-    let (channel, deal) = match case {
-        Case::Send(c, v) => (c?, Deal::Send(v)),
-        Case::Recv(c) => (c?, Deal::Receive),
-    };
-    Some(Offer {
-        case: i,
-        channel,
-        deal,
-    })
-}
+use gmp_chan::{Channels, offer_of};
+use gmp_seq::{Kind, Offers, Transfer};
 
 /// The offers of a select: one for each case that isn't on nil, by its number.
 fn offers_of(cases: &Cases) -> Offers
@@ -71,8 +56,5 @@ pub fn complete(channels: &mut Channels, case: Case) -> Option<Transfer>
     ensures limit { channels.new.limit ≡ channels.old.limit }
     ensures bodies { channels.new.bodies ≡ channels.old.bodies }
 {
-    match case {
-        Case::Send(c, v) => channels.try_send(c, v),
-        Case::Recv(c) => channels.try_recv(c),
-    }
+    channels.proceed(case)
 }
