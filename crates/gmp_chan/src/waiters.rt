@@ -3,6 +3,7 @@ ghost use Rattle.std.specs.Prelude.{◌≡◌, ◌<◌, ◌++◌, [], count_by, 
 ghost use Rattle.gmp_seq.specs.declared.status.Waiter.{Waiter};
 ghost use Rattle.gmp_seq.specs.Waits.{as_waiters, first_on, is_on};
 ghost use Rattle.gmp_chan.specs.Contents.{is_of, without};
+ghost use Rattle.gmp_chan.specs.Order.{is_at};
 ghost use Rattle.gmp_chan.specs.Waiting.{Waiting};
 
 use gmp_base::{CNo, GNo};
@@ -52,6 +53,12 @@ fn first_on(list: &[Waiter], c: CNo, direction: Direction) -> Option<Waiter>
     list.iter().copied().find(|w| w.is_on(c, direction))
 }
 
+fn first_at(list: &[Waiter], c: CNo) -> Option<Waiter>
+    ensures { result ≡ find (is_at c) list.now }
+{
+    list.iter().copied().find(|w| w.offer.channel == c)
+}
+
 impl Waiters {
     /// Nobody waits.
     pub(crate) fn open(alloc: Global, bodies: u16) -> Result<Self, AllocError>
@@ -66,6 +73,13 @@ impl Waiters {
         ensures { result ≡ first_on self.now.list c direction }
     {
         first_on(&self.list, c, direction)
+    }
+
+    /// Who waits first on the channel, in either direction.
+    pub(crate) fn first_at(&self, c: CNo) -> Option<Waiter>
+        ensures { result ≡ find (is_at c) self.now.list }
+    {
+        first_at(&self.list, c)
     }
 
     /// Goroutine g begins to wait.

@@ -1,5 +1,6 @@
 pub mod Answered
 pub mod Arrivals
+pub mod Closing
 pub mod Ties
 pub mod Running
 pub mod Choices

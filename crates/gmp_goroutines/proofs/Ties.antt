@@ -37,8 +37,8 @@ use Rattle.gmp_seq.specs.State.{dormant, first_goroutine}
 use Rattle.gmp_seq.specs.Step.{Takes, Puts, Claims, Starts, Readies, Ticks, served_by}
 use Rattle.gmp_seq.specs.Table.{Table, IsOffShelf, IsCalling, IsRunning, status_at, epoch_at, is_parked, is_waiting, set_status, made_ready, made_wait}
 use Rattle.gmp_seq.specs.Waits.{Channel, Proceeds, first_on, as_waiters, first_waiters, waiters}
-use Rattle.gmp_goroutines.specs.Served.{with_served}
-use Rattle.gmp_select.specs.Waiting.{served}
+use Rattle.gmp_goroutines.specs.Served.{IsWayOf}
+use Rattle.gmp_chan.specs.Served.{served}
 use Rattle.gmp_goroutines.specs.Tied.{IsTied}
 use Rattle.gmp_goroutines.proofs.Arrivals.{ready_waiters, turned_waiters, wait_waiters}
 
@@ -336,12 +336,10 @@ served_off t old new records c Stored w same h e = absurd cc
 served_off t old new records c (First v) w same h e = absurd cc
 served_off t old new records c Drained w same h e = absurd cc
 
--- who was served is as the definitions have it
-pub with_served_is : (t : Table) (old new : List Channel) (records : List Waiter) (c : Case) (how : Transfer) → Proceeds old records c how new → with_served t c how ≡ served_by t c how
-with_served_is t old new records (case.Send (Some c) v) (Handed w) h = refl
-with_served_is t old new records (case.Recv (Some c)) (Relayed v w) h = refl
-with_served_is t old new records (case.Send (Some c) v) Failed h = refl
-with_served_is t old new records (case.Send (Some c) v) Stored h = refl
-with_served_is t old new records (case.Recv (Some c)) (First v) h = refl
-with_served_is t old new records (case.Recv (Some c)) Drained h = refl
-with_served_is t old new records _ how h = absurd h
+-- a case proceeds in a way of its own
+pub way_is : (old new : List Channel) (records : List Waiter) (c : Case) (how : Transfer) → Proceeds old records c how new → IsWayOf c how
+way_is old new records (case.Send None v) how h = absurd h
+way_is old new records (case.Recv None) how h = absurd h
+way_is old new records (case.Recv (Some c)) (Handed w) h = absurd h
+way_is old new records (case.Send (Some c) v) (Relayed x w) h = absurd h
+way_is old new records _ how h = tt

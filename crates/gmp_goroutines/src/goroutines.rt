@@ -8,11 +8,13 @@ ghost use Rattle.gmp_seq.specs.declared.status.Status.{Status};
 ghost use Rattle.gmp_seq.specs.Step.{Takes, Puts, Claims, Starts, Ticks};
 ghost use Rattle.gmp_seq.specs.Table.{IsReady, IsRunning, RunsNothing, all_woken, epoch_at, how_many_woken, is_astir, is_outstanding, is_running_on, is_shelved, made_ready, made_wait, minded, next_of, set_status, some_status, status_at};
 ghost use Rattle.gmp_seq.specs.declared.call.Call.{Call};
-ghost use Rattle.gmp_table.specs.Waking.{answer_of};
+ghost use Rattle.gmp_table.specs.declared.wake.Wake.{Wake};
+ghost use Rattle.gmp_table.specs.Waking.{IsFirst, answer_of};
 ghost use Rattle.gmp_goroutines.specs.Shelf.{Shelves, Wakes};
 ghost use Rattle.gmp_goroutines.specs.Present.{OnlyTable, opening_present};
 ghost use Rattle.gmp_goroutines.specs.Stored.{stored_at};
 ghost use Rattle.gmp_goroutines.specs.Replies.{taken, started};
+ghost use Rattle.gmp_goroutines.specs.Tied.{IsTied};
 
 mod calling;
 mod communicating;
@@ -21,11 +23,10 @@ mod selecting;
 mod serving;
 
 use crate::runners::Runners;
-use gmp_base::{Fault, GNo, MNo, Readiness, Woke};
+use gmp_base::{CNo, Fault, GNo, MNo, Readiness, Woke};
 use gmp_chan::Channels;
-use gmp_select::withdraw_all;
 use gmp_seq::{Goroutine, Kind, Offers, Status};
-use gmp_table::{StatusTable, Wake};
+use gmp_table::{Candidate, Rank, StatusTable, Wake};
 use std::alloc::{AllocError, Global};
 use std::marker::Model;
 
@@ -62,6 +63,33 @@ fn start(table: &mut StatusTable, body: GNo) -> Result<Readiness, Fault>
             Status::Dormant => Ok(table.start(body)),
             _ => Err(Fault::AlreadyStarted),
         },
+    }
+}
+
+/// Who of those that wait on a channel is woken first by its close, and what it is told.
+fn first_waiting(table: &StatusTable, channels: &Channels, c: CNo) -> Option<Candidate>
+    requires { IsTied table.now.table channels.now.waiters channels.now.bodies }
+    ensures { IsFirst (Wake.Closed c) table.now.table.goroutines (length table.now.table.goroutines) result }
+{
+    let w = channels.first_waiting(c)?;
+    Some(Candidate {
+        g: w.g,
+        rank: Rank {
+            moment: 0,
+            arrival: w.arrival,
+        },
+        woke: w.offer.closed_answer(w.kind),
+    })
+}
+
+/// Who is woken next, and what it is told.
+fn next_to_wake(table: &StatusTable, channels: &Channels, wake: Wake) -> Option<Candidate>
+    requires { IsTied table.now.table channels.now.waiters channels.now.bodies }
+    ensures { IsFirst wake table.now.table.goroutines (length table.now.table.goroutines) result }
+{
+    match wake {
+        Wake::Closed(c) => first_waiting(table, channels, c),
+        Wake::Due(now) => table.due(now),
     }
 }
 
@@ -240,7 +268,7 @@ impl Goroutines {
         self.runners.set(m, None);
     }
 
-    /// Wakes all these onto the shelf, one after another, and counts them: each is found by a look at all goroutines.
+    /// Wakes all these onto the shelf, one after another, and counts them.
     fn wake_all(&mut self, wake: Wake) -> u64
         requires young { (g : GNo) → epoch_at self.old.table g < 2 ^ 63 }
         ensures table { self.new.table ≡ all_woken (answer_of wake) self.old.table }
@@ -248,11 +276,13 @@ impl Goroutines {
         ensures order { Wakes wake self.old.table self.old.shelf self.new.shelf }
         ensures only { OnlyTable self.old self.new }
     {
+        let bodies = u64::from(self.table.len());
         let mut count = 0;
-        while let Some(next) = self.table.next_to_wake(wake) {
+        while let Some(next) = next_to_wake(&self.table, &self.channels, wake) {
             self.table.requeue(next.g, next.woke);
-            withdraw_all(&mut self.channels, next.g);
+            self.channels.withdraw(next.g);
             count += 1;
+            prove!(count <= bodies);
         }
         count
     }
@@ -265,7 +295,7 @@ impl Goroutines {
         ensures order { Wakes (Wake.Due self.new.table.clock) self.old.table self.old.shelf self.new.shelf }
         ensures only { OnlyTable self.old self.new }
     {
-        let now = self.table.show(moment);
+        let now = self.table.advance_clock(moment);
         self.wake_all(Wake::Due(now))
     }
 }

@@ -11,11 +11,9 @@ use Rattle.gmp_base.specs.declared.refusal.Refusal.TheVariants.{Over, WrongRun, 
 use Rattle.gmp_base.specs.declared.refusal.Refused.{Refused}
 use Rattle.gmp_seq.specs.declared.call.Call.{Call}
 use Rattle.gmp_seq.specs.declared.call.Call.TheVariants as call
-use Rattle.gmp_seq.specs.declared.status.Status.{Status}
-use Rattle.gmp_seq.specs.declared.status.Status.TheVariants as status
 use Rattle.gmp_seq.specs.Machines.{has_processor, is_held_by, spins}
 use Rattle.gmp_seq.specs.State.{State}
-use Rattle.gmp_seq.specs.Table.{is_outstanding, is_running_on, some_status, status_at}
+use Rattle.gmp_seq.specs.Table.{is_calling_on, is_outstanding, is_running_on, some_status, status_at}
 use Rattle.gmp_idle.specs.Replies.{is_awake_mode, is_calling_mode}
 use Rattle.gmp_ledger.specs.declared.handed.Handed.{Handed}
 use Rattle.gmp_ledger.specs.Handed.{names_other}
@@ -60,10 +58,6 @@ is_busy s m _ = false
 abbrev pub lacks_processor : State → MNo → Call → Bool
 lacks_processor s m (call.Claim r) = not (has_processor s.machines m)
 lacks_processor s m _ = false
-
-abbrev pub is_calling_on : MNo → Status → Bool
-is_calling_on m (status.Calling n) = m.0 == n.0
-is_calling_on m _ = false
 
 -- a ticket is not given out, or was claimed or put back
 abbrev pub is_spent : State → Handed → Bool

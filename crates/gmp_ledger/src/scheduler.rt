@@ -63,7 +63,7 @@ impl Scheduler {
                 bodies,
                 capacities,
             )?,
-            machines: Machines::awake(alloc, limits.procs, limits.machines)?,
+            machines: Machines::opening(alloc, limits.procs, limits.machines)?,
             counts: vec![in alloc; 0; limits.machines as usize]?,
             outcome: None,
         })

@@ -41,8 +41,5 @@ pub fn complete(channels: &mut Channels, case: Case) -> Option<Transfer>
     ensures limit { channels.new.limit ≡ channels.old.limit }
     ensures bodies { channels.new.bodies ≡ channels.old.bodies }
 {
-    match case {
-        Case::Send(c, v) => channels.try_send(c, v),
-        Case::Recv(c) => channels.try_recv(c),
-    }
+    channels.proceed(case)
 }

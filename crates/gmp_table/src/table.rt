@@ -6,6 +6,7 @@ ghost use Rattle.gmp_seq.specs.Step.{Takes, Puts, Claims, Starts};
 ghost use Rattle.gmp_seq.specs.Table.{IsReady, IsOffShelf, status_at, epoch_at, next_of, some_status, is_shelved, is_astir, is_ready_or_running, is_outstanding, least_deadline, set_status, made_ready, made_wait};
 ghost use Rattle.gmp_table.specs.Kept.{IsListing};
 ghost use Rattle.gmp_table.specs.Contents.{Contents, opening_contents};
+ghost use Rattle.gmp_table.specs.declared.wake.Wake.{Wake};
 ghost use Rattle.gmp_table.specs.Waking.{IsFirst};
 
 use crate::rows::Rows;
@@ -155,6 +156,16 @@ impl StatusTable {
         ensures few { length self.now.table.goroutines < 2 ^ 16 }
     {
         self.rows.next_to_wake(wake)
+    }
+
+    /// Who of those whose deadline is at this moment, in nanoseconds, or before is woken first, by deadline and then by arrival, and what
+    /// it is told: found by a look at all goroutines, at none where nobody waits with a deadline.
+    pub fn due(&self, now: u64) -> Option<Candidate>
+        ensures first { IsFirst (Wake.Due now) self.now.table.goroutines (length self.now.table.goroutines) result }
+        // So few can be woken.
+        ensures few { length self.now.table.goroutines < 2 ^ 16 }
+    {
+        self.rows.next_to_wake(Wake::Due(now))
     }
 
     /// Gives out the ticket of the goroutine that is on the shelf for longest.

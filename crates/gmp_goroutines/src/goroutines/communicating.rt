@@ -13,12 +13,9 @@ ghost use Rattle.gmp_goroutines.specs.Present.{SameSizes, state_of};
 
 use crate::goroutines::Goroutines;
 use gmp_base::{CNo, Fault};
-use gmp_seq::Reply;
+use gmp_seq::{MOST_CAPACITY, Reply};
 use gmp_table::Wake;
 use std::alloc::{AllocError, Global};
-
-/// A channel has room for at most so many values.
-const MOST_ROOM: u32 = 4096;
 
 impl Goroutines {
     /// Makes an open, empty channel with this capacity, by the next number, or answers the fault. Only a channel takes memory.
@@ -28,7 +25,7 @@ impl Goroutines {
         ensures err { OnErr result (self.new ≡ self.old) }
         ensures needed { OnErr result ((capacity ≤ 4096) × (length self.old.channels < self.old.limit)) }
     {
-        if capacity > MOST_ROOM {
+        if capacity > MOST_CAPACITY {
             return Ok(Reply::Fault(Fault::BadCapacity));
         }
         if self.channels.is_full() {

@@ -11,10 +11,9 @@ ghost use Rattle.gmp_goroutines.specs.Choice.{IsChoice, choice};
 ghost use Rattle.gmp_goroutines.specs.Present.{OnlyTable, SameSizes, state_of};
 
 use crate::goroutines::Goroutines;
-use crate::goroutines::serving::channel_of;
 use gmp_base::{Cases, Fault, GNo, MNo};
 use gmp_select::{choose, ready_cases, register};
-use gmp_seq::{Kind, Reply};
+use gmp_seq::{Kind, Reply, channel_of};
 
 impl Goroutines {
     /// Whether each case names nil or a channel that was made.

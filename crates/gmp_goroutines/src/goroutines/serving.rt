@@ -2,68 +2,41 @@
 ghost use Rattle.std.specs.Prelude.{◌≡◌, ◌<◌, ◌^◌, ◌∷◌, [], ℕ, Some, None, IfNone, IfSome, is_some, true};
 ghost use Rattle.gmp_base.specs.declared.number.GNo.{GNo};
 ghost use Rattle.gmp_seq.specs.declared.status.Waiter.{Waiter};
-ghost use Rattle.gmp_seq.specs.Step.{Communicates, Deals, told_of};
+ghost use Rattle.gmp_seq.specs.Step.{Communicates, Deals, served_by, told_of};
 ghost use Rattle.gmp_seq.specs.Table.{IsOffShelf, IsRunning, epoch_at};
 ghost use Rattle.gmp_seq.specs.Waits.{can, channel_of, names_no_missing, offers_of, waiters};
-ghost use Rattle.gmp_select.specs.Waiting.{served};
+ghost use Rattle.gmp_chan.specs.Served.{served};
 ghost use Rattle.gmp_goroutines.specs.Present.{SameSizes, state_of};
-ghost use Rattle.gmp_goroutines.specs.Served.{plain_reply, served_answer, with_served};
+ghost use Rattle.gmp_goroutines.specs.Served.{IsWayOf, plain_reply};
 
 use crate::goroutines::Goroutines;
-use gmp_base::{CNo, Case, Fault, GNo, MNo, Woke};
-use gmp_select::{complete, offer_of};
-use gmp_seq::{Kind, Offers, Relay, Reply, Taken, Transfer, Waiter};
+use gmp_base::{Case, Fault, GNo, MNo};
+use gmp_seq::{Kind, Offers, Relay, Reply, Taken, Transfer, channel_of};
 use gmp_table::StatusTable;
-
-/// The channel that a case names.
-pub(super) fn channel_of(case: Case) -> Option<CNo>
-    ensures { result ≡ channel_of case }
-{
-    match case {
-        Case::Send(c, _) => c,
-        Case::Recv(c) => c,
-    }
-}
-
-/// The offer of one send or receive, if it isn't on nil.
-fn one_offer(case: Case) -> Offers
-    ensures { result ≡ offers_of (case ∷ []) }
-{
-    let mut offers = Offers::new();
-    if let Some(offer) = offer_of(0, case) {
-        offers.push(offer);
-    }
-    offers
-}
-
-/// What a waiter is told that is served by this case.
-fn served_answer(case: Case, w: Waiter) -> Woke
-    ensures { result ≡ served_answer case w }
-{
-    match case {
-        Case::Send(_, v) => w.offer.receiver_answer(w.kind, v, true),
-        Case::Recv(_) => w.sender_answer(),
-    }
-}
 
 /// Makes ready who was served by a communication, and answers what it comes to.
 fn serve(table: &mut StatusTable, case: Case, how: Transfer) -> Taken
+    requires way { IsWayOf case how }
     requires off { (w : Waiter) → served how ≡ Some w → IsOffShelf table.old.table w.g }
     requires young { (h : GNo) → epoch_at table.old.table h < 2 ^ 63 }
     ensures told { result ≡ told_of table.old.table how }
-    ensures table { table.new.table ≡ with_served table.old.table case how }
+    ensures table { table.new.table ≡ served_by table.old.table case how }
     ensures shelf { table.new.shelf ≡ table.old.shelf }
 {
     match how {
         Transfer::Failed => Taken::Failed,
         Transfer::Handed(w) => {
-            let to = table.ready(w.g, served_answer(case, w));
-            Taken::Sent(Some(to))
+            let Case::Send(_, v) = case else {
+                unreachable!()
+            };
+            let receiver = table.ready(w.g, w.offer.receiver_answer(w.kind, v, true));
+            Taken::Sent(Some(receiver))
         }
         Transfer::Stored => Taken::Sent(None),
         Transfer::First(v) => Taken::Got(v, true, None),
         Transfer::Relayed(v, w) => {
-            let sender = table.ready(w.g, served_answer(case, w));
+            let Case::Recv(_) = case else { unreachable!() };
+            let sender = table.ready(w.g, w.sender_answer());
             let value = w.offered();
             Taken::Got(v, true, Some(Relay { sender, value }))
         }
@@ -93,7 +66,7 @@ impl Goroutines {
         ensures shelf { self.new.shelf ≡ self.old.shelf }
         ensures sizes { SameSizes self.old self.new }
     {
-        let how = complete(&mut self.channels, case)?;
+        let how = self.channels.proceed(case)?;
         Some(serve(&mut self.table, case, how))
     }
 
@@ -113,7 +86,7 @@ impl Goroutines {
         match self.proceed(case) {
             Some(taken) => plain_reply(taken),
             None => {
-                self.wait(m, g, Kind::Plain, one_offer(case), None);
+                self.wait(m, g, Kind::Plain, Offers::of(&[case]), None);
                 Reply::Waits
             }
         }

@@ -1,13 +1,13 @@
 //! Whether the state allows what a machine asks.
 ghost use Rattle.std.specs.Prelude.{◌≡◌, false};
 ghost use Rattle.std.specs.Option.{option_map_or};
-ghost use Rattle.gmp_seq.specs.Table.{is_running_on, status_at};
-ghost use Rattle.gmp_ledger.specs.Refusals.{first_refusal, need_lines, is_busy, lacks_processor, is_spent, is_anothers, is_calling_on, runs_some};
+ghost use Rattle.gmp_seq.specs.Table.{is_calling_on, is_running_on, status_at};
+ghost use Rattle.gmp_ledger.specs.Refusals.{first_refusal, need_lines, is_busy, lacks_processor, is_spent, is_anothers, runs_some};
 
 use crate::handed::Handed;
 use crate::scheduler::Scheduler;
 use gmp_base::{GNo, MNo, Refusal};
-use gmp_seq::{Call, Status};
+use gmp_seq::Call;
 
 impl Scheduler {
     /// Does the state allow what the machine asks?
@@ -99,10 +99,7 @@ impl Scheduler {
         ensures { result ≡ option_map_or (is_calling_on m) (status_at self.now.state.table g) false }
     {
         match self.goroutines.get(g) {
-            Some(row) => match &row.status {
-                Status::Calling(n) => m.0 == n.0,
-                _ => false,
-            },
+            Some(row) => row.status.is_calling_on(m),
             None => false,
         }
     }

@@ -1,4 +1,5 @@
-use Rattle.std.proofs.Common.{◌≡◌, [], ◌∷◌, ◌++◌, Some, length, ap, sym, ◌∙◌}
+use Rattle.std.proofs.Common.{◌≡◌, [], ◌∷◌, ◌++◌, Some, is_some, length, arith, ap, sym, ◌∙◌}
+use Rattle.std.proofs.lemmas.List.Sums.{count_by-le-length}
 use Rattle.std.specs.Option.{option_map}
 use Rattle.gmp_base.specs.declared.ask.Woke.{Woke}
 use Rattle.gmp_base.specs.declared.number.MNo.{MNo}
@@ -27,43 +28,53 @@ pub loop-next-smaller : goal.loop-next-smaller
 loop-next-smaller c =
     let woken = c.loop-next.invariant.woken in
     next_less c.args.wake c.self.inside.table c.loop-next.self-inside.table c.requeue.new.self woken.0 c.loop-next.count c.in-Some.next woken.1
-    c.in-Some.ensures.first c.requeue.ensures.table c.requeue.ensures.last
+    c.in-Some.ensures c.requeue.ensures.table c.requeue.ensures.last
 
 pub loop-next-preserved : goal.loop-next-preserved
 loop-next-preserved c =
     let woken = c.loop-next.invariant.woken in
     let i = c.loop-next.self-inside in
     let next = c.in-Some.next in
-    let first = c.in-Some.ensures.first in
+    let first = c.in-Some.ensures in
     record {
       woken = (
         woken.0 ++ next.g ∷ [],
         next_more c.args.wake c.self.inside.table i.table c.requeue.new.self woken.0 c.loop-next.count next woken.1 first c.requeue.ensures.table c.requeue.ensures.last,
       );
-      tied = rw (c.requeue.ensures.table, c.withdraw_all.ensures.rest) (tied_ready i.table.table next.g _ _ i.channels.waiters i.channels.bodies c.loop-next.invariant.tied);
+      tied = rw (c.requeue.ensures.table, c.withdraw.ensures) (tied_ready i.table.table next.g _ _ i.channels.waiters i.channels.bodies c.loop-next.invariant.tied);
       runners =
           other_ready_runners i.table.table (length i.runners) i.runners c.loop-next.invariant.runners next.g first.0.status Shelf next.woke c.requeue.new.self.table
           (ap (option_map (λ (x : Goroutine). x.status)) first.1) (answered_idle c.args.wake first.0.status next.woke first.2) c.requeue.ensures.table;
       same = c.loop-next.invariant.same;
-      channels = ap (λ v. v.channels) c.withdraw_all.ensures.rest ∙ c.loop-next.invariant.channels;
-      limit = ap (λ v. v.limit) c.withdraw_all.ensures.rest ∙ c.loop-next.invariant.limit;
+      channels = ap (λ v. v.channels) c.withdraw.ensures ∙ c.loop-next.invariant.channels;
+      limit = ap (λ v. v.limit) c.withdraw.ensures ∙ c.loop-next.invariant.limit;
     }
+
+-- who is woken is one of the goroutines
+pub prove-unreachable-requires : goal.prove-unreachable-requires
+prove-unreachable-requires c =
+    let woken = c.loop-next.invariant.woken in
+    let less = next_less c.args.wake c.self.inside.table c.loop-next.self-inside.table c.requeue.new.self woken.0 c.loop-next.count c.in-Some.next woken.1
+    c.in-Some.ensures c.requeue.ensures.table c.requeue.ensures.last in
+    let most = count_by-le-length (λ (x : Goroutine). is_some (answer_of c.args.wake x.status)) c.self.inside.table.table.goroutines in
+    let over = c.if-prove.true in
+    omega (arith, less, woken.1.counted, most, over, c.len.ensures, c.from-bodies.ensures)
 
 pub returns-clause-table : goal.returns-clause-table
 returns-clause-table c =
     let woken = c.loop-next.invariant.woken in
-    (all_done c.args.wake c.self.inside.table c.loop-next.self-inside.table woken.0 c.loop-next.count woken.1 c.in_default.ensures.first).0
+    (all_done c.args.wake c.self.inside.table c.loop-next.self-inside.table woken.0 c.loop-next.count woken.1 c.in_default.ensures).0
     ∙ ap (λ v. all_woken (answer_of c.args.wake) v.table) c.self.view_is
 
 pub returns-clause-count : goal.returns-clause-count
 returns-clause-count c =
     let woken = c.loop-next.invariant.woken in
-    (all_done c.args.wake c.self.inside.table c.loop-next.self-inside.table woken.0 c.loop-next.count woken.1 c.in_default.ensures.first).1
+    (all_done c.args.wake c.self.inside.table c.loop-next.self-inside.table woken.0 c.loop-next.count woken.1 c.in_default.ensures).1
     ∙ ap (λ v. how_many_woken (answer_of c.args.wake) v.table) c.self.view_is
 
 pub returns-clause-order : goal.returns-clause-order
 returns-clause-order c =
     let woken = c.loop-next.invariant.woken in
-    let done = all_done c.args.wake c.self.inside.table c.loop-next.self-inside.table woken.0 c.loop-next.count woken.1 c.in_default.ensures.first in
+    let done = all_done c.args.wake c.self.inside.table c.loop-next.self-inside.table woken.0 c.loop-next.count woken.1 c.in_default.ensures in
     let rows = ap (λ v. v.table.goroutines) c.self.view_is in
     (woken.0, rw (← rows) done.2, woken.1.shelf ∙ ap (λ v. v.shelf ++ woken.0) c.self.view_is)
