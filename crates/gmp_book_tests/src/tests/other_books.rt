@@ -1,5 +1,6 @@
 //! Passes and values that other books gave out, of this run or another.
 use super::Strict;
+use crate::tests::refusals::{claim_refused, put_refused};
 use gmp_base::{GNo, Pass, Refusal, Ticket, Woke};
 use gmp_book_trials::answers::{claims, ends};
 use gmp_book_trials::calls::{acquires, begin, takes};
@@ -24,21 +25,6 @@ fn two_books(
     }
 }
 
-/// A claim of the ticket is refused so, and gives it back.
-fn claim_refused(
-    judge: &impl Judge,
-    book: &mut Desk,
-    pass: &mut Pass,
-    ticket: Ticket,
-    why: Refusal,
-) -> Ticket {
-    let given = (ticket.run, ticket.g, ticket.epoch);
-    let (refusal, back) = refused(judge, book.claim(pass, ticket));
-    same(judge, refusal, why);
-    same(judge, (back.run, back.g, back.epoch), given);
-    back
-}
-
 // The ticket of another run's book comes back. Claimed is the own one, and then one that looks like it is refused.
 #[test]
 fn tickets(rt: HostRuntime) -> Result<(), Fail> {
@@ -48,16 +34,10 @@ fn tickets(rt: HostRuntime) -> Result<(), Fail> {
     let proc = acquires(&judge, &mut book, &mut pass);
     let own = takes(&judge, &mut book, &mut pass);
     let ticket = takes(&judge, &mut other, &mut stranger);
-    let ticket = claim_refused(&judge, &mut book, &mut pass, ticket, Refusal::WrongRun);
-    same(&judge, ticket.open(), (8, GNo(0), 1));
+    claim_refused(&judge, &mut book, &mut pass, ticket, 21);
     let held = claims(&judge, &mut book, &mut pass, own, Woke::First);
     let forged = Ticket::of(7, GNo(0), 1);
-    let (why, forged) = refused(&judge, book.put(&mut pass, forged));
-    same(
-        &judge,
-        (why, forged.open()),
-        (Refusal::NotOutstanding, (7, GNo(0), 1)),
-    );
+    put_refused(&judge, &mut book, &mut pass, forged, 24);
     ends(&judge, &mut book, &mut pass, held);
     stranger.open();
     drop(other);

@@ -6,14 +6,20 @@ use gmp_book_trials::{Desk, Judge, refused, same, small};
 use std::test::Fail;
 
 /// A claim of the ticket is refused with this number, and gives it back.
-fn claim_refused(judge: &impl Judge, book: &mut Desk, pass: &mut Pass, ticket: Ticket, why: u8) {
+pub fn claim_refused(
+    judge: &impl Judge,
+    book: &mut Desk,
+    pass: &mut Pass,
+    ticket: Ticket,
+    why: u8,
+) {
     let given = (ticket.run, ticket.g, ticket.epoch);
     let (refusal, back) = refused(judge, book.claim(pass, ticket));
     same(judge, (refusal.number(), back.open()), (why, given));
 }
 
 /// The same of a put.
-fn put_refused(judge: &impl Judge, book: &mut Desk, pass: &mut Pass, ticket: Ticket, why: u8) {
+pub fn put_refused(judge: &impl Judge, book: &mut Desk, pass: &mut Pass, ticket: Ticket, why: u8) {
     let given = (ticket.run, ticket.g, ticket.epoch);
     let (refusal, back) = refused(judge, book.put(pass, ticket));
     same(judge, (refusal.number(), back.open()), (why, given));

@@ -82,7 +82,7 @@ fn selects(rt: HostRuntime) -> Result<(), Fail> {
     Ok(())
 }
 
-// Main sleeps, and body 1 selects until a moment before.
+// Main sleeps, and body 1 selects until a moment before. The first tick wakes neither.
 #[test]
 fn deadlines(rt: HostRuntime) -> Result<(), Fail> {
     let (judge, alloc) = (Strict(&rt), rt.alloc());
@@ -94,8 +94,7 @@ fn deadlines(rt: HostRuntime) -> Result<(), Fail> {
     told(&judge, alloc, 0, (&main, &other), &[6, 7, 9], answers)
 }
 
-// Beside a full buffer: the value of the one that waits comes last, and is sent by the first receive. Its ticket is claimed, or given back at
-// the end.
+// The value of the one that waits comes last. Its ticket, which the first receive gives out, is claimed, or given back at the end.
 #[test]
 fn beside_a_full_buffer(rt: HostRuntime) -> Result<(), Fail> {
     let (judge, alloc) = (Strict(&rt), rt.alloc());
