@@ -10,6 +10,7 @@ ghost use Rattle.gmp_seq.specs.Table.{IsReady, IsRunning, RunsNothing, all_woken
 ghost use Rattle.gmp_seq.specs.declared.call.Call.{Call};
 ghost use Rattle.gmp_table.specs.declared.wake.Wake.{Wake};
 ghost use Rattle.gmp_table.specs.Waking.{IsFirst, answer_of};
+ghost use Rattle.gmp_table.specs.Kept.{IsListing};
 ghost use Rattle.gmp_goroutines.specs.Shelf.{Shelves, Wakes};
 ghost use Rattle.gmp_goroutines.specs.Present.{OnlyTable, opening_present};
 ghost use Rattle.gmp_goroutines.specs.Stored.{stored_at};
@@ -158,7 +159,9 @@ impl Goroutines {
 
     /// Whether somebody is on the shelf.
     pub fn has_shelved(&self) -> bool
-        ensures { result ≡ some_status is_shelved self.now.table }
+        ensures some { result ≡ some_status is_shelved self.now.table }
+        // The shelf has each goroutine on it once, and no other.
+        ensures listing { IsListing is_shelved self.now.table.goroutines self.now.shelf }
     {
         self.table.has_shelved()
     }
