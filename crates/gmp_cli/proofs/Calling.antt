@@ -15,10 +15,12 @@ use Rattle.gmp_base.specs.declared.value.Proc.{Proc}
 use Rattle.gmp_book.specs.declared.returned.Returned.{Returned}
 use Rattle.gmp_book.specs.declared.returned.Returned.TheVariants.{Runs}
 use Rattle.gmp_book.specs.Book.{Contents, HandsOutOwner, TakesBackOwner}
-use Rattle.gmp_book.specs.Log.{Log, Records}
-use Rattle.gmp_book.specs.Refusals.{by_called, is_calling_on, refusal_of}
+use Rattle.gmp_ledger.specs.Log.{Log, Records}
+use Rattle.gmp_seq.specs.Table.{is_calling_on}
+use Rattle.gmp_ledger.specs.Handed.{by_called}
+use Rattle.gmp_ledger.specs.Refusals.{refusal_of}
 use Rattle.gmp_book.specs.Returns.{Resumes, returned, table_by}
-use Rattle.gmp_book.proofs.Granted.{leave_granted}
+use Rattle.gmp_ledger.proofs.Needed as needed
 use Rattle.gmp_seq.specs.declared.call.Call.TheVariants as call
 use Rattle.gmp_seq.specs.declared.call.Reply.TheVariants as reply
 use Rattle.gmp_seq.specs.declared.status.Goroutine.{Goroutine}
@@ -132,7 +134,7 @@ pub leave_allowed : {T Q : Type 0} (book : Contents T Q) (pass : Pass) (queue : 
     → Drives book pass queue capacity (Block called) → refusal_of book.log pass (call.Leave number) (by_called called) ≡ None
 leave_allowed book pass queue capacity called number lasts kept =
     let calls = calls_at book.log called.g queue capacity (length book.bodies) kept.driven in
-    rw kept.run (leave_granted book.log pass kept.latest.run (may_call book.log pass kept.latest lasts) called.g number
+    rw kept.run ((needed.leave called.g number book.log pass kept.latest.run (may_call book.log pass kept.latest lasts)).1
     (subst (λ (m : MNo). IsCalling book.log.state.table called.g m) (sym kept.latest.m) calls))
 
 module _ (old new : Contents Commands Unit) (before after : Pass) (queue : List Readiness) (capacity : ℕ) where

@@ -17,10 +17,10 @@ use Rattle.gmp_base.specs.declared.number.GNo.{GNo}
 use Rattle.gmp_base.specs.declared.number.MNo.{MNo}
 use Rattle.gmp_base.specs.declared.number.PNo.{PNo}
 use Rattle.gmp_base.specs.declared.number.Readiness.{Readiness}
-use Rattle.gmp_book.specs.declared.ledger.Exited.{Exited}
-use Rattle.gmp_book.specs.Log.{Log, opening_log}
+use Rattle.gmp_book.specs.declared.answers.Exited.{Exited}
+use Rattle.gmp_ledger.specs.Log.{Log, opening_log}
 use Rattle.gmp_idle.specs.Replies.{acquired, poked}
-use Rattle.gmp_book.specs.Refusals.{is_calling_on}
+use Rattle.gmp_seq.specs.Table.{is_calling_on}
 use Rattle.gmp_book.specs.Replies.{left}
 use Rattle.gmp_book.specs.Went.{is_wait, ticket_in}
 use Rattle.gmp_seq.specs.declared.call.Call.TheVariants as call

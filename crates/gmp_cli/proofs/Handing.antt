@@ -17,20 +17,23 @@ use Rattle.gmp_base.specs.declared.value.Held.{Held}
 use Rattle.gmp_base.specs.declared.value.Proc.{Proc}
 use Rattle.gmp_base.specs.declared.value.Ticket.{Ticket}
 use Rattle.gmp_base.specs.Values.{readiness_of}
-use Rattle.gmp_book.specs.declared.ledger.Exited.{Exited}
-use Rattle.gmp_book.specs.declared.ledger.Parking.{Parking}
-use Rattle.gmp_book.specs.declared.ledger.Parking.TheVariants as parks
+use Rattle.gmp_book.specs.declared.answers.Exited.{Exited}
+use Rattle.gmp_book.specs.declared.answers.Parking.{Parking}
+use Rattle.gmp_book.specs.declared.answers.Parking.TheVariants as parks
 use Rattle.gmp_book.specs.declared.went.Moved.{Moved}
 use Rattle.gmp_book.specs.declared.went.Moved.TheVariants.{On, Waits}
 use Rattle.gmp_book.proofs.Bodies.{all_filled-map}
 use Rattle.gmp_book.specs.Book.{Contents, MayOpen, opening_book, SameValues, HandsOut, HandsOutOwner, TakesBack, TakesBackOwner}
-use Rattle.gmp_book.specs.Log.{Log, Records, calls_of}
-use Rattle.gmp_book.specs.Refusals.{IsCurrent, refusal_of, by_proc, by_ticket}
-use Rattle.gmp_book.proofs.Granted.{claim_granted, declare_granted, take_granted, out_test}
-use Rattle.gmp_book.proofs.Talking.{waits_machines}
+use Rattle.gmp_ledger.specs.Log.{Log, Records, calls_of}
+use Rattle.gmp_ledger.specs.Handed.{by_proc, by_ticket, nothing_handed}
+use Rattle.gmp_ledger.specs.Refusals.{IsCurrent, refusal_of}
+use Rattle.gmp_ledger.proofs.Needed.{out_test}
+use Rattle.gmp_ledger.proofs.Needed as needed
+use Rattle.gmp_cli.proofs.Resting.{waits_machines}
 use Rattle.gmp_book.specs.declared.went.Went.{Went}
 use Rattle.gmp_idle.specs.Replies.{acquired, poked}
-use Rattle.gmp_book.specs.Replies.{taken, left, parking}
+use Rattle.gmp_goroutines.specs.Replies.{taken}
+use Rattle.gmp_book.specs.Replies.{left, parking}
 use Rattle.gmp_book.specs.Went as by
 use Rattle.gmp_book.specs.Went.{is_wait, ticket_in}
 use Rattle.gmp_seq.specs.declared.call.Call.{Call}
@@ -124,20 +127,20 @@ pub claim_allowed : {T Q : Type 0} (book : Contents T Q) (pass : Pass) (queue : 
     → Drives book pass queue capacity (Claim proc ticket) → refusal_of book.log pass (call.Claim (readiness_of ticket)) (by_ticket ticket) ≡ None
 claim_allowed book pass queue capacity proc ticket lasts kept =
     let needs = claim_needs book.log proc.p (readiness_of ticket) queue capacity (length book.bodies) kept.driven in
-    rw kept.run.1 (claim_granted book.log pass kept.latest.run (may_call book.log pass kept.latest lasts) (readiness_of ticket)
+    rw kept.run.1 ((needed.claim (readiness_of ticket) book.log pass kept.latest.run (may_call book.log pass kept.latest lasts)).1
     (subst (λ (m : MNo). Needs m (call.Claim (readiness_of ticket)) book.log.state) (sym kept.latest.m) needs))
 
 pub declare_allowed : {T Q : Type 0} (book : Contents T Q) (pass : Pass) (queue : List Readiness) (capacity : ℕ) (proc : Proc Unit) → book.log.state.outcome ≡ None
     → Drives book pass queue capacity (Drop proc) → refusal_of book.log pass call.Declare (by_proc proc) ≡ None
 declare_allowed book pass queue capacity proc lasts kept =
     let needs = declare_needs book.log proc.p queue capacity (length book.bodies) kept.driven in
-    rw kept.run (declare_granted book.log pass kept.latest.run (may_call book.log pass kept.latest lasts) proc.p
+    rw kept.run ((needed.declare proc.p book.log pass kept.latest.run (may_call book.log pass kept.latest lasts)).1
     (subst (λ (m : MNo). RunsNothing book.log.state.table m × (spins book.log.state.machines m ≡ false) × Holds book.log.state.machines m proc.p) (sym kept.latest.m) needs))
 
 pub take_allowed : {T Q : Type 0} (book : Contents T Q) (pass : Pass) (queue : List Readiness) (capacity : ℕ) (proc : Proc Unit) → book.log.state.outcome ≡ None
-    → Drives book pass queue capacity (Look proc) → refusal_of book.log pass call.Take [] ≡ None
+    → Drives book pass queue capacity (Look proc) → refusal_of book.log pass call.Take nothing_handed ≡ None
 take_allowed book pass queue capacity proc lasts kept =
-    take_granted book.log pass kept.latest.run (may_call book.log pass kept.latest lasts)
+    (needed.take book.log pass kept.latest.run (may_call book.log pass kept.latest lasts)).1
     (subst (λ (m : MNo). Needs m call.Take book.log.state) (sym kept.latest.m) kept.driven.holds.0)
 
 -- the ticket in hand is out

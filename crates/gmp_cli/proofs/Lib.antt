@@ -1,3 +1,4 @@
+pub mod Resting
 pub mod Tickets
 pub mod Asking
 pub mod Calling

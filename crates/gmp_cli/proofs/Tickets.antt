@@ -11,7 +11,7 @@ use Rattle.gmp_base.specs.declared.number.GNo.{GNo}
 use Rattle.gmp_base.specs.declared.number.MNo.{MNo}
 use Rattle.gmp_base.specs.declared.number.Readiness.{Readiness}
 use Rattle.gmp_base.specs.declared.ask.Woke.{Woke}
-use Rattle.gmp_book.specs.Refusals.{is_calling_on}
+use Rattle.gmp_seq.specs.Table.{is_calling_on}
 use Rattle.gmp_seq.specs.declared.call.Reply.TheVariants as reply
 use Rattle.gmp_seq.specs.declared.status.Goroutine.{Goroutine}
 use Rattle.gmp_seq.specs.declared.status.Place.TheVariants.{Shelf, Out}

@@ -14,9 +14,9 @@ use Rattle.gmp_base.specs.declared.value.Called.{Called}
 use Rattle.gmp_base.specs.Values.{readiness_of}
 use Rattle.gmp_book.specs.declared.report.Report.{Report}
 use Rattle.gmp_book.specs.Book.{Contents}
-use Rattle.gmp_book.specs.Choice.{IsChoice}
-use Rattle.gmp_book.specs.Log.{Log, calls_of}
-use Rattle.gmp_book.specs.Refusals.{is_calling_on}
+use Rattle.gmp_goroutines.specs.Choice.{IsChoice}
+use Rattle.gmp_ledger.specs.Log.{Log, calls_of}
+use Rattle.gmp_seq.specs.Table.{is_calling_on}
 use Rattle.gmp_seq.specs.declared.call.Call.{Call}
 use Rattle.gmp_seq.specs.declared.call.Call.TheVariants as call
 use Rattle.gmp_seq.specs.declared.call.Entry.{Entry}

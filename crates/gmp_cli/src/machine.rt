@@ -4,7 +4,7 @@ ghost use Rattle.gmp_base.specs.Values.{readiness_of};
 ghost use Rattle.gmp_seq.specs.Table.{is_outstanding};
 ghost use Rattle.gmp_slots.specs.Slots.{is_vacant};
 ghost use Rattle.gmp_base.specs.declared.refusal.Refusal.TheVariants.{BadLimits, OutOfMemory};
-ghost use Rattle.gmp_book.specs.Log.{opening_log};
+ghost use Rattle.gmp_ledger.specs.Log.{opening_log};
 ghost use Rattle.gmp_seq.specs.Fits.{AreLimits};
 
 mod asking;

@@ -57,7 +57,7 @@ outstanding t r e = by_row (slice_get t.goroutines r.g.0) refl e where
       let row = out_row x r.epoch parts.0 (eqb-true x.epoch r.epoch parts.1) in
       (row.0, at ∙ ap Some row.1)
 
-out_test : (t : Table) (r : Readiness) → IsOut t r → not (is_outstanding t r) ≡ false
+pub out_test : (t : Table) (r : Readiness) → IsOut t r → not (is_outstanding t r) ≡ false
 out_test t r out =
     not_true _ (ap (λ (o : Option Goroutine). option_map_or (λ (x : Goroutine). is_out x.status && (x.epoch == r.epoch)) o false) out.1 ∙ eq-eqb r.epoch r.epoch refl)
 

@@ -1,5 +1,5 @@
 use Rattle.std.proofs.Common.{◌≡◌}
-use Rattle.gmp_book.specs.declared.ledger.Parking.TheVariants as parks
+use Rattle.gmp_book.specs.declared.answers.Parking.TheVariants as parks
 use Rattle.gmp_cli.proofs.Handing.{never_parks}
 use Rattle.gmp_cli.proofs.machine.Machine.park.Goals as goal
 
