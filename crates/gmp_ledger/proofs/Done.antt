@@ -1,6 +1,6 @@
 -- A step is of the goroutine and the processor that its call was handed.
-use Rattle.std.proofs.Common.{◌≡◌, ◌↔◌, ◌∙◌, ℕ, ◌==◌, ◌&&◌, Bool, true, false, Option, None, Some, List, ◌∷◌, [], if◌then◌else◌, is_some, slice_get, refl, sym, ap, subst, inl, inr}
-use Rattle.std.proofs.lemmas.Bool.{and_parts, eqb-true, false≢true, or_parts}
+use Rattle.std.proofs.Common.{◌≡◌, ◌↔◌, ◌∙◌, ℕ, Bool, true, false, Option, None, Some, List, ◌∷◌, [], if◌then◌else◌, is_some, refl, sym, ap, subst, inl, inr}
+use Rattle.std.proofs.lemmas.Bool.{and_parts, false≢true, or_parts}
 use Rattle.std.specs.List.{list_any}
 use Rattle.std.specs.Option.{option_map_or}
 use Rattle.gmp_base.specs.declared.ask.Woke.{Woke}
@@ -24,7 +24,7 @@ use Rattle.gmp_seq.specs.Laws.{IsInOrder}
 use Rattle.gmp_seq.specs.Machines.{Enters, Holds, Declares}
 use Rattle.gmp_seq.specs.State.{State}
 use Rattle.gmp_seq.specs.Step.{ByRunning, Claims, Exits, Parks, Resumes, Selects}
-use Rattle.gmp_seq.specs.Table.{Table, IsAsleep, IsCalling, IsReady, IsRunning, deadline_of, earlier, is_astir, is_ready_or_running, is_shelved, least_deadline, least_of, minded, some_status}
+use Rattle.gmp_seq.specs.Table.{Table, IsCalling, IsReady, IsRunning, deadline_of, is_astir, is_ready_or_running, is_shelved, least_deadline, least_of, minded, some_status}
 use Rattle.gmp_goroutines.specs.Stored.{stored_at, stored_in}
 use Rattle.gmp_ledger.specs.Laws.{Does}
 

@@ -5,7 +5,6 @@ use Rattle.std.specs.Option.{option_map_or}
 use Rattle.gmp_base.specs.declared.number.GNo.{GNo}
 use Rattle.gmp_base.specs.declared.number.MNo.{MNo}
 use Rattle.gmp_base.specs.declared.number.PNo.{PNo}
-use Rattle.gmp_base.specs.declared.number.Readiness.{Readiness}
 use Rattle.gmp_base.specs.declared.pass.Pass.{Pass}
 use Rattle.gmp_seq.specs.declared.call.Call.{Call}
 use Rattle.gmp_seq.specs.declared.call.Call.TheVariants as call
@@ -35,10 +34,10 @@ use Rattle.gmp_ledger.specs.Kept.{IsKept}
 use Rattle.gmp_ledger.specs.Scene.{IsYoung}
 use Rattle.gmp_goroutines.proofs.Running.{running_on}
 use Rattle.gmp_seq.specs.State.{State, opening}
-use Rattle.gmp_seq.specs.Table.{IsRunning, IsCalling, RunsNothing, is_outstanding, is_calling_on, is_running_on, some_status, status_at}
+use Rattle.gmp_seq.specs.Table.{IsRunning, IsCalling, RunsNothing, is_calling_on, is_running_on, some_status, status_at}
 use Rattle.gmp_ledger.specs.Log.{Log}
 use Rattle.gmp_idle.specs.Replies.{is_awake_mode, is_calling_mode}
-use Rattle.gmp_ledger.specs.Refusals.{IsAllowed, IsCurrent, is_awake, calls_some, is_busy, is_anothers, is_spent}
+use Rattle.gmp_ledger.specs.Refusals.{IsAllowed, IsCurrent, is_awake, calls_some, is_busy, is_anothers}
 
 pub not_false : (b : Bool) → not b ≡ false → b ≡ true
 not_false true e = refl

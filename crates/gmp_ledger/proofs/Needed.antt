@@ -1,5 +1,5 @@
 -- A call by a pass that may call, with values of the run, is granted exactly where its needs are met.
-use Rattle.std.proofs.Common.{◌≡◌, ◌↔◌, ℕ, ◌==◌, Bool, true, false, not, ◌||◌, ◌&&◌, nat_lt, nat_le, is_some, Option, None, Some, ◌++◌, length, slice_get, refl, sym, ap, ◌∙◌, arith}
+use Rattle.std.proofs.Common.{◌≡◌, ℕ, ◌==◌, Bool, true, false, not, ◌||◌, ◌&&◌, nat_lt, nat_le, is_some, Option, None, Some, ◌++◌, length, slice_get, refl, sym, ap, ◌∙◌, arith}
 use Rattle.std.proofs.lemmas.Bool.{eq-eqb, eqb-true, false≢true, or_parts, and_parts}
 use Rattle.std.proofs.lemmas.Bool.Decides.{nat_tests}
 use Rattle.std.specs.Option.{option_map_or}
@@ -10,7 +10,6 @@ use Rattle.gmp_base.specs.declared.number.Readiness.{Readiness}
 use Rattle.gmp_base.specs.declared.pass.Pass.{Pass}
 use Rattle.gmp_seq.specs.declared.call.Call.{Call}
 use Rattle.gmp_seq.specs.declared.call.Call.TheVariants as call
-use Rattle.gmp_seq.specs.declared.call.Outcome.{Outcome}
 use Rattle.gmp_seq.specs.declared.status.Goroutine.{Goroutine}
 use Rattle.gmp_seq.specs.declared.status.Mode.{Mode}
 use Rattle.gmp_seq.specs.declared.status.Mode.TheVariants as mode
