@@ -9,7 +9,7 @@ mod channel;
 mod channels;
 mod waiters;
 
-pub use cases::{channel_of, offer_of};
+pub use cases::{cases_rise, channel_of, offer_of};
 pub use channels::Channels;
 
 #[cfg(test)]

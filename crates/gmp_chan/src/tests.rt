@@ -30,6 +30,15 @@ fn waiter(g: u16, arrival: u64, offer: Offer) -> Waiter {
     }
 }
 
+/// Lets goroutine g wait, by itself, with this offer.
+fn wait(rt: &impl Abort, chans: &mut Channels, g: u16, arrival: u64, offer: Offer) {
+    let g = GNo(g);
+    let offers = one(offer);
+    assert!(rt; g.0 < chans.bodies() && !chans.is_waiting(g) && chans.is_later(arrival));
+    assert!(rt; cases_rise(&offers) && chans.has_all(&offers));
+    chans.wait_on(g, arrival, Kind::Plain, &offers);
+}
+
 /// Sends on channel 0.
 fn send(rt: &impl Abort, chans: &mut Channels, value: u64) -> Option<Transfer> {
     let c = Some(CNo(0));
@@ -52,7 +61,7 @@ fn close(rt: &impl Abort, chans: &mut Channels) {
 #[test]
 fn values_come_in_the_order_in_which_they_were_sent(rt: HostRuntime) {
     let mut chans = Channels::open(rt.alloc(), 4, 8, &[2]).expect(&rt, "memory");
-    chans.wait_on(GNo(3), 0, Kind::Plain, &one(SEND_7));
+    wait(&rt, &mut chans, 3, 0, SEND_7);
     assert_eq!(rt; send(&rt, &mut chans, 5), Some(Transfer::Stored));
     assert_eq!(rt; send(&rt, &mut chans, 6), Some(Transfer::Stored));
     assert_eq!(rt; send(&rt, &mut chans, 8), None);
@@ -70,7 +79,7 @@ fn values_come_in_the_order_in_which_they_were_sent(rt: HostRuntime) {
 #[test]
 fn a_receiver_that_waits_is_served_once(rt: HostRuntime) {
     let mut chans = Channels::open(rt.alloc(), 4, 8, &[0]).expect(&rt, "memory");
-    chans.wait_on(GNo(2), 4, Kind::Plain, &one(RECEIVE));
+    wait(&rt, &mut chans, 2, 4, RECEIVE);
     let served = Transfer::Handed(waiter(2, 4, RECEIVE));
     assert_eq!(rt; send(&rt, &mut chans, 9), Some(served));
     assert_eq!(rt; send(&rt, &mut chans, 9), None);
@@ -79,7 +88,7 @@ fn a_receiver_that_waits_is_served_once(rt: HostRuntime) {
 #[test]
 fn a_receiver_that_is_withdrawn_is_not_served(rt: HostRuntime) {
     let mut chans = Channels::open(rt.alloc(), 4, 8, &[0]).expect(&rt, "memory");
-    chans.wait_on(GNo(2), 4, Kind::Plain, &one(RECEIVE));
+    wait(&rt, &mut chans, 2, 4, RECEIVE);
     chans.withdraw(GNo(2));
     assert_eq!(rt; send(&rt, &mut chans, 9), None);
     assert_eq!(rt; recv(&rt, &mut chans), None);

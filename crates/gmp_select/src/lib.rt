@@ -8,7 +8,7 @@ mod waiting;
 
 pub use choosing::{choose, ready_cases};
 pub use gmp_chan::offer_of;
-pub use waiting::{complete, register, withdraw_all};
+pub use waiting::{are_made, complete, register, withdraw_all};
 
 #[cfg(test)]
 mod tests;

@@ -1,6 +1,6 @@
 use super::*;
 use gmp_base::{CNo, Case, Cases, GNo};
-use gmp_chan::Channels;
+use gmp_chan::{Channels, cases_rise};
 use gmp_seq::{Deal, Kind, Offer, Offers, Transfer, Waiter};
 use std::process::Abort;
 
@@ -18,6 +18,23 @@ fn select(rt: &impl Abort, list: &[Case]) -> Cases {
         assert!(rt; cases.push(*case).is_ok());
     }
     cases
+}
+
+/// Lets goroutine g wait, by itself, with this offer.
+fn wait(rt: &impl Abort, chans: &mut Channels, g: u16, offer: Offer) {
+    let g = GNo(g);
+    let offers = one(offer);
+    assert!(rt; g.0 < chans.bodies() && !chans.is_waiting(g) && chans.is_later(0));
+    assert!(rt; cases_rise(&offers) && chans.has_all(&offers));
+    chans.wait_on(g, 0, Kind::Plain, &offers);
+}
+
+/// Lets goroutine 2 wait for any of these cases.
+fn wait_for_any(rt: &impl Abort, chans: &mut Channels, cases: &Cases) -> Offers {
+    let g = GNo(2);
+    assert!(rt; g.0 < chans.bodies() && !chans.is_waiting(g) && chans.is_later(5));
+    assert!(rt; are_made(chans, cases));
+    register(chans, g, 5, cases)
 }
 
 fn ready(rt: &impl Abort, chans: &Channels, list: &[Case]) -> u8 {
@@ -96,19 +113,19 @@ fn a_closed_channel_is_ready_both_ways(rt: HostRuntime) {
 fn a_case_is_ready_where_another_waits_the_other_way(rt: HostRuntime) {
     let mut chans = Channels::open(rt.alloc(), 4, 8, &[0, 0]).expect(&rt, "memory");
     let list = [send(0, 7), recv(0), send(1, 7), recv(1)];
-    chans.wait_on(GNo(3), 0, Kind::Plain, &one(offer(0, 0, Deal::Receive)));
+    wait(&rt, &mut chans, 3, offer(0, 0, Deal::Receive));
     assert_eq!(rt; ready(&rt, &chans, &list), 0b0001);
     chans.withdraw(GNo(3));
     assert_eq!(rt; ready(&rt, &chans, &list), 0);
     let mut others = Channels::open(rt.alloc(), 4, 8, &[0, 0]).expect(&rt, "memory");
-    others.wait_on(GNo(3), 0, Kind::Plain, &one(offer(0, 1, Deal::Send(9))));
+    wait(&rt, &mut others, 3, offer(0, 1, Deal::Send(9)));
     assert_eq!(rt; ready(&rt, &others, &list), 0b1000);
 }
 
 #[test]
 fn eight_cases_have_eight_bits(rt: HostRuntime) {
     let mut chans = Channels::open(rt.alloc(), 4, 8, &[1, 0, 0]).expect(&rt, "memory");
-    chans.wait_on(GNo(3), 0, Kind::Plain, &one(offer(0, 2, Deal::Receive)));
+    wait(&rt, &mut chans, 3, offer(0, 2, Deal::Receive));
     close(&rt, &mut chans, 1);
     let nil = Case::Recv(None);
     let list = [
@@ -153,7 +170,7 @@ fn a_select_waits_for_its_cases_in_order(rt: HostRuntime) {
         &rt,
         &[Case::Recv(None), recv(1), Case::Send(None, 6), send(0, 8)],
     );
-    let offers = register(&mut chans, GNo(2), 5, &cases);
+    let offers = wait_for_any(&rt, &mut chans, &cases);
     let first = offer(1, 1, Deal::Receive);
     let second = offer(3, 0, Deal::Send(8));
     assert_eq!(rt; offers.as_slice(), [first, second].as_slice());
@@ -165,7 +182,7 @@ fn a_select_waits_for_its_cases_in_order(rt: HostRuntime) {
 fn the_first_of_two_cases_on_a_channel_is_served(rt: HostRuntime) {
     let mut chans = Channels::open(rt.alloc(), 4, 8, &[0]).expect(&rt, "memory");
     let cases = select(&rt, &[send(0, 6), recv(0), recv(0)]);
-    register(&mut chans, GNo(2), 5, &cases);
+    wait_for_any(&rt, &mut chans, &cases);
     let served = Transfer::Handed(waiter(offer(1, 0, Deal::Receive)));
     assert_eq!(rt; proceed(&rt, &mut chans, send(0, 9)), served);
 }
@@ -174,7 +191,7 @@ fn the_first_of_two_cases_on_a_channel_is_served(rt: HostRuntime) {
 fn a_select_that_is_served_waits_no_more(rt: HostRuntime) {
     let mut chans = Channels::open(rt.alloc(), 4, 8, &[0, 0, 0]).expect(&rt, "memory");
     let cases = select(&rt, &[recv(0), recv(1), send(2, 9)]);
-    register(&mut chans, GNo(2), 5, &cases);
+    wait_for_any(&rt, &mut chans, &cases);
     let others = [send(0, 4), send(1, 4), recv(2)];
     assert_eq!(rt; ready(&rt, &chans, &others), 0b111);
     let served = Transfer::Handed(waiter(offer(1, 1, Deal::Receive)));
@@ -188,11 +205,11 @@ fn a_select_that_is_served_waits_no_more(rt: HostRuntime) {
 fn a_select_that_is_withdrawn_is_not_served(rt: HostRuntime) {
     let mut chans = Channels::open(rt.alloc(), 4, 8, &[0, 0]).expect(&rt, "memory");
     let cases = select(&rt, &[recv(0), send(1, 9)]);
-    register(&mut chans, GNo(2), 5, &cases);
+    wait_for_any(&rt, &mut chans, &cases);
     withdraw_all(&mut chans, GNo(3));
     assert_eq!(rt; ready(&rt, &chans, &[send(0, 4), recv(1)]), 0b11);
     withdraw_all(&mut chans, GNo(2));
     assert_eq!(rt; ready(&rt, &chans, &[send(0, 4), recv(1)]), 0);
-    register(&mut chans, GNo(2), 5, &cases);
+    wait_for_any(&rt, &mut chans, &cases);
     assert_eq!(rt; ready(&rt, &chans, &[send(0, 4), recv(1)]), 0b11);
 }

@@ -5,6 +5,7 @@ ghost use Rattle.gmp_seq.specs.declared.status.Waiter.{Waiter};
 ghost use Rattle.gmp_seq.specs.Step.{Communicates, Deals, served_by, told_of};
 ghost use Rattle.gmp_seq.specs.Table.{IsOffShelf, IsRunning, epoch_at};
 ghost use Rattle.gmp_seq.specs.Waits.{can, channel_of, names_no_missing, offers_of, waiters};
+ghost use Rattle.gmp_chan.specs.Order.{rise};
 ghost use Rattle.gmp_chan.specs.Served.{served};
 ghost use Rattle.gmp_goroutines.specs.Present.{SameSizes, state_of};
 ghost use Rattle.gmp_goroutines.specs.Served.{IsWayOf, plain_reply};
@@ -17,7 +18,8 @@ use gmp_table::StatusTable;
 
 /// The offer of one send or receive, if it isn't on nil.
 fn one_offer(case: Case) -> Offers
-    ensures { result ≡ offers_of (case ∷ []) }
+    ensures offers { result ≡ offers_of (case ∷ []) }
+    ensures rising { rise result ≡ true }
 {
     let mut offers = Offers::new();
     if let Some(offer) = offer_of(0, case) {
