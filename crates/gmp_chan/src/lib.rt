@@ -4,10 +4,12 @@
 //! opening and `make` take memory.
 #![tactic(auto)]
 
+mod cases;
 mod channel;
 mod channels;
 mod waiters;
 
+pub use cases::cases_rise;
 pub use channels::Channels;
 
 #[cfg(test)]

@@ -3,6 +3,12 @@ use gmp_base::{CNo, GNo};
 use gmp_seq::{Deal, Kind, Offer, Offers, Transfer, Waiter};
 use std::process::Abort;
 
+const RECEIVE: Offer = Offer {
+    case: 0,
+    channel: CNo(0),
+    deal: Deal::Receive,
+};
+
 const SEND_7: Offer = Offer {
     case: 0,
     channel: CNo(0),
@@ -22,6 +28,15 @@ fn waiter(g: u16, arrival: u64, offer: Offer) -> Waiter {
         kind: Kind::Plain,
         offer,
     }
+}
+
+/// Lets goroutine g wait, by itself, with this offer.
+fn wait(rt: &impl Abort, chans: &mut Channels, g: u16, arrival: u64, offer: Offer) {
+    let g = GNo(g);
+    let offers = one(offer);
+    assert!(rt; g.0 < chans.bodies() && !chans.is_waiting(g) && chans.is_later(arrival));
+    assert!(rt; cases_rise(&offers) && chans.has_all(&offers));
+    chans.wait_on(g, arrival, Kind::Plain, &offers);
 }
 
 /// Sends on channel 0.
@@ -46,7 +61,7 @@ fn close(rt: &impl Abort, chans: &mut Channels) {
 #[test]
 fn values_come_in_the_order_in_which_they_were_sent(rt: HostRuntime) {
     let mut chans = Channels::open(rt.alloc(), 4, 8, &[2]).expect(&rt, "memory");
-    chans.wait_on(GNo(3), 0, Kind::Plain, &one(SEND_7));
+    wait(&rt, &mut chans, 3, 0, SEND_7);
     assert_eq!(rt; send(&rt, &mut chans, 5), Some(Transfer::Stored));
     assert_eq!(rt; send(&rt, &mut chans, 6), Some(Transfer::Stored));
     assert_eq!(rt; send(&rt, &mut chans, 8), None);

@@ -1,9 +1,9 @@
 //! Who waits on channels: one list, by arrivals and then by cases.
-ghost use Rattle.std.specs.Prelude.{◌≡◌, ◌<◌, ◌++◌, [], count_by, find, vec_capacity, IfOk};
+ghost use Rattle.std.specs.Prelude.{◌≡◌, ◌<◌, ◌++◌, [], count_by, nat_lt, find, vec_capacity, IfOk};
 ghost use Rattle.gmp_seq.specs.declared.status.Waiter.{Waiter};
 ghost use Rattle.gmp_seq.specs.Waits.{as_waiters, first_on, is_on};
 ghost use Rattle.gmp_chan.specs.Contents.{is_of, without};
-ghost use Rattle.gmp_chan.specs.Order.{is_at};
+ghost use Rattle.gmp_chan.specs.Order.{is_at, is_later};
 ghost use Rattle.gmp_chan.specs.Waiting.{Waiting};
 
 use gmp_base::{CNo, GNo};
@@ -80,6 +80,27 @@ impl Waiters {
         ensures { result ≡ find (is_at c) self.now.list }
     {
         first_at(&self.list, c)
+    }
+
+    /// How many goroutines there are.
+    pub(crate) fn bodies(&self) -> u16
+        ensures { result ≡ self.now.bodies }
+    {
+        self.bodies
+    }
+
+    /// Whether goroutine g waits.
+    pub(crate) fn has(&self, g: GNo) -> bool
+        ensures { result ≡ nat_lt 0 (count_by (is_of g) self.now.list) }
+    {
+        self.list.iter().filter(|w| w.g.0 == g.0).count() > 0
+    }
+
+    /// Whether this arrival is later than all.
+    pub(crate) fn is_later(&self, arrival: u64) -> bool
+        ensures { result ≡ is_later arrival self.now.list }
+    {
+        self.list.iter().all(|w| w.arrival < arrival)
     }
 
     /// Goroutine g begins to wait.

@@ -1,12 +1,15 @@
 -- How the list of all who wait changes with the table.
-use Rattle.std.proofs.Common.{◌≡◌, ℕ, zero, suc, ◌+◌, ◌<◌, ◌==◌, Bool, true, false, not, cond, inl, inr, Option, Some, List, [], ◌∷◌, ◌++◌, length, set, filter, slice_get, refl, sym, ap, subst, ◌∙◌, add-zero, zero-add, add-one, append-nil, arith, length-set}
+use Rattle.std.proofs.Common.{◌≡◌, ℕ, zero, suc, ◌+◌, ◌<◌, ◌==◌, Bool, true, false, not, cond, inl, inr, Option, Some, List, [], ◌∷◌, ◌++◌, length, set, filter, slice_get, nat_lt, refl, sym, ap, subst, ◌∙◌, add-zero, zero-add, add-one, append-nil, arith, length-set}
 use Rattle.std.proofs.lemmas.Bool.{false≢true, cases_eq}
 use Rattle.std.proofs.lemmas.Bool.Decides.{nat_tests}
 use Rattle.std.proofs.lemmas.List.Elements.{filter-append}
 use Rattle.std.proofs.lemmas.Option.{slice_get_within}
 use Rattle.gmp_base.specs.declared.ask.Woke.{Woke}
 use Rattle.gmp_base.specs.declared.number.GNo.{GNo}
+use Rattle.std.specs.List.{list_all}
 use Rattle.gmp_chan.specs.Contents.{is_of, without}
+use Rattle.gmp_chan.specs.Order.{is_later}
+use Rattle.gmp_seq.proofs.Waiting.{In, waiter_waits}
 use Rattle.gmp_seq.proofs.OneEach.{row_at}
 use Rattle.gmp_seq.specs.declared.status.Goroutine.{Goroutine}
 use Rattle.gmp_seq.specs.declared.status.Kind.{Kind}
@@ -225,3 +228,17 @@ wait_waiters t g s why offers until early was unwaiting =
           let is : z ≡ u = let e = slice_get-set_other t.goroutines g.0 j y (λ e. apart (sym e)) in cc in
           ap (λ (v : Goroutine). arrived arrival (record { 0 = 0 + j }) v.status) is ∙ sym (filter_all (arrived arrival (record { 0 = 0 + j }) u.status))
     ]
+
+-- Who begins to wait now is later than all who wait
+
+all_in : (p : Waiter → Bool) (xs : List Waiter) → ((w : Waiter) → In w xs → p w ≡ true) → list_all p xs ≡ true
+all_in p [] h = refl
+all_in p (x ∷ xs) h = rw (h x (inl refl)) (all_in p xs (λ w k. h w (inr k)))
+
+pub later_now : (t : Table) → IsEarly t → is_later t.arrivals (waiters t) ≡ true
+later_now t early = all_in (λ (w : Waiter). nat_lt w.arrival t.arrivals) (waiters t) (λ w h.
+    let is = waiter_waits t w h in
+    let less : is.wait.arrival < t.arrivals = early w.g is.wait is.status in
+    let same : is.wait.arrival ≡ w.arrival = is.arrival in
+    let e : nat_lt w.arrival t.arrivals ≡ true = grind (arith, nat_tests) in
+    e)

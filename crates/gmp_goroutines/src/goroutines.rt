@@ -11,6 +11,7 @@ ghost use Rattle.gmp_seq.specs.declared.call.Call.{Call};
 ghost use Rattle.gmp_table.specs.declared.wake.Wake.{Wake};
 ghost use Rattle.gmp_table.specs.Waking.{IsFirst, answer_of};
 ghost use Rattle.gmp_table.specs.Kept.{IsListing};
+ghost use Rattle.gmp_chan.specs.Order.{are_made, rise};
 ghost use Rattle.gmp_goroutines.specs.Shelf.{Shelves, Wakes};
 ghost use Rattle.gmp_goroutines.specs.Present.{OnlyTable, opening_present};
 ghost use Rattle.gmp_goroutines.specs.Stored.{stored_at};
@@ -261,6 +262,8 @@ impl Goroutines {
         requires there { m.0 < self.old.machines }
         // Who is parked offers nothing.
         requires bare { kind ≡ Kind.Parked → offers ≡ [] }
+        requires rising { rise offers ≡ true }
+        requires made { are_made self.old.channels offers ≡ true }
         ensures table { self.new.table ≡ made_wait self.old.table g kind offers until }
         ensures shelf { self.new.shelf ≡ self.old.shelf }
         ensures only { OnlyTable self.old self.new }

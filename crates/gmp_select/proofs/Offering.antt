@@ -1,5 +1,8 @@
 -- Who has no offer left, and what a select offers.
-use Rattle.std.proofs.Common.{IfSome, Option, ◌≡◌, ℕ, ◌+◌, Bool, true, false, not, cond, Some, List, [], ◌∷◌, ◌++◌, count_by, refl, ap, ◌∙◌, zero-add}
+use Rattle.std.proofs.Common.{IfSome, Option, ◌≡◌, ℕ, ◌+◌, Bool, true, false, not, cond, Some, List, [], ◌∷◌, ◌++◌, count_by, nat_lt, ◌<◌, refl, ap, ◌∙◌, zero-add, arith}
+use Rattle.std.proofs.lemmas.Bool.{and_parts}
+use Rattle.std.proofs.lemmas.Bool.Decides.{nat_tests}
+use Rattle.std.specs.List.{list_all}
 use Rattle.std.proofs.lemmas.List.Sums.{sum_by-cons}
 use Rattle.gmp_base.specs.declared.cases.Case.{Case}
 use Rattle.gmp_base.specs.declared.cases.Case.TheVariants as case
@@ -8,7 +11,8 @@ use Rattle.std.specs.Prelude.{None}
 use Rattle.gmp_seq.specs.declared.status.Transfer.{Transfer}
 use Rattle.gmp_seq.specs.declared.status.Transfer.TheVariants.{Failed, Handed, Stored, First, Relayed, Drained}
 use Rattle.gmp_seq.specs.declared.status.Waiter.{Waiter}
-use Rattle.gmp_seq.specs.Waits.{offers_from}
+use Rattle.gmp_seq.specs.Waits.{Channel, channel_of, names_no_missing, offers_from}
+use Rattle.gmp_chan.specs.Order.{above, are_made, rise}
 use Rattle.gmp_chan.specs.Contents.{is_of, without, without_served}
 use Rattle.gmp_select.specs.Waiting.{served}
 
@@ -48,3 +52,29 @@ offers_cons i (case.Send None v) cases = refl
 offers_cons i (case.Send (Some c) v) cases = refl
 offers_cons i (case.Recv None) cases = refl
 offers_cons i (case.Recv (Some c)) cases = refl
+
+-- The offers rise by their cases, and are on channels that were made
+
+offers_above : (k i : ℕ) (cases : List Case) → k < i → above k (offers_from i cases) ≡ true
+offers_above k i [] h = refl
+offers_above k i (case.Send None v ∷ cases) h = offers_above k (i + 1) cases (omega arith)
+offers_above k i (case.Send (Some c) v ∷ cases) h = let e : nat_lt k i ≡ true = grind (arith, nat_tests) in rw e (offers_above k (i + 1) cases (omega arith))
+offers_above k i (case.Recv None ∷ cases) h = offers_above k (i + 1) cases (omega arith)
+offers_above k i (case.Recv (Some c) ∷ cases) h = let e : nat_lt k i ≡ true = grind (arith, nat_tests) in rw e (offers_above k (i + 1) cases (omega arith))
+
+pub offers_rise : (i : ℕ) (cases : List Case) → rise (offers_from i cases) ≡ true
+offers_rise i [] = refl
+offers_rise i (case.Send None v ∷ cases) = offers_rise (i + 1) cases
+offers_rise i (case.Send (Some c) v ∷ cases) = rw (offers_above i (i + 1) cases (omega arith)) (offers_rise (i + 1) cases)
+offers_rise i (case.Recv None ∷ cases) = offers_rise (i + 1) cases
+offers_rise i (case.Recv (Some c) ∷ cases) = rw (offers_above i (i + 1) cases (omega arith)) (offers_rise (i + 1) cases)
+
+pub offers_made : (channels : List Channel) (i : ℕ) (cases : List Case) → list_all (λ c. names_no_missing channels (channel_of c)) cases ≡ true
+    → are_made channels (offers_from i cases) ≡ true
+offers_made channels i [] h = refl
+offers_made channels i (case.Send None v ∷ cases) h = offers_made channels (i + 1) cases h
+offers_made channels i (case.Send (Some c) v ∷ cases) h =
+    let parts = and_parts (names_no_missing channels (Some c)) _ h in rw parts.0 (offers_made channels (i + 1) cases parts.1)
+offers_made channels i (case.Recv None ∷ cases) h = offers_made channels (i + 1) cases h
+offers_made channels i (case.Recv (Some c) ∷ cases) h =
+    let parts = and_parts (names_no_missing channels (Some c)) _ h in rw parts.0 (offers_made channels (i + 1) cases parts.1)

@@ -7,7 +7,7 @@ mod choosing;
 mod waiting;
 
 pub use choosing::{choose, ready_cases};
-pub use waiting::{complete, register, withdraw_all};
+pub use waiting::{are_made, complete, register, withdraw_all};
 
 #[cfg(test)]
 mod tests;

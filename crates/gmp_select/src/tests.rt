@@ -1,6 +1,6 @@
 use super::*;
 use gmp_base::{CNo, Case, Cases, GNo};
-use gmp_chan::Channels;
+use gmp_chan::{Channels, cases_rise};
 use gmp_seq::{Deal, Kind, Offer, Offers, Transfer, Waiter};
 use std::process::Abort;
 
@@ -18,6 +18,23 @@ fn select(rt: &impl Abort, list: &[Case]) -> Cases {
         assert!(rt; cases.push(*case).is_ok());
     }
     cases
+}
+
+/// Lets goroutine g wait, by itself, with this offer.
+fn wait(rt: &impl Abort, chans: &mut Channels, g: u16, offer: Offer) {
+    let g = GNo(g);
+    let offers = one(offer);
+    assert!(rt; g.0 < chans.bodies() && !chans.is_waiting(g) && chans.is_later(0));
+    assert!(rt; cases_rise(&offers) && chans.has_all(&offers));
+    chans.wait_on(g, 0, Kind::Plain, &offers);
+}
+
+/// Lets goroutine 2 wait for any of these cases.
+fn wait_for_any(rt: &impl Abort, chans: &mut Channels, cases: &Cases) -> Offers {
+    let g = GNo(2);
+    assert!(rt; g.0 < chans.bodies() && !chans.is_waiting(g) && chans.is_later(5));
+    assert!(rt; are_made(chans, cases));
+    register(chans, g, 5, cases)
 }
 
 fn ready(rt: &impl Abort, chans: &Channels, list: &[Case]) -> u8 {
@@ -66,7 +83,7 @@ fn waiter(offer: Offer) -> Waiter {
 #[test]
 fn eight_cases_have_eight_bits(rt: HostRuntime) {
     let mut chans = Channels::open(rt.alloc(), 4, 8, &[1, 0, 0]).expect(&rt, "memory");
-    chans.wait_on(GNo(3), 0, Kind::Plain, &one(offer(0, 2, Deal::Receive)));
+    wait(&rt, &mut chans, 3, offer(0, 2, Deal::Receive));
     close(&rt, &mut chans, 1);
     let nil = Case::Recv(None);
     let list = [
@@ -111,7 +128,7 @@ fn a_select_waits_for_its_cases_in_order(rt: HostRuntime) {
         &rt,
         &[Case::Recv(None), recv(1), Case::Send(None, 6), send(0, 8)],
     );
-    let offers = register(&mut chans, GNo(2), 5, &cases);
+    let offers = wait_for_any(&rt, &mut chans, &cases);
     let first = offer(1, 1, Deal::Receive);
     let second = offer(3, 0, Deal::Send(8));
     assert_eq!(rt; offers.as_slice(), [first, second].as_slice());

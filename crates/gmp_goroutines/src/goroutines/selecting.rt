@@ -42,6 +42,7 @@ impl Goroutines {
         requires runs { IsRunning self.old.table g m }
         requires few { self.old.table.arrivals < 2 ^ 63 }
         requires there { m.0 < self.old.machines }
+        requires made { none_missing (state_of self.old) cases.now ≡ true }
         ensures table { self.new.table ≡ made_wait self.old.table g Kind.Select (offers_of cases.now) until }
         ensures shelf { self.new.shelf ≡ self.old.shelf }
         ensures only { OnlyTable self.old self.new }

@@ -5,14 +5,27 @@ ghost use Rattle.gmp_seq.specs.declared.status.Waiter.{Waiter};
 ghost use Rattle.gmp_seq.specs.Step.{Communicates, Deals, served_by, told_of};
 ghost use Rattle.gmp_seq.specs.Table.{IsOffShelf, IsRunning, epoch_at};
 ghost use Rattle.gmp_seq.specs.Waits.{can, channel_of, names_no_missing, offers_of, waiters};
+ghost use Rattle.gmp_chan.specs.Order.{rise};
 ghost use Rattle.gmp_chan.specs.Served.{served};
 ghost use Rattle.gmp_goroutines.specs.Present.{SameSizes, state_of};
 ghost use Rattle.gmp_goroutines.specs.Served.{IsWayOf, plain_reply};
 
 use crate::goroutines::Goroutines;
 use gmp_base::{Case, Fault, GNo, MNo};
-use gmp_seq::{Kind, Offers, Relay, Reply, Taken, Transfer, channel_of};
+use gmp_seq::{Kind, Offer, Offers, Relay, Reply, Taken, Transfer, channel_of};
 use gmp_table::StatusTable;
+
+/// The offer of one send or receive, if it isn't on nil.
+fn one_offer(case: Case) -> Offers
+    ensures offers { result ≡ offers_of (case ∷ []) }
+    ensures rising { rise result ≡ true }
+{
+    let mut offers = Offers::new();
+    if let Some(offer) = Offer::of(0, case) {
+        offers.push(offer);
+    }
+    offers
+}
 
 /// Makes ready who was served by a communication, and answers what it comes to.
 fn serve(table: &mut StatusTable, case: Case, how: Transfer) -> Taken
@@ -86,7 +99,7 @@ impl Goroutines {
         match self.proceed(case) {
             Some(taken) => plain_reply(taken),
             None => {
-                self.wait(m, g, Kind::Plain, Offers::of(&[case]), None);
+                self.wait(m, g, Kind::Plain, one_offer(case), None);
                 Reply::Waits
             }
         }

@@ -2,6 +2,7 @@ use Rattle.gmp_seq.specs.Table.{IsRunning}
 use Rattle.gmp_seq.specs.Waits.{offers_of}
 use Rattle.gmp_seq.specs.declared.status.Kind.TheVariants as kind
 use Rattle.gmp_goroutines.specs.Present.{Present}
+use Rattle.gmp_goroutines.proofs.Arrivals.{later_now}
 use Rattle.gmp_goroutines.proofs.Running.{waits_runners}
 use Rattle.gmp_goroutines.proofs.Ties.{running_has_none, waits_tied}
 use Rattle.std.proofs.Common.{length, length-set, subst, sym}
@@ -12,6 +13,11 @@ register-offers-requires-clause-fresh c =
     let i = c.self.inside in
     let runs = subst (λ (p : Present). IsRunning p.table c.args.g c.args.m) (sym c.self.view_is) c.requires.runs in
     rw c.self.invariant.0.same (running_has_none i.table.table c.args.g c.args.m runs)
+
+pub register-offers-requires-clause-later : goal.register-offers-requires-clause-later
+register-offers-requires-clause-later c =
+    let i = c.self.inside in
+    rw (c.arrivals-arrival.ensures, c.self.invariant.0.same) (later_now i.table.table c.self.invariant.0.early)
 
 pub invariant_of-self : goal.invariant_of-self
 invariant_of-self c =
