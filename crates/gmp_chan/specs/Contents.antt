@@ -7,7 +7,7 @@ use Rattle.gmp_seq.specs.declared.status.Waiter.{Waiter}
 use Rattle.gmp_seq.specs.Channels.{Channel}
 
 -- the channels, how many there may be, who waits on them in order, and how many goroutines there are
-pub record Contents : Type 0 where
+pub record ChannelContents : Type 0 where
   pub channels : List Channel
   pub limit : ℕ
   pub waiters : List Waiter

@@ -19,7 +19,7 @@ use Rattle.gmp_seq.specs.declared.status.Status.{Status}
 use Rattle.gmp_seq.specs.declared.status.Status.TheVariants.{Dormant, Ready, Running, Calling, Waiting, Dead}
 use Rattle.gmp_seq.specs.Table.{Table, due_answer, made_ready, all_woken, how_many_woken, woken_with}
 use Rattle.gmp_table.proofs.Listing.{any_counted, count_by-set, slice_get-set_same, slice_get-set_other}
-use Rattle.gmp_table.specs.Contents.{Contents, has_deadline}
+use Rattle.gmp_table.specs.Contents.{TableContents, has_deadline}
 use Rattle.gmp_table.specs.Kept.{count_status, tally, times}
 use Rattle.gmp_table.specs.declared.wake.Candidate.{Candidate}
 use Rattle.gmp_table.specs.declared.wake.Rank.{Rank}
@@ -150,7 +150,7 @@ count_none p (x ∷ xs) h =
     sum_by-cons (λ z. tally (p z)) x xs ∙ (ap (λ (b : Bool). tally b + count_by p xs) (h 0 x refl) ∙ (zero-add (count_by p xs) ∙ count_none p xs (λ k y e. h (suc k) y e)))
 
 -- Part way: t is what is left of t0 once these were woken, so many
-pub record IsPartWoken (wake : Wake) (t0 t : Contents) (gs : List GNo) (count : ℕ) : Type 0 where
+pub record IsPartWoken (wake : Wake) (t0 t : TableContents) (gs : List GNo) (count : ℕ) : Type 0 where
   pub same : all_woken (answer_of wake) t.table ≡ all_woken (answer_of wake) t0.table
   pub counted : count + how_many_woken (answer_of wake) t.table ≡ how_many_woken (answer_of wake) t0.table
   pub shelf : t.shelf ≡ t0.shelf ++ gs
@@ -160,7 +160,7 @@ pub record IsPartWoken (wake : Wake) (t0 t : Contents) (gs : List GNo) (count : 
   pub behind_them : (i : ℕ) (x : Goroutine) → slice_get t.table.goroutines i ≡ Some x → is_some (answer_of wake x.status) ≡ true
       → All (λ (g : GNo). is_before (rank_of wake x.status) (rank_at wake t0.table.goroutines g) ≡ false) gs
 
-pub none_woken : (wake : Wake) (t0 : Contents) → IsPartWoken wake t0 t0 [] 0
+pub none_woken : (wake : Wake) (t0 : TableContents) → IsPartWoken wake t0 t0 [] 0
 none_woken wake t0 = record {
   same = refl;
   counted = zero-add (how_many_woken (answer_of wake) t0.table);
@@ -175,7 +175,7 @@ none_woken wake t0 = record {
 abbrev woken_row : Candidate → Goroutine → Goroutine
 woken_row b x = record { status = Ready Shelf b.woke; epoch = x.epoch + 1 }
 
-module _ (wake : Wake) (t0 t t' : Contents) (gs : List GNo) (count : ℕ) (b : Candidate) (x : Goroutine) (part : IsPartWoken wake t0 t gs count)
+module _ (wake : Wake) (t0 t t' : TableContents) (gs : List GNo) (count : ℕ) (b : Candidate) (x : Goroutine) (part : IsPartWoken wake t0 t gs count)
     (at : slice_get t.table.goroutines b.g.0 ≡ Some x) (is : answer_of wake x.status ≡ Some b.woke) (rank : b.rank ≡ rank_of wake x.status)
     (least : (k : ℕ) (y : Goroutine) → k < length t.table.goroutines → slice_get t.table.goroutines k ≡ Some y → is_some (answer_of wake y.status) ≡ true
     → is_before (rank_of wake y.status) b.rank ≡ false)
@@ -244,7 +244,7 @@ module _ (wake : Wake) (t0 t t' : Contents) (gs : List GNo) (count : ℕ) (b : C
 
 -- At the end
 
-pub all_done : (wake : Wake) (t0 t : Contents) (gs : List GNo) (count : ℕ) → IsPartWoken wake t0 t gs count
+pub all_done : (wake : Wake) (t0 t : TableContents) (gs : List GNo) (count : ℕ) → IsPartWoken wake t0 t gs count
     → IsFirst wake t.table.goroutines (length t.table.goroutines) None
     → (t.table ≡ all_woken (answer_of wake) t0.table) × (count ≡ how_many_woken (answer_of wake) t0.table) × IsWakeOrder wake t0.table.goroutines gs
 all_done wake t0 t gs count part none = (sym unchanged ∙ part.same, sym (add-zero count) ∙ (ap (λ (n : ℕ). count + n) (sym nobody) ∙ part.counted), order)
@@ -271,12 +271,12 @@ all_done wake t0 t gs count part none = (sym unchanged ∙ part.same, sym (add-z
     }
 
 -- One step of the loop, from what the scan found
-pub next_more : (wake : Wake) (t0 t t' : Contents) (gs : List GNo) (count : ℕ) (b : Candidate) → IsPartWoken wake t0 t gs count
+pub next_more : (wake : Wake) (t0 t t' : TableContents) (gs : List GNo) (count : ℕ) (b : Candidate) → IsPartWoken wake t0 t gs count
     → IsFirst wake t.table.goroutines (length t.table.goroutines) (Some b) → t'.table ≡ made_ready t.table b.g Shelf b.woke → t'.shelf ≡ t.shelf ++ b.g ∷ []
     → IsPartWoken wake t0 t' (gs ++ b.g ∷ []) (count + 1)
 next_more wake t0 t t' gs count b part (x, at, is, rank, least) table shelf = one_more wake t0 t t' gs count b x part at is rank least table shelf
 
-pub next_less : (wake : Wake) (t0 t t' : Contents) (gs : List GNo) (count : ℕ) (b : Candidate) → IsPartWoken wake t0 t gs count
+pub next_less : (wake : Wake) (t0 t t' : TableContents) (gs : List GNo) (count : ℕ) (b : Candidate) → IsPartWoken wake t0 t gs count
     → IsFirst wake t.table.goroutines (length t.table.goroutines) (Some b) → t'.table ≡ made_ready t.table b.g Shelf b.woke → t'.shelf ≡ t.shelf ++ b.g ∷ []
     → how_many_woken (answer_of wake) t'.table < how_many_woken (answer_of wake) t.table
 next_less wake t0 t t' gs count b part (x, at, is, rank, least) table shelf =

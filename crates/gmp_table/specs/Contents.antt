@@ -11,12 +11,12 @@ use Rattle.gmp_seq.specs.State.{first_goroutine, dormant}
 use Rattle.gmp_seq.specs.Table.{Table, deadline_of}
 
 -- the table, and who is on the shelf, the one to be taken next first
-pub record Contents : Type 0 where
+pub record TableContents : Type 0 where
   pub table : Table
   pub shelf : List GNo
 
 -- main is on the shelf, and all others are dormant
-abbrev pub opening_contents : ℕ → Contents
+abbrev pub opening_contents : ℕ → TableContents
 opening_contents bodies = record {
   table = record { goroutines = first_goroutine ∷ replicate (bodies - 1) dormant; arrivals = 0; clock = 0 };
   shelf = record { 0 = 0 } ∷ [];

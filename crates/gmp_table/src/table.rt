@@ -5,7 +5,7 @@ ghost use Rattle.gmp_seq.specs.declared.call.Reply.{Reply};
 ghost use Rattle.gmp_seq.specs.Step.{Takes, Puts, Claims, Starts};
 ghost use Rattle.gmp_seq.specs.Table.{IsReady, IsOffShelf, status_at, epoch_at, next_of, some_status, is_shelved, is_astir, is_ready_or_running, is_outstanding, least_deadline, set_status, made_ready, made_wait};
 ghost use Rattle.gmp_table.specs.Kept.{IsListing};
-ghost use Rattle.gmp_table.specs.Contents.{Contents, opening_contents};
+ghost use Rattle.gmp_table.specs.Contents.{TableContents, opening_contents};
 ghost use Rattle.gmp_table.specs.declared.wake.Wake.{Wake};
 ghost use Rattle.gmp_table.specs.Waking.{IsFirst};
 
@@ -30,10 +30,10 @@ pub struct StatusTable {
 }
 
 impl Model for StatusTable {
-    ghost use Rattle.gmp_table.specs.Contents.{Contents};
+    ghost use Rattle.gmp_table.specs.Contents.{TableContents};
     ghost use Rattle.gmp_table.specs.Kept.{IsTable};
 
-    ghost Value = { Contents };
+    ghost Value = { TableContents };
 
     ghost view = { λ t. record { table = record { goroutines = t.rows; arrivals = t.arrivals; clock = t.clock }; shelf = t.shelf.items } };
 
