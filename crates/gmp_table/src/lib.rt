@@ -1,7 +1,7 @@
 //! What each goroutine does, and the shelf: the scheduler's own queue of tickets that nobody has.
 //!
-//! What the calls cost, where g is the number of goroutines: `next_to_wake` looks at all goroutines, for a tick only where somebody waits
-//! with a deadline, and `least_deadline` likewise; every other call but `open` is constant in g.
+//! What the calls cost, where g is the number of goroutines: `due` and `least_deadline` look at all goroutines, where somebody waits with a
+//! deadline; every other call but `open` is constant in g.
 #![tactic(auto)]
 
 mod rows;

@@ -149,15 +149,6 @@ impl StatusTable {
         self.arrivals
     }
 
-    /// Who is woken next, and what it is told: found by a look at all goroutines; for a tick at none where nobody waits with a deadline.
-    pub fn next_to_wake(&self, wake: Wake) -> Option<Candidate>
-        ensures first { IsFirst wake self.now.table.goroutines (length self.now.table.goroutines) result }
-        // So few can be woken.
-        ensures few { length self.now.table.goroutines < 2 ^ 16 }
-    {
-        self.rows.next_to_wake(wake)
-    }
-
     /// Who of those whose deadline is at this moment, in nanoseconds, or before is woken first, by deadline and then by arrival, and what
     /// it is told: found by a look at all goroutines, at none where nobody waits with a deadline.
     pub fn due(&self, now: u64) -> Option<Candidate>

@@ -2,13 +2,12 @@ ghost use Rattle.std.specs.Prelude.{◌<◌, ◌^◌, IsTrue};
 ghost use Rattle.gmp_seq.specs.Table.{IsOffShelf, epoch_at};
 
 use super::*;
-use gmp_base::{CNo, Fault, GNo, MNo, Readiness, Woke};
-use gmp_seq::{Deal, Goroutine, Kind, Offer, Offers, Place, Status};
+use gmp_base::{GNo, MNo, Readiness, Woke};
+use gmp_seq::{Goroutine, Kind, Offers, Place, Status};
 use std::process::Abort;
 use std::test::Fail;
 
 mod deadlines;
-mod order;
 
 /// Whether g is off the shelf, and can still become ready.
 fn is_off(table: &StatusTable, g: GNo) -> bool
@@ -38,9 +37,9 @@ fn wait(
     table.wait(g, kind, offers, until);
 }
 
-/// Makes the one ready on the shelf that is woken next.
-fn wake_next(rt: &impl Abort, table: &mut StatusTable, wake: Wake) -> Option<Candidate> {
-    let next = table.next_to_wake(wake)?;
+/// Makes the one ready on the shelf that is due first.
+fn wake_next(rt: &impl Abort, table: &mut StatusTable, now: u64) -> Option<Candidate> {
+    let next = table.due(now)?;
     assert!(rt; is_off(table, next.g));
     let ready = table.requeue(next.g, next.woke);
     assert_eq!(rt; ready.g, next.g);

@@ -20,11 +20,11 @@ fn a_tick_wakes_by_deadline_and_then_by_arrival(rt: HostRuntime) -> Result<(), F
     select(&rt, &mut table, 3, 21);
     assert_eq!(rt; (table.arrivals(), table.least_deadline()), (5, Some(10)));
     let least = candidate(4, 10, 2, Woke::Done);
-    assert_eq!(rt; table.next_to_wake(Wake::Due(9)), None);
-    assert_eq!(rt; table.next_to_wake(Wake::Due(10)), Some(least));
-    let due = Wake::Due(20);
+    assert_eq!(rt; table.due(9), None);
+    assert_eq!(rt; table.due(10), Some(least));
+    let due = 20;
     assert_eq!(rt; wake_next(&rt, &mut table, due), Some(least));
-    assert_eq!(rt; table.next_to_wake(Wake::Due(19)), None);
+    assert_eq!(rt; table.due(19), None);
     assert_eq!(rt; table.least_deadline(), Some(20));
     assert_eq!(rt;
         wake_next(&rt, &mut table, due),
