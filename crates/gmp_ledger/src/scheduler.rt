@@ -1,16 +1,13 @@
 //! Goroutines, channels and machines together: the effect of each call on them.
-ghost use Rattle.std.specs.Prelude.{false, ◌≡◌, ◌+◌, ◌<◌, ◌≤◌, ◌^◌, None, Some, length, slice_get, slice_index, sum, IfOk, OnErr};
+ghost use Rattle.std.specs.Prelude.{false, ◌≡◌, ◌+◌, ◌<◌, ◌^◌, None, Some, length, slice_get, slice_index, sum, IfOk, OnErr};
 ghost use Rattle.gmp_seq.specs.declared.call.Call.{Call};
-ghost use Rattle.gmp_seq.specs.declared.status.Mode.{Mode};
-ghost use Rattle.gmp_seq.specs.Machines.{IsBare};
-ghost use Rattle.gmp_seq.specs.Step.{Effect, Exits, OnTable, Parks, Selects, Step};
+ghost use Rattle.gmp_seq.specs.Step.{Effect, Step};
 ghost use Rattle.gmp_seq.specs.Machines.{is_parked};
 ghost use Rattle.gmp_table.specs.Kept.{IsListing};
 ghost use Rattle.std.specs.Option.{option_map_or};
-ghost use Rattle.gmp_seq.specs.Table.{is_shelved, some_status, IsCalling, IsRunning, RunsNothing, is_outstanding};
+ghost use Rattle.gmp_seq.specs.Table.{is_shelved, some_status, is_outstanding};
 ghost use Rattle.gmp_seq.specs.Fits.{AreLimits};
-ghost use Rattle.gmp_goroutines.specs.Choice.{IsChoice};
-ghost use Rattle.gmp_ledger.specs.Grants.{Chooses, Grants, Leaves, NeedsMemory, WantsMemory};
+ghost use Rattle.gmp_ledger.specs.Grants.{Chooses, Grants, NeedsMemory, WantsMemory};
 ghost use Rattle.gmp_goroutines.specs.Stored.{stored_at};
 ghost use Rattle.gmp_ledger.specs.Scene.{IsYoung, SameRest, counted_one, opening_scene};
 ghost use Rattle.gmp_goroutines.specs.Shelf.{Shelves};
@@ -21,7 +18,7 @@ mod resting;
 mod selecting;
 
 use crate::replies;
-use gmp_base::{Case, Cases, GNo, MNo, PNo, Readiness, Woke};
+use gmp_base::{Case, GNo, MNo, PNo, Readiness, Woke};
 use gmp_goroutines::Goroutines;
 use gmp_idle::Machines;
 use gmp_seq::{Call, Limits, Outcome, Reply};

@@ -1,5 +1,5 @@
 //! The beginning and the end of a blocking call.
-ghost use Rattle.std.specs.Prelude.{◌≡◌, ◌<◌, ◌^◌, Some, slice_get};
+ghost use Rattle.std.specs.Prelude.{◌≡◌, ◌<◌, Some, slice_get};
 ghost use Rattle.gmp_seq.specs.declared.call.Call.{Call};
 ghost use Rattle.gmp_seq.specs.declared.status.Mode.{Mode};
 ghost use Rattle.gmp_seq.specs.declared.status.Status.{Status};

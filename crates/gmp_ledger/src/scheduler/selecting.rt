@@ -1,5 +1,5 @@
 //! Selects.
-ghost use Rattle.std.specs.Prelude.{◌≡◌, ◌<◌, ◌≤◌, ◌^◌, length};
+ghost use Rattle.std.specs.Prelude.{◌≡◌, ◌<◌, ◌≤◌, length};
 ghost use Rattle.gmp_seq.specs.Step.{Selects};
 ghost use Rattle.gmp_seq.specs.Table.{IsRunning};
 ghost use Rattle.gmp_goroutines.specs.Choice.{IsChoice};
