@@ -1,13 +1,6 @@
-pub mod Running
-pub mod Entered
-pub mod Answered
-pub mod Allowed
 pub mod Bodies
 pub mod OpeningBook
-pub mod Placed
-pub mod Granted
-pub mod Arrivals
-pub mod Ties
-pub mod Talking
-pub mod Choices
-pub mod Calls
+pub mod Moves
+pub mod Handing
+pub mod Settled
+pub mod Asking
