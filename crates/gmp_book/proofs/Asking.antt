@@ -1,6 +1,6 @@
 -- Calls of a goroutine that runs, and calls that move no body and no owner.
 use Rattle.std.proofs.Common.{◌≡◌, ℕ, Bool, true, false, not, Option, None, Some, List, ◌∷◌, [], set, length, length-set, refl, sym, ap, ◌∙◌, inl, inr, ◌⊎◌, if◌then◌else◌, subst}
-use Rattle.std.specs.Prelude.{Result, Ok, Err, OnErr, IfOk}
+use Rattle.std.specs.Prelude.{Result, Ok, Err, OnErr, OnOk, IfOk}
 use Rattle.std.proofs.lemmas.Bool.{false≢true}
 use Rattle.gmp_base.specs.declared.ask.Fault.TheVariants as fault
 use Rattle.gmp_base.specs.declared.cases.Case.{Case}
@@ -22,7 +22,7 @@ use Rattle.gmp_seq.specs.Laws.{IsInOrder}
 use Rattle.gmp_seq.specs.Machines.{Machines}
 use Rattle.gmp_seq.specs.State.{State}
 use Rattle.gmp_seq.specs.Step.{Deals, Effect, Selects}
-use Rattle.gmp_seq.specs.Table.{IsRunning, Table}
+use Rattle.gmp_seq.specs.Table.{IsHeld, IsRunning, Table}
 use Rattle.gmp_slots.specs.Slots.{is_vacant}
 use Rattle.gmp_ledger.specs.Grants.{Grants, NeedsMemory, Suits, WantsMemory}
 use Rattle.gmp_ledger.specs.Handed.{held_handed}
@@ -94,7 +94,7 @@ still _ e = absurd (false≢true e)
 -- Refusals
 
 no_want : (c : Call) (limits : Limits) (s : State) → NeedsMemory c None → WantsMemory limits c s → ⊥
-no_want (call.Make capacity) limits s needs wants = absurd needs
+no_want (call.Make capacity) limits s needs wants = absurd (false≢true needs)
 no_want _ limits s needs wants = wants
 
 says_none : (wants : Type 0) (why answer : Option Refusal) → (wants → ⊥) → Says wants why answer → answer ≡ why
@@ -109,7 +109,7 @@ says c limits s why answer needs h = says_none (WantsMemory limits c s) why answ
 -- What stays
 
 clash : (b : Bool) → b ≡ true → b ≡ false → ⊥
-clash b yes no = false≢true (sym no ∙ yes)
+clash b is not_ = false≢true (sym not_ ∙ is)
 
 owner_stays : (c : Call) (m : MNo) (old new : Machines) (answer : Reply) → gives_proc c ≡ false → hands_proc c ≡ false → OwnerMoves answer c m old new → idles new ≡ idles old
 owner_stays c m old new (reply.Proc p) out in_ h = absurd (clash _ h.0 out)
@@ -185,7 +185,7 @@ moves_by answer held moved.Waits same h = waits_is answer (sym same ∙ h)
 
 module _ {T : Type 0} (limits : Limits) (old : State) (m : MNo) (order : IsInOrder limits old) (bodies : List (Option T)) (kept : BodiesIn old.table bodies) (held : Held T)
     (runs : IsRunning old.table held.g m) (c : Call) (kind : IsOwn c) (new : Table) where
-  home : (g : GNo) → (hands_called c ≡ not (hands_held c)) → _ → ins new ≡ set (ins old.table) g.0 true → (BodiesIn new (set bodies held.g.0 (Some held.body))) × (length (set bodies held.g.0 (Some held.body)) ≡ length bodies)
+  home : (g : GNo) → (hands_called c ≡ not (hands_held c)) → IsHeld old.table g m → ins new ≡ set (ins old.table) g.0 true → (BodiesIn new (set bodies held.g.0 (Some held.body))) × (length (set bodies held.g.0 (Some held.body)) ≡ length bodies)
   home g only its is = home_in limits old m order bodies kept true false (Some held) None new g refl runs tt its is
 
   own_in : (answer : Reply) → BodyMoves (way_of answer) c m old.table new → BodiesIn new (bodies_by answer held bodies) × (length (bodies_by answer held bodies) ≡ length bodies)
@@ -236,3 +236,11 @@ pub still_kept : {T Q : Type 0} (old now : Log) (bodies : List (Option T)) (owne
     → IsStill c → OnErr result ((now ≡ old) × (after ≡ before)) → IfOk result (λ answer. Records old before c answer now after) → Placed now bodies owners
 still_kept old now bodies owners kept before after c (Err why) kind same records = rw same.0 kept
 still_kept old now bodies owners kept before after c (Ok answer) kind same records = still_placed old now bodies owners kept before after c answer records kind
+
+pub on_kept : {T Q : Type 0} (old now : Log) (bodies : List (Option T)) (owners : List (Option Q)) → Placed old bodies owners → (before after : Pass) (c : Call) (result : Result Reply Refusal)
+    (held : Held T) (g : GNo) (p : PNo) → IsOwn c → goes_on c ≡ true → g ≡ held.g → OnErr result ((now ≡ old) × (after ≡ before)) → IfOk result (λ answer. Records old before c answer now after)
+    → OnOk result (Grants before.m g p c old.state) → OnOk result (IsInOrder old.limits old.state) → Placed now bodies owners
+on_kept old now bodies owners kept before after c (Err why) held g p kind on of same records grants order = rw same.0 kept
+on_kept old now bodies owners kept before after c (Ok answer) held g p kind on of same records grants order =
+    on_placed old now bodies owners kept before after c answer records order held (rw (← of) (kind.runs before.m g p old.state grants)) kind
+    (goes old now bodies owners kept before after c answer records on)

@@ -84,10 +84,11 @@ impl<T, Q> Book<T, Q> {
                 let (held, proc) = values.into_held_and_proc();
                 Ok(Returned::Runs(held.unwrap(), proc.unwrap()))
             }
-            Ok(_) => {
+            Ok(Reply::Shelved(_)) => {
                 values.into_nothing();
                 Ok(Returned::Shelved)
             }
+            Ok(_) => unreachable!(),
         }
     }
 }

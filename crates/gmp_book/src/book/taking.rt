@@ -117,8 +117,9 @@ impl<T, Q> Book<T, Q> {
         ensures body { OnOk result (TakesBack self.old self.new held) }
     {
         match self.rest(pass, held, Call::Exit)? {
+            Reply::Dead => Ok(Exited::Dead),
             Reply::MainEnded => Ok(Exited::MainEnded),
-            _ => Ok(Exited::Dead),
+            _ => unreachable!(),
         }
     }
 }

@@ -1,24 +1,17 @@
-use Rattle.std.proofs.Common.{◌≡◌, Some, subst}
-use Rattle.gmp_ledger.specs.Handed.{by_held}
-use Rattle.gmp_ledger.specs.Refusals.{refusal_of}
-use Rattle.gmp_book.specs.Book.{Contents}
-use Rattle.gmp_book.proofs.Asking.{goes, on_placed, own, says}
+use Rattle.std.proofs.Common.{sym, ap}
+use Rattle.gmp_ledger.specs.declared.handed.Handed.{Handed}
+use Rattle.gmp_ledger.specs.Handed.{goroutine_in}
+use Rattle.gmp_book.proofs.Asking.{on_kept, own}
 use Rattle.gmp_book.proofs.book.Book.proceed.Goals as goal
 
 pub call-requires-clause-suits : goal.call-requires-clause-suits
 call-requires-clause-suits g c = rw c.as_handed-given.ensures ((own c.args.call c.requires.own).suits c.args.held.run c.args.held.g)
 
-pub returns-in-Err-clause-refused : goal.returns-in-Err-clause-refused
-returns-in-Err-clause-refused g c =
+pub invariant_of-self : goal.invariant_of-self
+invariant_of-self g c =
     let i = c.self.inside in
-    subst (λ (b : Contents _ _). Some c.in-Err.why ≡ refusal_of b.log c.args.pass.now c.args.call (by_held c.args.held)) c.self.view_is
-    (says c.args.call i.ledger.limits i.ledger.state _ _ c.requires.plain (rw (c.as_handed-given.ensures, c.in-Err.is) at c.call.ensures.refused))
+    on_kept i.ledger c.call.new.self i.bodies i.owners c.self.invariant c.args.pass.now c.call.new.pass c.args.call c.call.result c.args.held _ _
+    (own c.args.call c.requires.own) c.requires.goes (ap (λ (x : Handed). goroutine_in x) c.as_handed-given.ensures) c.call.ensures.err c.call.ensures.records c.call.ensures.grants c.call.ensures.order
 
-pub invariant_of-self-in-Ok : goal.invariant_of-self-in-Ok
-invariant_of-self-in-Ok g c =
-    let i = c.self.inside in
-    let k = c.in-Ok in
-    let kind = own c.args.call c.requires.own in
-    let runs = kind.runs _ _ _ _ (rw c.as_handed-given.ensures at k.ensures.grants) in
-    on_placed i.ledger c.call.new.self i.bodies i.owners c.self.invariant c.args.pass.now c.call.new.pass c.args.call k.reply k.ensures.records k.ensures.order c.args.held runs kind
-    (goes i.ledger c.call.new.self i.bodies i.owners c.self.invariant c.args.pass.now c.call.new.pass c.args.call k.reply k.ensures.records c.requires.goes)
+pub returns-clause-refused : goal.returns-clause-refused
+returns-clause-refused g c = ?
