@@ -7,5 +7,5 @@ call-values-requires-clause-suits g c = (c.args.ticket.run, rw (c.by_ticket.ensu
 
 pub returns-in-Err-clause-refused : goal.returns-in-Err-clause-refused
 returns-in-Err-clause-refused g c =
-    let refused = rw (c.in-Err.is, c.by_ticket.ensures, c.readiness.ensures) at c.call-values.ensures.refused in
+    let refused = rw (c.in-Err.is, c.by_ticket.ensures) at c.call-values.ensures.refused in
     says_alone _ _ refused

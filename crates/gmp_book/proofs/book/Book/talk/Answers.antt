@@ -2,7 +2,8 @@ use Rattle.std.proofs.Common.{◌≡◌, Some, subst}
 use Rattle.gmp_ledger.specs.Handed.{by_held}
 use Rattle.gmp_ledger.specs.Refusals.{refusal_of}
 use Rattle.gmp_book.specs.Book.{Contents}
-use Rattle.gmp_book.proofs.Asking.{own, own_placed, runs_vacant, says}
+use Rattle.gmp_book.specs.Went.{Talks}
+use Rattle.gmp_book.proofs.Asking.{moves_by, own, own_placed, runs_vacant, says, wait_told}
 use Rattle.gmp_book.proofs.book.Book.talk.Goals as goal
 
 pub call-requires-clause-suits : goal.call-requires-clause-suits
@@ -29,3 +30,11 @@ invariant_of-self-in-Ok g c =
     let runs = kind.runs _ _ _ _ (rw c.as_handed-given.ensures at k.ensures.grants) in
     rw c.by.ensures.bodies
     (own_placed i.ledger c.call.new.self i.bodies i.owners c.self.invariant c.args.pass.now c.call.new.pass c.args.call k.reply k.ensures.records k.ensures.order c.args.held runs kind)
+
+pub returns-in-Ok-clause-talks : goal.returns-in-Ok-clause-talks
+returns-in-Ok-clause-talks g c =
+    let i = c.self.inside in
+    let k = c.in-Ok in
+    let same = wait_told i.ledger.limits c.args.pass.now.m c.args.call k.reply i.ledger.state c.call.new.self.state c.requires.waits k.ensures.records.step.1 in
+    subst (λ (b : Contents _ _). Talks b.log c.args.pass.now c.args.call c.args.word c.args.held c.call.new.self c.call.new.pass c.by.result) c.self.view_is
+    (record { answer = k.reply; records = k.ensures.records; moves = moves_by k.reply c.args.held c.by.result same c.by.ensures.goes; choice = k.ensures.choice })
