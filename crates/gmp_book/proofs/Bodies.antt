@@ -8,7 +8,7 @@ use Rattle.gmp_book.specs.Book.{is_held}
 abbrev pub is_in : Goroutine → Bool
 is_in x = not (is_held x.status)
 
-set_map : {A B : Type 0} (f : A → B) (xs : List A) (i : ℕ) (x : A) → map f (set xs i x) ≡ set (map f xs) i (f x)
+pub set_map : {A B : Type 0} (f : A → B) (xs : List A) (i : ℕ) (x : A) → map f (set xs i x) ≡ set (map f xs) i (f x)
 set_map f [] i x = refl
 set_map f (y ∷ ys) zero x = refl
 set_map f (y ∷ ys) (suc i) x = ap (λ (zs : List _). f y ∷ zs) (set_map f ys i x)

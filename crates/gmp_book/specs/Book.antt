@@ -16,8 +16,8 @@ use Rattle.gmp_seq.specs.Run.{IsLegal}
 use Rattle.gmp_seq.specs.Table.{Table}
 use Rattle.gmp_slots.specs.Slots.{all_filled}
 use Rattle.gmp_book.specs.declared.report.Report.{Report}
-use Rattle.gmp_book.specs.Log.{Log, opening_log}
-use Rattle.gmp_book.specs.Refusals.{Line, line}
+use Rattle.gmp_ledger.specs.Log.{Log, opening_log}
+use Rattle.gmp_ledger.specs.Refusals.{Line, line}
 
 -- the run, and the bodies and owners that are in the book
 pub record Contents (T Q : Type 0) : Type 0 where

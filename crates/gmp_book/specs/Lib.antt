@@ -1,15 +1,5 @@
-pub mod Written
 pub mod Replies
-pub mod Log
-pub mod Refusals
-pub mod Kept
-pub mod LedgerView
 pub mod Book
+pub mod Hands
 pub mod Went
-pub mod Laws
-pub mod Tied
-pub mod Present
-pub mod Choice
-pub mod Served
-pub mod Shelf
 pub mod Returns

@@ -11,37 +11,9 @@ use Rattle.gmp_seq.specs.declared.status.Place.TheVariants.{Shelf}
 use Rattle.gmp_seq.specs.declared.status.Status.TheVariants.{Running}
 use Rattle.gmp_seq.specs.Machines.{Machines, some_idle}
 use Rattle.gmp_seq.specs.Table.{Table, made_ready, next_of, set_status}
-use Rattle.gmp_book.specs.declared.ledger.calling.Resumed.{Resumed}
-use Rattle.gmp_book.specs.declared.ledger.calling.Resumed.TheVariants as resumes
 use Rattle.gmp_book.specs.declared.returned.Returned.{Returned}
 use Rattle.gmp_book.specs.declared.returned.Returned.TheVariants.{Runs, Shelved}
 use Rattle.gmp_book.specs.Book.{Contents, HandsOutOwner}
-
--- Within the book
-
-abbrev pub resumed : Resumed → Reply
-resumed (resumes.Runs p) = reply.Runs p
-resumed (resumes.Shelved r) = reply.Shelved r
-
--- it runs on where its machine got a processor
-abbrev pub came_back : Table → GNo → Option PNo → Resumed
-came_back t g (Some p) = resumes.Runs p
-came_back t g None = resumes.Shelved (next_of t g)
-
--- the table once it came back so
-abbrev pub table_after : Table → GNo → MNo → ℕ → Resumed → Table
-table_after t g m number (resumes.Runs p) = set_status t g (Running m)
-table_after t g m number (resumes.Shelved r) = made_ready t g Shelf (woke.Number number)
-
--- its ticket is of the next readiness
-abbrev pub HasNext : Table → GNo → Resumed → Type 0
-HasNext t g (resumes.Runs p) = Unit {0}
-HasNext t g (resumes.Shelved r) = r ≡ next_of t g
-
--- the processor is the least that was idle, or none was
-abbrev pub IsLeast : Machines → Resumed → Type 0
-IsLeast w (resumes.Runs p) = position is_none w.holders ≡ Some p.0
-IsLeast w (resumes.Shelved r) = some_idle w ≡ false
 
 -- What a caller is answered
 
@@ -71,3 +43,8 @@ Resumes old now called number Shelved = TakesBackCalled old now called
 abbrev pub ByLeast : {T Q : Type 0} → Machines → Returned T Q → Type 0
 ByLeast w (Runs held proc) = position is_none w.holders ≡ Some proc.p.0
 ByLeast w Shelved = some_idle w ≡ false
+
+-- the machine that an entry into a blocking call woke
+abbrev pub woken_in : Reply → Option MNo
+woken_in (reply.Entered p woken) = woken
+woken_in _ = None

@@ -1,32 +1,32 @@
 //! The book.
-ghost use Rattle.std.specs.Prelude.{◌≡◌, ◌↔◌, ◌<◌, ◌++◌, ℕ, [], None, Some, length, is_none, position, option_map, OnOk, OnErr, IfOk, IfErr, IfSome, IfNone, MatchOption};
-ghost use Rattle.gmp_seq.specs.declared.status.Place.TheVariants.{Shelf, Out};
-ghost use Rattle.gmp_seq.specs.Fits.{AreLimits};
-ghost use Rattle.gmp_seq.specs.Machines.{is_parked};
-ghost use Rattle.gmp_base.specs.declared.ask.Woke.{Woke};
+ghost use Rattle.std.specs.Prelude.{◌≡◌, ◌<◌, ◌++◌, length, OnOk, OnErr, IfOk, IfErr, IfNone};
 ghost use Rattle.gmp_base.specs.declared.number.CNo.{CNo};
 ghost use Rattle.gmp_seq.specs.Channels.{items_at};
-ghost use Rattle.gmp_seq.specs.Laws.{NobodyCouldProceed};
+ghost use Rattle.gmp_seq.specs.Fits.{AreLimits};
+ghost use Rattle.gmp_seq.specs.Laws.{IsInOrder, NobodyCouldProceed};
 ghost use Rattle.gmp_seq.specs.Run.{IsLegal, sent, received};
-ghost use Rattle.gmp_seq.specs.Table.{IsAsleep, IsReady, made_ready, minded, next_of, set_status};
-ghost use Rattle.gmp_base.specs.Values.{readiness_of};
-ghost use Rattle.gmp_book.specs.Log.{Records};
-ghost use Rattle.gmp_book.specs.Refusals.{refusal_of, why_refused, refusal_in, by_ticket, by_held, by_proc};
-ghost use Rattle.gmp_idle.specs.Replies.{acquired, poked};
-ghost use Rattle.gmp_book.specs.Replies.{taken, left, parking};
+ghost use Rattle.gmp_ledger.specs.Grants.{Chooses, Grants, NeedsMemory, Suits, WantsMemory};
+ghost use Rattle.gmp_ledger.specs.Handed.{goroutine_in, processor_in};
+ghost use Rattle.gmp_ledger.specs.Log.{Records};
+ghost use Rattle.gmp_ledger.specs.Refusals.{Says, refusal_in, refusal_of};
+ghost use Rattle.gmp_book.specs.Hands.{handed_of};
 
+mod asking;
 mod calling;
 mod communicating;
 mod ending;
 mod pausing;
+mod resting;
 mod spinning;
+mod taking;
 
-use crate::ledger::{Exited, Ledger, Parking};
 use crate::opening::{Unopened, first_passes, may_open};
-use crate::replies::started;
-use crate::went::Went;
-use gmp_base::{GNo, Held, MNo, Pass, Proc, Refusal, Refused, Ticket};
-use gmp_seq::{Call, Entry, Limits, Outcome, Reply, Status};
+use crate::values::{
+    Values, claimed, handed, is_make, settle_body, settle_owner, ticket_out, told_by, way_of,
+};
+use gmp_base::{Pass, Refusal};
+use gmp_ledger::Ledger;
+use gmp_seq::{Call, Entry, Limits, Outcome, Reply};
 use gmp_slots::Slots;
 use std::alloc::Global;
 use std::marker::Model;
@@ -57,8 +57,8 @@ impl<T, Q> Model for Book<T, Q> {
 }
 
 impl<T, Q> Book<T, Q> {
-    ghost use Rattle.gmp_book.specs.Book.{IsBook, SameValues, HandsOut, TakesBack, HandsOutOwner, TakesBackOwner, MayOpen, WhyUnopened, opening_book, opening_passes};
-    ghost use Rattle.gmp_book.specs.Went.{Proceeds};
+    ghost use Rattle.gmp_book.specs.Book.{IsBook, MayOpen, WhyUnopened, opening_book, opening_passes};
+    ghost use Rattle.gmp_book.specs.Hands.{Hands, values_back};
 
     /// A book of a run that has made no call, and one pass for each machine, in order.
     ///
@@ -139,184 +139,58 @@ impl<T, Q> Book<T, Q> {
         self.ledger.outcome()
     }
 
-    /// Lets the machine hold the least idle processor, if one is idle.
-    pub fn acquire(&mut self, pass: &mut Pass) -> Result<Option<Proc<Q>>, Refusal>
-        ensures refused { refusal_in result ≡ refusal_of self.old.log pass.old Call.Acquire [] }
-        ensures err { OnErr result ((self.new ≡ self.old) × (pass.new ≡ pass.old)) }
-        ensures entry { IfOk result (λ proc. Records self.old.log pass.old Call.Acquire (acquired (option_map (λ x. x.p) proc)) self.new.log pass.new) }
-        ensures proc { IfOk result (λ proc. MatchOption proc (SameValues self.old self.new) (HandsOutOwner self.old self.new)) }
-        ensures least { IfOk result (λ proc. IfSome proc (λ x. position is_none self.old.log.state.machines.holders ≡ Some x.p.0)) }
-    {
-        match self.ledger.try_acquire(pass)? {
-            Some(p) => {
-                let owner = self.owners.take(p.0 as usize);
-                Ok(Some(Proc::of(self.ledger.run(), p, owner)))
-            }
-            None => Ok(None),
-        }
-    }
-
-    /// Gives out the ticket of a goroutine on the shelf, if one is on it: as `StatusTable::unshelve`, of the one that is there for longest.
-    pub fn take(&mut self, pass: &mut Pass) -> Result<Option<Ticket>, Refusal>
-        ensures refused { refusal_in result ≡ refusal_of self.old.log pass.old Call.Take [] }
-        ensures err { OnErr result ((self.new ≡ self.old) × (pass.new ≡ pass.old)) }
-        ensures entry { IfOk result (λ ticket. Records self.old.log pass.old Call.Take (taken (option_map readiness_of ticket)) self.new.log pass.new) }
-        ensures run { IfOk result (λ ticket. IfSome ticket (λ t. t.run ≡ self.old.log.run)) }
-        ensures values { OnOk result (SameValues self.old self.new) }
-    {
-        match self.ledger.try_take(pass)? {
-            Some(r) => Ok(Some(Ticket::of(self.ledger.run(), r.g, r.epoch))),
-            None => Ok(None),
-        }
-    }
-
-    /// Puts a ticket onto the shelf, last as `StatusTable::shelve` does.
-    pub fn put(&mut self, pass: &mut Pass, ticket: Ticket) -> Result<(), Refused<Ticket>>
-        ensures refused { why_refused result ≡ refusal_of self.old.log pass.old (Call.Put (readiness_of ticket)) (by_ticket ticket) }
-        ensures back { IfErr result (λ r. r.back ≡ ticket) }
-        ensures err { OnErr result ((self.new ≡ self.old) × (pass.new ≡ pass.old)) }
-        ensures entry { OnOk result (Records self.old.log pass.old (Call.Put (readiness_of ticket)) Reply.Shelf self.new.log pass.new) }
-        ensures values { OnOk result (SameValues self.old self.new) }
-    {
-        match self.ledger.try_put(pass, ticket.run, ticket.readiness()) {
-            Err(why) => Err(Refused { why, back: ticket }),
-            Ok(()) => {
-                ticket.open();
-                Ok(())
-            }
-        }
-    }
-
-    /// Spends a ticket: the machine runs its goroutine, which is to be told what was stored for it.
-    pub fn claim(&mut self, pass: &mut Pass, ticket: Ticket) -> Result<Held<T>, Refused<Ticket>>
-        ensures refused { why_refused result ≡ refusal_of self.old.log pass.old (Call.Claim (readiness_of ticket)) (by_ticket ticket) }
-        ensures back { IfErr result (λ r. r.back ≡ ticket) }
-        ensures err { OnErr result ((self.new ≡ self.old) × (pass.new ≡ pass.old)) }
-        ensures entry { OnOk result (Records self.old.log pass.old (Call.Claim (readiness_of ticket)) Reply.Held self.new.log pass.new) }
-        ensures held { IfOk result (HandsOut self.old self.new) }
-        ensures g { IfOk result (λ h. h.g ≡ ticket.g) }
-        ensures woke { IfOk result (λ h. IsReady self.old.log.state.table (readiness_of ticket) Out h.woke) }
-    {
-        match self.ledger.try_claim(pass, ticket.run, ticket.readiness()) {
-            Err(why) => Err(Refused { why, back: ticket }),
-            Ok(woke) => {
-                let (run, g, _) = ticket.open();
-                let body = self.bodies.take(g.0 as usize);
-                Ok(Held::of(run, g, woke, body))
-            }
-        }
-    }
-
-    /// Starts the goroutine of a body, whose ticket is given out. The goroutine that asks goes on: it is told Done, or a fault, where there
-    /// is no such body or it was started before.
-    pub fn go(
+    /// The machine of the pass makes the call, with these values, or it is refused and hands them back. A make is given memory: where
+    /// that is refused, its goroutine is to be told `NoMemory`. `word` chooses among the cases of a select.
+    pub fn call(
         &mut self,
+        memory: Option<Global>,
         pass: &mut Pass,
-        held: Held<T>,
-        body: GNo,
-    ) -> Result<Went<T>, Refused<Held<T>>>
-        ensures refused { why_refused result ≡ refusal_of self.old.log pass.old (Call.Go body) (by_held held) }
-        ensures back { IfErr result (λ r. r.back ≡ held) }
-        ensures err { OnErr result ((self.new ≡ self.old) × (pass.new ≡ pass.old)) }
-        ensures entry { IfOk result (λ w. Proceeds self.old.log pass.old (Call.Go body) held self.new.log pass.new w) }
-        ensures values { OnOk result (SameValues self.old self.new) }
+        call: Call,
+        values: Values<T, Q>,
+        word: u64,
+    ) -> (Values<T, Q>, Result<Reply, Refusal>)
+        requires suits { Suits call (handed_of values) }
+        requires memory { NeedsMemory call memory }
+        ensures refused { Says (WantsMemory self.old.log.limits call self.old.log.state) (refusal_of self.old.log pass.old call (handed_of values)) (refusal_in result.1) }
+        ensures back { IfErr result.1 (λ why. result.0 ≡ values_back call why values) }
+        ensures err { OnErr result.1 ((self.new ≡ self.old) × (pass.new ≡ pass.old)) }
+        ensures records { IfOk result.1 (λ reply. Records self.old.log pass.old call reply self.new.log pass.new) }
+        ensures choice { IfOk result.1 (λ reply. Chooses call word reply self.old.log.state self.old.log.shelf) }
+        ensures hands { IfOk result.1 (λ reply. Hands call reply values result.0 self.old self.new) }
+        ensures grants { OnOk result.1 (Grants pass.old.m (goroutine_in (handed_of values)) (processor_in (handed_of values)) call self.old.log.state) }
+        ensures order { OnOk result.1 (IsInOrder self.old.log.limits self.old.log.state) }
     {
-        match self.ledger.try_go(pass, held.run, held.g, body) {
-            Err(why) => Err(Refused { why, back: held }),
-            Ok(answer) => Ok(Went::by(held, started(answer))),
-        }
-    }
-
-    /// Puts the goroutine that asks onto the shelf, last as `StatusTable::requeue` does. It is to be told Done.
-    pub fn yield_to(&mut self, pass: &mut Pass, held: Held<T>) -> Result<(), Refused<Held<T>>>
-        ensures refused { why_refused result ≡ refusal_of self.old.log pass.old Call.Yield (by_held held) }
-        ensures back { IfErr result (λ r. r.back ≡ held) }
-        ensures err { OnErr result ((self.new ≡ self.old) × (pass.new ≡ pass.old)) }
-        ensures entry { OnOk result (Records self.old.log pass.old Call.Yield (Reply.Shelved (next_of self.old.log.state.table held.g)) self.new.log pass.new) }
-        ensures ready { OnOk result (self.new.log.state.table ≡ made_ready self.old.log.state.table held.g Shelf Woke.Done) }
-        ensures body { OnOk result (TakesBack self.old self.new held) }
-    {
-        match self.ledger.try_yield(pass, held.run, held.g) {
-            Err(why) => Err(Refused { why, back: held }),
-            Ok(_) => {
-                let (_, g, _, own) = held.open();
-                self.bodies.put(g.0 as usize, own);
-                Ok(())
+        let given = handed(&values);
+        let g = claimed(&call);
+        let known = self.ledger.known(&call);
+        let makes = is_make(&call);
+        match self.ledger.call(memory, pass, call, &given, word) {
+            Err(why) => (values.refused(makes, why), Err(why)),
+            Ok(reply) => {
+                let Values {
+                    held,
+                    called,
+                    ticket,
+                    proc,
+                } = values;
+                if let Some(ticket) = ticket {
+                    ticket.open();
+                }
+                let run = self.ledger.run();
+                let told = told_by(known, reply);
+                let way = way_of(reply);
+                let (held, called) =
+                    settle_body(&mut self.bodies, way, run, g, told, held, called);
+                let proc = settle_owner(&mut self.owners, run, reply, proc);
+                let ticket = ticket_out(run, reply);
+                let back = Values {
+                    held,
+                    called,
+                    ticket,
+                    proc,
+                };
+                (back, Ok(reply))
             }
         }
-    }
-
-    /// Ends the goroutine that asks, and with goroutine 0 the run.
-    pub fn exit(&mut self, pass: &mut Pass, held: Held<T>) -> Result<Exited, Refused<Held<T>>>
-        ensures refused { why_refused result ≡ refusal_of self.old.log pass.old Call.Exit (by_held held) }
-        ensures back { IfErr result (λ r. r.back ≡ held) }
-        ensures err { OnErr result ((self.new ≡ self.old) × (pass.new ≡ pass.old)) }
-        ensures entry { IfOk result (λ e. Records self.old.log pass.old Call.Exit (left e) self.new.log pass.new) }
-        ensures main { IfOk result (λ e. e ≡ Exited.MainEnded ↔ (held.g.0 ≡ 0)) }
-        ensures dead { OnOk result (self.new.log.state.table ≡ set_status self.old.log.state.table held.g Status.Dead) }
-        ensures body { OnOk result (TakesBack self.old self.new held) }
-    {
-        match self.ledger.try_exit(pass, held.run, held.g) {
-            Err(why) => Err(Refused { why, back: held }),
-            Ok(exited) => {
-                let (_, g, _, own) = held.open();
-                self.bodies.put(g.0 as usize, own);
-                Ok(exited)
-            }
-        }
-    }
-
-    /// Wakes the least parked machine, where nobody spins and a processor is idle.
-    pub fn poke(&mut self, pass: &mut Pass) -> Result<Option<MNo>, Refusal>
-        ensures refused { refusal_in result ≡ refusal_of self.old.log pass.old Call.Poke [] }
-        ensures err { OnErr result ((self.new ≡ self.old) × (pass.new ≡ pass.old)) }
-        ensures entry { IfOk result (λ m. Records self.old.log pass.old Call.Poke (poked m) self.new.log pass.new) }
-        ensures least { IfOk result (λ m. IfSome m (λ n. position is_parked self.old.log.state.machines.modes ≡ Some n.0)) }
-        ensures values { OnOk result (SameValues self.old self.new) }
-    {
-        self.ledger.try_poke(pass)
-    }
-
-    /// Gives up the processor that the machine holds.
-    pub fn declare(&mut self, pass: &mut Pass, proc: Proc<Q>) -> Result<(), Refused<Proc<Q>>>
-        ensures refused { why_refused result ≡ refusal_of self.old.log pass.old Call.Declare (by_proc proc) }
-        ensures back { IfErr result (λ r. r.back ≡ proc) }
-        ensures err { OnErr result ((self.new ≡ self.old) × (pass.new ≡ pass.old)) }
-        ensures entry { OnOk result (Records self.old.log pass.old Call.Declare (Reply.Idle proc.p) self.new.log pass.new) }
-        ensures owner { OnOk result (TakesBackOwner self.old self.new proc) }
-    {
-        match self.ledger.try_declare(pass, proc.run, proc.p) {
-            Err(why) => Err(Refused { why, back: proc }),
-            Ok(()) => {
-                let (_, p, owner) = proc.open();
-                self.owners.put(p.0 as usize, owner);
-                Ok(())
-            }
-        }
-    }
-
-    /// Parks the machine, which holds no processor and has nothing to do, unless there is work or a deadline to mind. Where nobody
-    /// can ever go on, all are asleep and the run is over.
-    pub fn park(&mut self, pass: &mut Pass) -> Result<Parking, Refusal>
-        ensures refused { refusal_in result ≡ refusal_of self.old.log pass.old Call.Park [] }
-        ensures err { OnErr result ((self.new ≡ self.old) × (pass.new ≡ pass.old)) }
-        ensures entry { IfOk result (λ answer. Records self.old.log pass.old Call.Park (parking answer) self.new.log pass.new) }
-        ensures asleep { IfOk result (λ answer. answer ≡ Parking.AllAsleep ↔ IsAsleep self.old.log.state.table) }
-        // It minds the least deadline exactly where one stands and nobody is ready or running.
-        ensures minds { IfOk result (λ answer. (until : ℕ) → answer ≡ Parking.Mind until ↔ (minded self.old.log.state.table ≡ Some until)) }
-        ensures values { OnOk result (SameValues self.old self.new) }
-    {
-        self.ledger.try_park(pass)
-    }
-
-    /// Lets the clock show this moment, in nanoseconds, unless it showed a later one. All whose deadline is due go onto the shelf, by
-    /// their deadlines, and then by the beginnings of their waits. The answer counts them.
-    pub fn tick(&mut self, pass: &mut Pass, now: u64) -> Result<u64, Refusal>
-        ensures refused { refusal_in result ≡ refusal_of self.old.log pass.old (Call.Tick now) [] }
-        ensures err { OnErr result ((self.new ≡ self.old) × (pass.new ≡ pass.old)) }
-        ensures entry { IfOk result (λ n. Records self.old.log pass.old (Call.Tick now) (Reply.Woke n) self.new.log pass.new) }
-        ensures values { OnOk result (SameValues self.old self.new) }
-    {
-        self.ledger.try_tick(pass, now)
     }
 }

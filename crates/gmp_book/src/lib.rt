@@ -15,22 +15,18 @@
 //!   and `make` takes memory.
 #![tactic(auto)]
 
+mod answers;
 mod book;
-mod goroutines;
-mod handed;
-mod journal;
-pub mod laws;
-mod ledger;
 mod opening;
-mod replies;
 mod report;
 mod returned;
-mod runners;
+mod values;
 mod went;
 
+pub use answers::{Exited, Parking};
 pub use book::Book;
-pub use ledger::{Exited, Parking};
 pub use opening::Unopened;
 pub use report::Report;
 pub use returned::Returned;
+pub use values::{Values, Way};
 pub use went::{Moved, Went};

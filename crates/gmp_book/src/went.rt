@@ -1,9 +1,9 @@
 //! What becomes of a goroutine that asked.
 ghost use Rattle.std.specs.Prelude.{◌≡◌, true};
 ghost use Rattle.gmp_slots.specs.Slots.{is_vacant};
-ghost use Rattle.gmp_book.specs.Went.{handed_back};
+ghost use Rattle.gmp_book.specs.Went.{closed_in, goes_home, handed_back};
 
-use crate::replies::{is_wait, ticket_in, woke_after};
+use crate::values::{ticket_in, woke_after};
 use gmp_base::{Held, Refusal, Ticket, Woke};
 use gmp_seq::Reply;
 use gmp_slots::Slots;
@@ -40,15 +40,15 @@ impl<T> Went<T> {
 }
 
 impl<T> Moved<T> {
-    ghost use Rattle.gmp_book.specs.Went.{Moves, bodies_by, is_wait};
+    ghost use Rattle.gmp_book.specs.Went.{GoesBy, bodies_by};
 
-    /// The goroutine goes on by this reply, or waits, its body in its place.
+    /// The goroutine goes on by this reply, or its body is back in its place.
     pub(crate) fn by(bodies: &mut Slots<T>, held: Held<T>, reply: Reply) -> Self
-        requires { is_wait reply ≡ true → is_vacant bodies.old held.g.0 ≡ true }
-        ensures moves { Moves reply held result }
+        requires { goes_home reply ≡ true → is_vacant bodies.old held.g.0 ≡ true }
+        ensures goes { GoesBy reply held result }
         ensures bodies { bodies.new ≡ bodies_by reply held bodies.old }
     {
-        if is_wait(reply) {
+        if goes_home(reply) {
             let (_, g, _, body) = held.open();
             bodies.put(g.0 as usize, body);
             return Moved::Waits;
@@ -68,4 +68,24 @@ pub(crate) fn handed_back<T>(why: Refusal, held: Held<T>) -> Held<T>
         }
         _ => held,
     }
+}
+
+/// How many a close woke.
+pub(crate) fn closed_in(reply: Reply) -> u64
+    ensures { result ≡ closed_in reply }
+{
+    match reply {
+        Reply::Closed(count) => count,
+        _ => 0,
+    }
+}
+
+/// Whether the body of the goroutine that asked is back in its place.
+fn goes_home(reply: Reply) -> bool
+    ensures { result ≡ goes_home reply }
+{
+    matches!(
+        reply,
+        Reply::Shelved(_) | Reply::Waits | Reply::Dead | Reply::MainEnded
+    )
 }

@@ -7,6 +7,8 @@ use Rattle.gmp_base.specs.declared.number.MNo.{MNo}
 use Rattle.gmp_base.specs.declared.number.PNo.{PNo}
 use Rattle.gmp_base.specs.declared.pass.Pass.{Pass}
 use Rattle.gmp_seq.specs.declared.call.Call.{Call}
+use Rattle.gmp_seq.specs.declared.call.Outcome.{Outcome}
+use Rattle.std.specs.Prelude.{IfNone}
 use Rattle.gmp_seq.specs.declared.call.Call.TheVariants as call
 use Rattle.gmp_seq.specs.declared.call.Reply.{Reply}
 use Rattle.gmp_seq.specs.declared.status.Goroutine.{Goroutine}
@@ -68,6 +70,14 @@ holding m None e = absurd cc
 
 pub in_order : (log : Log) (space : ℕ) → IsKept log space → IsInOrder log.limits log.state
 in_order log space kept = legal_in_order log.limits log.bodies log.capacities log.history log.state kept.within kept.legal
+
+-- while the run lasts another entry fits
+pub ongoing_room : (old now : Log) (space : ℕ) (o : Option Outcome) → old ≡ now → IsKept old space → old.state.outcome ≡ o → IfNone o (length now.history < now.limits.entries)
+ongoing_room old now space (Some how) is kept lasts = tt
+ongoing_room old now space None is kept lasts =
+    let within = (in_order old space kept).ongoing lasts in
+    let total = legal_total old.limits old.bodies old.capacities old.history old.state kept.legal in
+    subst (λ (l : Log). length l.history < l.limits.entries) is (omega (arith, within, total))
 
 module _ (log : Log) (space : ℕ) (pass : Pass) (kept : IsKept log space) (current : IsCurrent log pass) where
   sizes : HasSizes log.limits log.bodies log.state

@@ -1,5 +1,5 @@
 //! The run so far, and the call that goes on with it.
-ghost use Rattle.std.specs.Prelude.{◌≡◌, None, false, slice_get, IfNone, IfOk, OnErr, OnOk};
+ghost use Rattle.std.specs.Prelude.{◌≡◌, ◌<◌, None, false, length, slice_get, IfNone, IfOk, OnErr, OnOk};
 ghost use Rattle.gmp_seq.specs.Fits.{AreLimits};
 ghost use Rattle.gmp_seq.specs.Machines.{is_parked};
 ghost use Rattle.gmp_seq.specs.Run.{IsLegal};
@@ -79,7 +79,9 @@ impl Ledger {
 
     /// How the run ended, if it did.
     pub fn outcome(&self) -> Option<Outcome>
-        ensures { result ≡ self.now.state.outcome }
+        ensures outcome { result ≡ self.now.state.outcome }
+        // While the run lasts another entry fits.
+        ensures ongoing { IfNone result (length self.now.history < self.now.limits.entries) }
     {
         self.scheduler.outcome()
     }
@@ -232,5 +234,24 @@ impl Ledger {
             Ok(reply) => Ok(reply),
             Err(_) => Err(Refusal::OutOfMemory),
         }
+    }
+
+    /// The limits, what the channels of the opening could hold, and the history.
+    pub fn into_parts(self) -> (Limits, Vec<u32>, Vec<Entry>)
+        ensures limits { result.0 ≡ self.limits }
+        ensures capacities { result.1.items ≡ self.capacities }
+        ensures history { result.2.items ≡ self.history }
+        ensures legal { IsLegal self.limits self.bodies self.capacities self.history self.state }
+        ensures within { AreLimits self.limits self.bodies self.capacities }
+    {
+        let Ledger {
+            run: _,
+            limits,
+            bodies: _,
+            capacities,
+            scheduler: _,
+            entries,
+        } = self;
+        (limits, capacities, entries)
     }
 }

@@ -1,17 +1,28 @@
 //! Blocking calls: a machine that makes one hands its processor on.
 ghost use Rattle.std.specs.Prelude.{◌≡◌, Some, position, IfErr, IfOk, IfSome, OnErr, OnOk};
-ghost use Rattle.gmp_seq.specs.declared.call.Call.{Call};
-ghost use Rattle.gmp_seq.specs.declared.call.Reply.{Reply};
 ghost use Rattle.gmp_seq.specs.declared.status.Status.{Status};
 ghost use Rattle.gmp_seq.specs.Machines.{is_parked};
 ghost use Rattle.gmp_seq.specs.Table.{set_status};
-ghost use Rattle.gmp_book.specs.Log.{Records};
-ghost use Rattle.gmp_book.specs.Refusals.{refusal_of, why_refused, by_called, by_held_and_proc};
+ghost use Rattle.gmp_book.specs.Returns.{woken_in};
+ghost use Rattle.gmp_ledger.specs.Log.{Records};
+ghost use Rattle.gmp_ledger.specs.Handed.{by_called, by_held_and_proc};
+ghost use Rattle.gmp_ledger.specs.Refusals.{refusal_of, why_refused};
 
 use crate::book::Book;
-use crate::ledger::Resumed;
 use crate::returned::Returned;
-use gmp_base::{Called, Held, MNo, Pass, Proc, Refused, Woke};
+use crate::values::Values;
+use gmp_base::{Called, Held, MNo, Pass, Proc, Refused};
+use gmp_seq::{Call, Reply};
+
+/// The machine that an entry into a blocking call woke.
+fn woken_in(reply: Reply) -> Option<MNo>
+    ensures { result ≡ woken_in reply }
+{
+    match reply {
+        Reply::Entered(_, woken) => woken,
+        _ => None,
+    }
+}
 
 impl<T, Q> Book<T, Q> {
     ghost use Rattle.gmp_book.specs.Book.{TakesBackOwner};
@@ -34,20 +45,15 @@ impl<T, Q> Book<T, Q> {
         ensures least { IfOk result (λ x. IfSome x.1 (λ n. position is_parked self.old.log.state.machines.modes ≡ Some n.0)) }
         ensures owner { OnOk result (TakesBackOwner self.old self.new proc) }
     {
-        match self
-            .ledger
-            .try_enter(pass, held.run, held.g, proc.run, proc.p)
-        {
-            Err(why) => Err(Refused {
-                why,
-                back: (held, proc),
-            }),
-            Ok(woken) => {
-                let (run, g, _, own) = held.open();
-                let (_, p, owner) = proc.open();
-                self.owners.put(p.0 as usize, owner);
-                Ok((Called::of(run, g, own), woken))
+        let values = Values::by_held_and_proc(held, proc);
+        let (values, result) = self.call(None, pass, Call::Enter, values, 0);
+        match result {
+            Err(why) => {
+                let (held, proc) = values.into_held_and_proc();
+                let back = (held.unwrap(), proc.unwrap());
+                Err(Refused { why, back })
             }
+            Ok(reply) => Ok((values.into_called().unwrap(), woken_in(reply))),
         }
     }
 
@@ -67,19 +73,22 @@ impl<T, Q> Book<T, Q> {
         ensures resumes { IfOk result (Resumes self.old self.new called number) }
         ensures least { IfOk result (ByLeast self.old.log.state.machines) }
     {
-        match self.ledger.try_leave(pass, called.run, called.g, number) {
-            Err(why) => Err(Refused { why, back: called }),
-            Ok(Resumed::Runs(p)) => {
-                let (run, g, own) = called.open();
-                let owner = self.owners.take(p.0 as usize);
-                let held = Held::of(run, g, Woke::Number(number), own);
-                Ok(Returned::Runs(held, Proc::of(run, p, owner)))
+        let values = Values::by_called(called);
+        let (values, result) = self.call(None, pass, Call::Leave(number), values, 0);
+        match result {
+            Err(why) => {
+                let back = values.into_called().unwrap();
+                Err(Refused { why, back })
             }
-            Ok(Resumed::Shelved(_)) => {
-                let (_, g, own) = called.open();
-                self.bodies.put(g.0 as usize, own);
+            Ok(Reply::Runs(_)) => {
+                let (held, proc) = values.into_held_and_proc();
+                Ok(Returned::Runs(held.unwrap(), proc.unwrap()))
+            }
+            Ok(Reply::Shelved(_)) => {
+                values.into_nothing();
                 Ok(Returned::Shelved)
             }
+            Ok(_) => unreachable!(),
         }
     }
 }

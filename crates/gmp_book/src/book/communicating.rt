@@ -2,16 +2,18 @@
 ghost use Rattle.std.specs.Prelude.{◌≡◌, ◌<◌, ◌≤◌, ◌∷◌, [], None, length, OnOk, OnErr, IfOk, IfErr};
 ghost use Rattle.gmp_base.specs.declared.cases.Case.{Case};
 ghost use Rattle.gmp_base.specs.declared.refusal.Refusal.{Refusal};
-ghost use Rattle.gmp_seq.specs.declared.call.Call.{Call};
 ghost use Rattle.gmp_seq.specs.declared.status.Kind.{Kind};
 ghost use Rattle.gmp_seq.specs.Table.{made_wait};
 ghost use Rattle.gmp_seq.specs.Waits.{offers_of};
-ghost use Rattle.gmp_book.specs.Refusals.{MayWant, refusal_of, why_refused, by_held};
+ghost use Rattle.gmp_ledger.specs.Grants.{WantsMemory};
+ghost use Rattle.gmp_ledger.specs.Handed.{by_held};
+ghost use Rattle.gmp_ledger.specs.Refusals.{Says, refusal_of, why_refused};
 
 use crate::book::Book;
-use crate::replies::closed_in;
-use crate::went::{Moved, Went, handed_back};
+use crate::book::asking::as_handed;
+use crate::went::{Moved, Went, closed_in, handed_back};
 use gmp_base::{CNo, Cases, Held, Pass, Refused};
+use gmp_seq::Call;
 use std::alloc::Global;
 
 impl<T, Q> Book<T, Q> {
@@ -29,7 +31,7 @@ impl<T, Q> Book<T, Q> {
         held: Held<T>,
         capacity: u32,
     ) -> Result<Went<T>, Refused<Held<T>>>
-        ensures refused { MayWant (refusal_of self.old.log pass.old (Call.Make capacity) (by_held held)) (why_refused result) }
+        ensures refused { Says (WantsMemory self.old.log.limits (Call.Make capacity) self.old.log.state) (refusal_of self.old.log pass.old (Call.Make capacity) (by_held held)) (why_refused result) }
         // Memory is wanted for a channel alone.
         ensures needed { IfErr result (λ r. r.why ≡ Refusal.OutOfMemory → (capacity ≤ 4096) × (length self.old.log.state.channels < self.old.log.limits.channels)) }
         ensures back { IfErr result (λ r. r.back ≡ handed_back r.why held) }
@@ -37,10 +39,9 @@ impl<T, Q> Book<T, Q> {
         ensures entry { IfOk result (λ w. Proceeds self.old.log pass.old (Call.Make capacity) held self.new.log pass.new w) }
         ensures values { OnOk result (SameValues self.old self.new) }
     {
-        match self
-            .ledger
-            .try_make(alloc, pass, held.run, held.g, capacity)
-        {
+        let given = as_handed(&held);
+        let call = Call::Make(capacity);
+        match self.ledger.call(Some(alloc), pass, call, &given, 0) {
             Err(why) => Err(Refused {
                 why,
                 back: handed_back(why, held),
@@ -64,10 +65,7 @@ impl<T, Q> Book<T, Q> {
         ensures waits { IfOk result (λ moved. moved ≡ Moved.Waits → self.new.log.state.table ≡ made_wait self.old.log.state.table held.g Kind.Plain (offers_of (Case.Send c v ∷ [])) None) }
         ensures body { IfOk result (MovesBody self.old self.new held) }
     {
-        match self.ledger.try_send(pass, held.run, held.g, c, v) {
-            Err(why) => Err(Refused { why, back: held }),
-            Ok(reply) => Ok(Moved::by(&mut self.bodies, held, reply)),
-        }
+        self.talk(pass, held, Call::Send(c, v), 0)
     }
 
     /// Receives a value, or waits until it can. On nil it waits for ever; a closed channel gives what was sent, and then zeros; a channel
@@ -85,10 +83,7 @@ impl<T, Q> Book<T, Q> {
         ensures waits { IfOk result (λ moved. moved ≡ Moved.Waits → self.new.log.state.table ≡ made_wait self.old.log.state.table held.g Kind.Plain (offers_of (Case.Recv c ∷ [])) None) }
         ensures body { IfOk result (MovesBody self.old self.new held) }
     {
-        match self.ledger.try_recv(pass, held.run, held.g, c) {
-            Err(why) => Err(Refused { why, back: held }),
-            Ok(reply) => Ok(Moved::by(&mut self.bodies, held, reply)),
-        }
+        self.talk(pass, held, Call::Recv(c), 0)
     }
 
     /// Takes one of the cases that can proceed, or else the default, where there is one, or else waits for any of the cases. With no case,
@@ -115,13 +110,8 @@ impl<T, Q> Book<T, Q> {
         ensures waits { IfOk result (λ moved. moved ≡ Moved.Waits → self.new.log.state.table ≡ made_wait self.old.log.state.table held.g Kind.Select (offers_of cases.now) until) }
         ensures body { IfOk result (MovesBody self.old self.new held) }
     {
-        match self
-            .ledger
-            .try_select(pass, held.run, held.g, cases, has_default, until, word)
-        {
-            Err(why) => Err(Refused { why, back: held }),
-            Ok(reply) => Ok(Moved::by(&mut self.bodies, held, reply)),
-        }
+        let call = Call::Select(cases.copied(), has_default, until);
+        self.talk(pass, held, call, word)
     }
 
     /// Closes a channel. All that wait on it go onto the shelf, by the beginnings of their waits; the answer counts them. Nil, a closed
@@ -138,13 +128,8 @@ impl<T, Q> Book<T, Q> {
         ensures entry { IfOk result (λ w. ProceedsBy self.old.log pass.old (Call.Close c) held self.new.log pass.new w.0 w.1) }
         ensures values { OnOk result (SameValues self.old self.new) }
     {
-        match self.ledger.try_close(pass, held.run, held.g, c) {
-            Err(why) => Err(Refused { why, back: held }),
-            Ok(reply) => {
-                let count = closed_in(reply);
-                Ok((Went::by(held, reply), count))
-            }
-        }
+        let (went, reply) = self.proceed(pass, held, Call::Close(c))?;
+        Ok((went, closed_in(reply)))
     }
 
     /// Tells how many values a channel holds, 0 for nil. One that was not made is a fault.
@@ -160,10 +145,8 @@ impl<T, Q> Book<T, Q> {
         ensures entry { IfOk result (λ w. Proceeds self.old.log pass.old (Call.Len c) held self.new.log pass.new w) }
         ensures values { OnOk result (SameValues self.old self.new) }
     {
-        match self.ledger.try_len(pass, held.run, held.g, c) {
-            Err(why) => Err(Refused { why, back: held }),
-            Ok(reply) => Ok(Went::by(held, reply)),
-        }
+        let (went, _) = self.proceed(pass, held, Call::Len(c))?;
+        Ok(went)
     }
 
     /// Tells for how many values a channel has room, 0 for nil. One that was not made is a fault.
@@ -179,9 +162,7 @@ impl<T, Q> Book<T, Q> {
         ensures entry { IfOk result (λ w. Proceeds self.old.log pass.old (Call.Cap c) held self.new.log pass.new w) }
         ensures values { OnOk result (SameValues self.old self.new) }
     {
-        match self.ledger.try_cap(pass, held.run, held.g, c) {
-            Err(why) => Err(Refused { why, back: held }),
-            Ok(reply) => Ok(Went::by(held, reply)),
-        }
+        let (went, _) = self.proceed(pass, held, Call::Cap(c))?;
+        Ok(went)
     }
 }

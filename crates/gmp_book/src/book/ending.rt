@@ -3,7 +3,7 @@ ghost use Rattle.std.specs.Prelude.{◌≡◌, Some, not, slice_set, OnOk, IfOk,
 ghost use Rattle.gmp_base.specs.Values.{readiness_of};
 ghost use Rattle.gmp_seq.specs.Table.{is_outstanding};
 ghost use Rattle.gmp_slots.specs.Slots.{is_vacant};
-ghost use Rattle.gmp_book.specs.Refusals.{first_refusal, why_refused};
+ghost use Rattle.gmp_ledger.specs.Refusals.{first_refusal, why_refused};
 
 use crate::book::Book;
 use crate::report::Report;

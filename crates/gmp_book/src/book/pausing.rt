@@ -1,15 +1,16 @@
 //! What a running goroutine does with time, and with those that are parked.
 ghost use Rattle.std.specs.Prelude.{◌≡◌, [], None, Some, OnOk, OnErr, IfOk, IfErr};
-ghost use Rattle.gmp_seq.specs.declared.call.Call.{Call};
 ghost use Rattle.gmp_seq.specs.declared.call.Reply.{Reply};
 ghost use Rattle.gmp_seq.specs.declared.status.Kind.{Kind};
 ghost use Rattle.gmp_seq.specs.Table.{made_wait};
-ghost use Rattle.gmp_book.specs.Log.{Records};
-ghost use Rattle.gmp_book.specs.Refusals.{refusal_of, why_refused, by_held};
+ghost use Rattle.gmp_ledger.specs.Log.{Records};
+ghost use Rattle.gmp_ledger.specs.Handed.{by_held};
+ghost use Rattle.gmp_ledger.specs.Refusals.{refusal_of, why_refused};
 
 use crate::book::Book;
 use crate::went::Went;
 use gmp_base::{GNo, Held, Pass, Refused};
+use gmp_seq::Call;
 
 impl<T, Q> Book<T, Q> {
     ghost use Rattle.gmp_book.specs.Book.{SameValues, TakesBack};
@@ -30,14 +31,8 @@ impl<T, Q> Book<T, Q> {
         ensures waits { OnOk result (self.new.log.state.table ≡ made_wait self.old.log.state.table held.g Kind.Sleep [] (Some until)) }
         ensures body { OnOk result (TakesBack self.old self.new held) }
     {
-        match self.ledger.try_sleep(pass, held.run, held.g, until) {
-            Err(why) => Err(Refused { why, back: held }),
-            Ok(()) => {
-                let (_, g, _, own) = held.open();
-                self.bodies.put(g.0 as usize, own);
-                Ok(())
-            }
-        }
+        self.rest(pass, held, Call::Sleep(until))?;
+        Ok(())
     }
 
     /// Parks the goroutine that asks: it waits, without a deadline, until another one makes it `ready`. It is told Done then.
@@ -49,14 +44,8 @@ impl<T, Q> Book<T, Q> {
         ensures waits { OnOk result (self.new.log.state.table ≡ made_wait self.old.log.state.table held.g Kind.Parked [] None) }
         ensures body { OnOk result (TakesBack self.old self.new held) }
     {
-        match self.ledger.try_park_g(pass, held.run, held.g) {
-            Err(why) => Err(Refused { why, back: held }),
-            Ok(()) => {
-                let (_, g, _, own) = held.open();
-                self.bodies.put(g.0 as usize, own);
-                Ok(())
-            }
-        }
+        self.rest(pass, held, Call::Gopark)?;
+        Ok(())
     }
 
     /// Makes a goroutine ready that is parked; its ticket is given out. The goroutine that asks goes on: it is told Done, or a fault
@@ -73,9 +62,7 @@ impl<T, Q> Book<T, Q> {
         ensures entry { IfOk result (λ w. Proceeds self.old.log pass.old (Call.Ready g) held self.new.log pass.new w) }
         ensures values { OnOk result (SameValues self.old self.new) }
     {
-        match self.ledger.try_ready(pass, held.run, held.g, g) {
-            Err(why) => Err(Refused { why, back: held }),
-            Ok(reply) => Ok(Went::by(held, reply)),
-        }
+        let (went, _) = self.proceed(pass, held, Call::Ready(g))?;
+        Ok(went)
     }
 }

@@ -1,12 +1,32 @@
-use Rattle.gmp_book.specs.Replies.{left}
-use Rattle.gmp_book.proofs.Placed.{run_vacant, exit_placed}
+use Rattle.std.proofs.Common.{refl, subst}
+use Rattle.gmp_seq.specs.declared.call.Call.TheVariants as call
+use Rattle.gmp_seq.specs.declared.call.Reply.{Reply}
+use Rattle.gmp_ledger.specs.Log.{Records}
+use Rattle.gmp_book.proofs.Telling.{dead_told, main_told}
 use Rattle.gmp_book.proofs.book.Book.exit.Goals as goal
 
-pub put-requires : goal.put-requires
-put-requires g c =
-    let records = c.in-Ok.ensures.records in
-    rw c.open-own.ensures (run_vacant c.self.inside.ledger c.try_exit.new.self c.self.inside.bodies c.self.inside.owners c.self.invariant c.args.held.g c.args.pass.now.m records.step.0 c.in-Ok.ensures.runs)
+pub returns-in-Dead-clause-main : goal.returns-in-Dead-clause-main
+returns-in-Dead-clause-main g c =
+    let k = c.in_ok-rest in
+    let records = subst (λ (r : Reply). Records c.args.self.now.log c.args.pass.now call.Exit r c.rest.new.self.log c.rest.new.pass) c.in-Dead.is k.ensures.records in
+    let told = dead_told c.args.self.now.log c.rest.new.self.log c.args.pass.now c.rest.new.pass k.ensures.order c.args.held.g k.ensures.runs records in
+    (λ e. cc, λ e. absurd (told.0 e))
 
-pub invariant_of-self-in-Ok : goal.invariant_of-self-in-Ok
-invariant_of-self-in-Ok g c =
-    rw (c.put.ensures, c.open-own.ensures) (exit_placed c.self.inside.ledger c.try_exit.new.self c.self.inside.bodies c.self.inside.owners c.self.invariant c.args.held.g c.args.held.body (left c.in-Ok.exited) c.args.pass.now c.try_exit.new.pass c.in-Ok.ensures.records c.in-Ok.ensures.table)
+pub returns-in-Dead-clause-dead : goal.returns-in-Dead-clause-dead
+returns-in-Dead-clause-dead g c =
+    let k = c.in_ok-rest in
+    let records = subst (λ (r : Reply). Records c.args.self.now.log c.args.pass.now call.Exit r c.rest.new.self.log c.rest.new.pass) c.in-Dead.is k.ensures.records in
+    (dead_told c.args.self.now.log c.rest.new.self.log c.args.pass.now c.rest.new.pass k.ensures.order c.args.held.g k.ensures.runs records).1
+
+pub returns-in-MainEnded-clause-main : goal.returns-in-MainEnded-clause-main
+returns-in-MainEnded-clause-main g c =
+    let k = c.in_ok-rest in
+    let records = subst (λ (r : Reply). Records c.args.self.now.log c.args.pass.now call.Exit r c.rest.new.self.log c.rest.new.pass) c.in-MainEnded.is k.ensures.records in
+    let told = main_told c.args.self.now.log c.rest.new.self.log c.args.pass.now c.rest.new.pass k.ensures.order c.args.held.g k.ensures.runs records in
+    (λ e. told.0, λ e. refl)
+
+pub returns-in-MainEnded-clause-dead : goal.returns-in-MainEnded-clause-dead
+returns-in-MainEnded-clause-dead g c =
+    let k = c.in_ok-rest in
+    let records = subst (λ (r : Reply). Records c.args.self.now.log c.args.pass.now call.Exit r c.rest.new.self.log c.rest.new.pass) c.in-MainEnded.is k.ensures.records in
+    (main_told c.args.self.now.log c.rest.new.self.log c.args.pass.now c.rest.new.pass k.ensures.order c.args.held.g k.ensures.runs records).1

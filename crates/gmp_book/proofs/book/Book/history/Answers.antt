@@ -4,7 +4,7 @@ use Rattle.gmp_seq.specs.Laws.{NobodyCouldProceed}
 use Rattle.gmp_seq.specs.Run.{sent, received}
 use Rattle.gmp_seq.proofs.Legal.{legal_order}
 use Rattle.gmp_seq.proofs.Proceed.{legal_nobody}
-use Rattle.gmp_book.specs.Log.{Log}
+use Rattle.gmp_ledger.specs.Log.{Log}
 use Rattle.gmp_book.proofs.book.Book.history.Goals as goal
 
 pub returns-clause-fifo : goal.returns-clause-fifo

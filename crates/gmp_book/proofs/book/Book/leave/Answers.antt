@@ -1,33 +1,36 @@
-use Rattle.std.proofs.Common.{◌≡◌, subst, ap, ◌∙◌}
+use Rattle.std.proofs.Common.{refl, subst}
 use Rattle.gmp_seq.specs.declared.call.Call.TheVariants as call
-use Rattle.gmp_seq.specs.Table.{Table}
-use Rattle.gmp_book.specs.declared.ledger.calling.Resumed.TheVariants as resumes
-use Rattle.gmp_book.specs.Log.{Records}
-use Rattle.gmp_book.specs.Returns.{resumed, table_after}
-use Rattle.gmp_book.proofs.Calls.{call_vacant, leave_filled, runs_placed, shelved_placed}
+use Rattle.gmp_seq.specs.declared.call.Reply.{Reply}
+use Rattle.gmp_ledger.specs.Log.{Records}
+use Rattle.gmp_book.proofs.Telling.{runs_told, shelved_told}
 use Rattle.gmp_book.proofs.book.Book.leave.Goals as goal
 
-pub take-owner-requires : goal.take-owner-requires
-take-owner-requires g c =
-    let k = c.in-Ok-Runs in
-    let records = subst (λ how. Records c.self.inside.ledger c.args.pass.now (call.Leave c.args.number) (resumed how) c.try_leave.new.self c.try_leave.new.pass) k.field-0-is k.ensures.records in
-    leave_filled c.self.inside.ledger c.try_leave.new.self c.self.inside.bodies c.self.inside.owners c.self.invariant k.p c.args.number c.args.pass.now c.try_leave.new.pass records
+pub call-values-requires-clause-suits : goal.call-values-requires-clause-suits
+call-values-requires-clause-suits g c = (c.args.called.run, c.args.called.g, rw c.by_called-values.ensures refl)
 
-pub invariant_of-self-in-Ok-Runs : goal.invariant_of-self-in-Ok-Runs
-invariant_of-self-in-Ok-Runs g c =
-    let k = c.in-Ok-Runs in
-    let records = subst (λ how. Records c.self.inside.ledger c.args.pass.now (call.Leave c.args.number) (resumed how) c.try_leave.new.self c.try_leave.new.pass) k.field-0-is k.ensures.records in
-    let table = k.ensures.table ∙ ap (table_after c.self.inside.ledger.state.table c.args.called.g c.args.pass.now.m c.args.number) k.field-0-is in
-    rw c.take-owner.ensures.slots (runs_placed c.self.inside.ledger c.try_leave.new.self c.self.inside.bodies c.self.inside.owners c.self.invariant k.p c.args.called.g c.args.number c.args.pass.now c.try_leave.new.pass records k.ensures.calls table)
+pub returns-in-Ok-Runs-clause-table : goal.returns-in-Ok-Runs-clause-table
+returns-in-Ok-Runs-clause-table g c =
+    let s = c.in-Ok-Runs in
+    let grants = rw (s.is, c.by_called-values.ensures) at c.call-values.ensures.grants in
+    let order = rw s.is at c.call-values.ensures.order in
+    let told = rw s.is at c.call-values.ensures.records in
+    let records = subst (λ (r : Reply). Records c.args.self.now.log c.args.pass.now (call.Leave c.args.number) r c.call-values.new.self.log c.call-values.new.pass) (rw s.is at s.field-0-is) told in
+    runs_told c.args.self.now.log c.call-values.new.self.log c.args.pass.now c.call-values.new.pass order c.args.called.g grants.0 c.args.number _ records
 
-pub put-requires : goal.put-requires
-put-requires g c =
-    let k = c.in-Ok-Shelved in
-    rw c.open-own.ensures (call_vacant c.self.inside.ledger c.self.inside.bodies c.self.inside.owners c.self.invariant c.args.called.g c.args.pass.now.m k.ensures.records.step.0 k.ensures.calls)
+pub returns-in-Ok-Shelved-clause-entry : goal.returns-in-Ok-Shelved-clause-entry
+returns-in-Ok-Shelved-clause-entry g c =
+    let s = c.in-Ok-Shelved in
+    let grants = rw (s.is, c.by_called-values.ensures) at c.call-values.ensures.grants in
+    let order = rw s.is at c.call-values.ensures.order in
+    let told = rw s.is at c.call-values.ensures.records in
+    let records = subst (λ (r : Reply). Records c.args.self.now.log c.args.pass.now (call.Leave c.args.number) r c.call-values.new.self.log c.call-values.new.pass) (rw s.is at s.field-0-is) told in
+    (shelved_told c.args.self.now.log c.call-values.new.self.log c.args.pass.now c.call-values.new.pass order c.args.called.g grants.0 c.args.number _ records).0
 
-pub invariant_of-self-in-Ok-Shelved : goal.invariant_of-self-in-Ok-Shelved
-invariant_of-self-in-Ok-Shelved g c =
-    let k = c.in-Ok-Shelved in
-    let records = subst (λ how. Records c.self.inside.ledger c.args.pass.now (call.Leave c.args.number) (resumed how) c.try_leave.new.self c.try_leave.new.pass) k.field-0-is k.ensures.records in
-    let table = k.ensures.table ∙ ap (table_after c.self.inside.ledger.state.table c.args.called.g c.args.pass.now.m c.args.number) k.field-0-is in
-    rw (c.put.ensures, c.open-own.ensures) (shelved_placed c.self.inside.ledger c.try_leave.new.self c.self.inside.bodies c.self.inside.owners c.self.invariant k.field-0-0 c.args.called.g c.args.called.body c.args.number c.args.pass.now c.try_leave.new.pass records table)
+pub returns-in-Ok-Shelved-clause-table : goal.returns-in-Ok-Shelved-clause-table
+returns-in-Ok-Shelved-clause-table g c =
+    let s = c.in-Ok-Shelved in
+    let grants = rw (s.is, c.by_called-values.ensures) at c.call-values.ensures.grants in
+    let order = rw s.is at c.call-values.ensures.order in
+    let told = rw s.is at c.call-values.ensures.records in
+    let records = subst (λ (r : Reply). Records c.args.self.now.log c.args.pass.now (call.Leave c.args.number) r c.call-values.new.self.log c.call-values.new.pass) (rw s.is at s.field-0-is) told in
+    (shelved_told c.args.self.now.log c.call-values.new.self.log c.args.pass.now c.call-values.new.pass order c.args.called.g grants.0 c.args.number _ records).1

@@ -1,13 +1,22 @@
-use Rattle.std.proofs.Common.{ap}
-use Rattle.gmp_book.proofs.Answered.{asleep_told, minds_told}
+use Rattle.std.proofs.Common.{subst}
+use Rattle.gmp_seq.specs.declared.call.Call.TheVariants as call
+use Rattle.gmp_seq.specs.declared.call.Reply.{Reply}
+use Rattle.gmp_ledger.specs.Log.{Records}
+use Rattle.gmp_book.specs.declared.answers.Parking.TheVariants as parks
+use Rattle.gmp_book.proofs.Resting.{asleep_is, minds_is}
 use Rattle.gmp_book.proofs.book.Book.park.Goals as goal
 
-pub returns-clause-asleep : goal.returns-clause-asleep
-returns-clause-asleep g c =
-    asleep_told c.try_park.result c.self.inside.ledger c.args.self.now.log c.try_park.new.self c.args.pass.now c.try_park.new.pass (ap (λ v. v.log) c.self.view_is)
-    c.try_park.ensures.records
+pub returns-in-Work-clause-asleep : goal.returns-in-Work-clause-asleep
+returns-in-Work-clause-asleep g c =
+    asleep_is c.args.self.now.log c.note.new.self.log c.args.pass.now c.note.new.pass parks.Work
+    (subst (λ (r : Reply). Records c.args.self.now.log c.args.pass.now call.Park r c.note.new.self.log c.note.new.pass) c.in-Work.is c.in_ok-note.ensures.records)
 
-pub returns-clause-minds : goal.returns-clause-minds
-returns-clause-minds g c =
-    minds_told c.try_park.result c.self.inside.ledger c.args.self.now.log c.try_park.new.self c.args.pass.now c.try_park.new.pass (ap (λ v. v.log) c.self.view_is)
-    c.try_park.ensures.records
+pub returns-in-Work-clause-minds : goal.returns-in-Work-clause-minds
+returns-in-Work-clause-minds g c =
+    minds_is c.args.self.now.log c.note.new.self.log c.args.pass.now c.note.new.pass parks.Work
+    (subst (λ (r : Reply). Records c.args.self.now.log c.args.pass.now call.Park r c.note.new.self.log c.note.new.pass) c.in-Work.is c.in_ok-note.ensures.records)
+
+pub returns-in-AllAsleep-clause-minds : goal.returns-in-AllAsleep-clause-minds
+returns-in-AllAsleep-clause-minds g c =
+    minds_is c.args.self.now.log c.note.new.self.log c.args.pass.now c.note.new.pass parks.AllAsleep
+    (subst (λ (r : Reply). Records c.args.self.now.log c.args.pass.now call.Park r c.note.new.self.log c.note.new.pass) c.in-AllAsleep.is c.in_ok-note.ensures.records)

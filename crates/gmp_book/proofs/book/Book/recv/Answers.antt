@@ -1,12 +1,6 @@
-use Rattle.gmp_book.proofs.Placed.{run_vacant}
-use Rattle.gmp_book.proofs.Talking.{receive_placed}
+use Rattle.gmp_book.proofs.Telling.{recv_waits}
 use Rattle.gmp_book.proofs.book.Book.recv.Goals as goal
 
-pub by-requires : goal.by-requires
-by-requires g c = λ waits.
-    run_vacant c.self.inside.ledger c.try_recv.new.self c.self.inside.bodies c.self.inside.owners c.self.invariant c.args.held.g c.args.pass.now.m c.in-Ok.ensures.records.step.0 c.in-Ok.ensures.runs
-
-pub invariant_of-self-in-Ok : goal.invariant_of-self-in-Ok
-invariant_of-self-in-Ok g c =
-    rw c.by.ensures.bodies
-    (receive_placed c.self.inside.ledger c.try_recv.new.self c.self.inside.bodies c.self.inside.owners c.self.invariant c.args.c c.in-Ok.reply c.args.held _ c.args.pass.now c.try_recv.new.pass c.in-Ok.ensures.records c.in-Ok.ensures.waits)
+pub returns-clause-waits : goal.returns-clause-waits
+returns-clause-waits g c =
+    recv_waits c.args.self.now.log c.talk.new.self.log c.args.pass.now c.talk.new.pass c.args.held c.args.c _ c.talk.result c.talk.ensures.order c.talk.ensures.runs c.talk.ensures.talks

@@ -1,12 +1,12 @@
-use Rattle.gmp_base.specs.declared.ask.Woke.TheVariants as woke
-use Rattle.gmp_book.proofs.Placed.{run_vacant, yield_placed}
+use Rattle.gmp_book.proofs.Telling.{yield_told}
 use Rattle.gmp_book.proofs.book.Book.yield_to.Goals as goal
 
-pub put-requires : goal.put-requires
-put-requires g c =
-    let records = c.in-Ok.ensures.records in
-    rw c.open-own.ensures (run_vacant c.self.inside.ledger c.try_yield.new.self c.self.inside.bodies c.self.inside.owners c.self.invariant c.args.held.g c.args.pass.now.m records.step.0 c.in-Ok.ensures.runs)
+pub returns-clause-entry : goal.returns-clause-entry
+returns-clause-entry g c =
+    let k = c.in_ok-rest in
+    (yield_told c.args.self.now.log c.rest.new.self.log c.args.pass.now c.rest.new.pass k.ensures.order c.args.held.g k.ensures.runs k.field-0 k.ensures.records).0
 
-pub invariant_of-self-in-Ok : goal.invariant_of-self-in-Ok
-invariant_of-self-in-Ok g c =
-    rw (c.put.ensures, c.open-own.ensures) (yield_placed c.self.inside.ledger c.try_yield.new.self c.self.inside.bodies c.self.inside.owners c.self.invariant c.args.held.g c.args.held.body woke.Done c.in-Ok.field-0 c.args.pass.now c.try_yield.new.pass c.in-Ok.ensures.records c.in-Ok.ensures.table)
+pub returns-clause-ready : goal.returns-clause-ready
+returns-clause-ready g c =
+    let k = c.in_ok-rest in
+    (yield_told c.args.self.now.log c.rest.new.self.log c.args.pass.now c.rest.new.pass k.ensures.order c.args.held.g k.ensures.runs k.field-0 k.ensures.records).1

@@ -1,0 +1,260 @@
+-- What a call does with the values that it is handed: one relation for all calls.
+use Rattle.std.specs.Prelude.{◌≡◌, ℕ, Bool, true, false, not, ◌&&◌, Option, None, Some, List, [], ◌∷◌, ◌++◌, slice_get, slice_set, unwrap_or}
+use Rattle.std.specs.Option.{option_map, option_map_or}
+use Rattle.gmp_base.specs.declared.ask.Woke.{Woke}
+use Rattle.gmp_base.specs.declared.ask.Woke.TheVariants as woke
+use Rattle.gmp_base.specs.declared.number.GNo.{GNo}
+use Rattle.gmp_base.specs.declared.number.PNo.{PNo}
+use Rattle.gmp_base.specs.declared.number.Readiness.{Readiness}
+use Rattle.gmp_base.specs.declared.refusal.Refusal.{Refusal}
+use Rattle.gmp_base.specs.declared.refusal.Refusal.TheVariants.{OutOfMemory}
+use Rattle.gmp_base.specs.declared.value.Called.{Called}
+use Rattle.gmp_base.specs.declared.value.Held.{Held}
+use Rattle.gmp_base.specs.declared.value.Proc.{Proc}
+use Rattle.gmp_base.specs.declared.value.Ticket.{Ticket}
+use Rattle.gmp_base.specs.Values.{readiness_of}
+use Rattle.gmp_seq.specs.declared.call.Call.{Call}
+use Rattle.gmp_seq.specs.declared.call.Call.TheVariants as call
+use Rattle.gmp_seq.specs.declared.call.Relay.{Relay}
+use Rattle.gmp_seq.specs.declared.call.Reply.{Reply}
+use Rattle.gmp_seq.specs.declared.call.Reply.TheVariants as reply
+use Rattle.gmp_seq.specs.declared.call.Taken.{Taken}
+use Rattle.gmp_seq.specs.declared.call.Taken.TheVariants as taken
+use Rattle.gmp_seq.specs.Step.{woke_after}
+use Rattle.gmp_slots.specs.Slots.{is_filled, is_vacant}
+use Rattle.gmp_ledger.specs.declared.handed.Handed.{Handed}
+use Rattle.gmp_ledger.specs.Known.{known_by}
+use Rattle.gmp_book.specs.declared.values.Values.{Values}
+use Rattle.gmp_book.specs.declared.values.Way.{Way}
+use Rattle.gmp_book.specs.declared.values.Way.TheVariants.{Stays, Home, Out, Calls, Returns}
+use Rattle.gmp_book.specs.Book.{Contents}
+
+
+-- What a call is handed and may give, by the call alone
+
+-- it is handed a goroutine that runs
+abbrev pub hands_held : Call → Bool
+hands_held call.Acquire = false
+hands_held call.Take = false
+hands_held (call.Put r) = false
+hands_held (call.Claim r) = false
+hands_held (call.Leave number) = false
+hands_held call.Spin = false
+hands_held call.Woken = false
+hands_held call.Unspin = false
+hands_held call.Poke = false
+hands_held call.Declare = false
+hands_held call.Bare = false
+hands_held call.Park = false
+hands_held (call.Tick moment) = false
+hands_held _ = true
+
+-- it is handed a goroutine that makes a blocking call
+abbrev pub hands_called : Call → Bool
+hands_called (call.Leave number) = true
+hands_called _ = false
+
+-- it is handed a processor
+abbrev pub hands_proc : Call → Bool
+hands_proc call.Enter = true
+hands_proc call.Declare = true
+hands_proc _ = false
+
+-- it is handed a goroutine that runs, and nothing else
+abbrev pub is_own : Call → Bool
+is_own c = hands_held c && not (hands_proc c)
+
+-- it may give out a processor
+abbrev pub gives_proc : Call → Bool
+gives_proc call.Acquire = true
+gives_proc (call.Leave number) = true
+gives_proc _ = false
+
+-- it gives out a body
+abbrev pub gives_body : Call → Bool
+gives_body (call.Claim r) = true
+gives_body _ = false
+
+-- its goroutine always goes back into the book
+abbrev pub rests : Call → Bool
+rests call.Yield = true
+rests call.Exit = true
+rests (call.Sleep until) = true
+rests call.Gopark = true
+rests _ = false
+
+-- its goroutine goes on, or waits
+abbrev pub may_wait : Call → Bool
+may_wait (call.Send c v) = true
+may_wait (call.Recv c) = true
+may_wait (call.Select cases has_default until) = true
+may_wait _ = false
+
+-- its goroutine goes on
+abbrev pub goes_on : Call → Bool
+goes_on (call.Go body) = true
+goes_on (call.Make capacity) = true
+goes_on (call.Close c) = true
+goes_on (call.Len c) = true
+goes_on (call.Cap c) = true
+goes_on (call.Ready g) = true
+goes_on _ = false
+
+-- no body and no owner moves
+abbrev pub moves_nothing : Call → Bool
+moves_nothing call.Take = true
+moves_nothing (call.Put r) = true
+moves_nothing call.Spin = true
+moves_nothing call.Woken = true
+moves_nothing call.Unspin = true
+moves_nothing call.Poke = true
+moves_nothing call.Bare = true
+moves_nothing call.Park = true
+moves_nothing (call.Tick moment) = true
+moves_nothing _ = false
+
+-- What the values are of
+
+abbrev pub handed_of : {T Q : Type 0} → Values T Q → Handed
+handed_of {T} {Q} v = record {
+  ticket = option_map (λ (t : Ticket). (t.run, readiness_of t)) v.ticket;
+  held = option_map (λ (h : Held T). (h.run, h.g)) v.held;
+  called = option_map (λ (c : Called T). (c.run, c.g)) v.called;
+  proc = option_map (λ (x : Proc Q). (x.run, x.p)) v.proc;
+}
+
+-- What is handed out
+
+-- the sender that a receive served
+abbrev pub sender_in : Option Relay → Option Readiness
+sender_in from = option_map (λ (x : Relay). x.sender) from
+
+-- the ticket that a communication of a select gives out
+abbrev pub ticket_of : Taken → Option Readiness
+ticket_of (taken.Sent to) = to
+ticket_of (taken.Got v sent from) = sender_in from
+ticket_of taken.Failed = None
+
+-- the ticket that a reply gives out
+abbrev pub ticket_in : Reply → Option Readiness
+ticket_in (reply.Ticket r) = Some r
+ticket_in (reply.Sent to) = to
+ticket_in (reply.Got v sent from) = sender_in from
+ticket_in (reply.Chose i how) = ticket_of how
+ticket_in _ = None
+
+abbrev pub ticket_by : ℕ → Readiness → Ticket
+ticket_by run r = record { run = run; g = r.g; epoch = r.epoch }
+
+-- Bodies
+
+-- where the body goes by a reply
+abbrev pub way_of : Reply → Way
+way_of reply.Held = Out
+way_of (reply.Shelved r) = Home
+way_of reply.Waits = Home
+way_of reply.Dead = Home
+way_of reply.MainEnded = Home
+way_of (reply.Entered p woken) = Calls
+way_of (reply.Runs p) = Returns
+way_of _ = Stays
+
+-- the goroutine that a claim is of
+abbrev pub claimed : Call → GNo
+claimed (call.Claim r) = r.g
+claimed _ = record { 0 = 0 }
+
+-- what the goroutine is told that goes on by the reply
+abbrev pub told_by : Option Woke → Reply → Woke
+told_by known answer = unwrap_or known (woke_after answer)
+
+-- the bodies once the one that is handed in is in its place
+abbrev pub with_home : {T : Type 0} → Option (Held T) → Option (Called T) → List (Option T) → List (Option T)
+with_home (Some h) called bodies = slice_set bodies h.g.0 (Some h.body)
+with_home None (Some c) bodies = slice_set bodies c.g.0 (Some c.body)
+with_home None None bodies = bodies
+
+-- the body goes this way: the bodies in the book, what is handed in, and what is handed out
+abbrev pub HandsBody : {T : Type 0} → Way → ℕ → GNo → Woke → Option (Held T) → Option (Called T) → Option (Held T) → Option (Called T) → List (Option T) → List (Option T) → Type 0
+HandsBody {T} Stays run g told held called held' called' old new = (held' ≡ option_map (λ (h : Held T). record h { woke = told }) held) × (called' ≡ called) × (new ≡ old)
+HandsBody {T} Home run g told held called held' called' old new = (held' ≡ None) × (called' ≡ None) × (new ≡ with_home held called old)
+HandsBody {T} Out run g told held called held' called' old new =
+    (body : T) × (held' ≡ Some (record { run = run; g = g; woke = told; body = body })) × (called' ≡ called) × (slice_get old g.0 ≡ Some (Some body)) × (new ≡ slice_set old g.0 None)
+HandsBody {T} Calls run g told held called held' called' old new =
+    (held' ≡ None) × (called' ≡ option_map (λ (h : Held T). let c : Called T = record { run = h.run; g = h.g; body = h.body } in c) held) × (new ≡ old)
+HandsBody {T} Returns run g told held called held' called' old new =
+    (held' ≡ option_map (λ (c : Called T). let h : Held T = record { run = c.run; g = c.g; woke = told; body = c.body } in h) called) × (called' ≡ None) × (new ≡ old)
+
+-- its place is vacant
+abbrev pub FitsHome : {T : Type 0} → Option (Held T) → Option (Called T) → List (Option T) → Type 0
+FitsHome (Some h) None bodies = is_vacant bodies h.g.0 ≡ true
+FitsHome (Some h) (Some c) bodies = ⊥
+FitsHome None (Some c) bodies = is_vacant bodies c.g.0 ≡ true
+FitsHome None None bodies = Unit {0}
+
+-- what is handed in can go that way
+abbrev pub FitsBody : {T : Type 0} → Way → GNo → Option (Held T) → Option (Called T) → List (Option T) → Type 0
+FitsBody Stays g held called bodies = Unit {0}
+FitsBody Home g held called bodies = FitsHome held called bodies
+FitsBody Out g held called bodies = (held ≡ None) × (is_filled bodies g.0 ≡ true)
+FitsBody Calls g held called bodies = called ≡ None
+FitsBody Returns g held called bodies = held ≡ None
+
+-- Owners
+
+-- the processor's owner comes out of its place
+abbrev pub HandsOutOwner : {Q : Type 0} → PNo → ℕ → Option (Proc Q) → List (Option Q) → List (Option Q) → Type 0
+HandsOutOwner {Q} p run back old new =
+    (owner : Q) × (back ≡ Some (record { run = run; p = p; owner = owner })) × (slice_get old p.0 ≡ Some (Some owner)) × (new ≡ slice_set old p.0 None)
+
+-- the owners once the one that is handed in is in its place
+abbrev pub with_owner : {Q : Type 0} → Option (Proc Q) → List (Option Q) → List (Option Q)
+with_owner (Some x) owners = slice_set owners x.p.0 (Some x.owner)
+with_owner None owners = owners
+
+-- the owner goes as the reply says
+abbrev pub HandsOwner : {Q : Type 0} → Reply → ℕ → Option (Proc Q) → Option (Proc Q) → List (Option Q) → List (Option Q) → Type 0
+HandsOwner (reply.Proc p) run given back old new = HandsOutOwner p run back old new
+HandsOwner (reply.Runs p) run given back old new = HandsOutOwner p run back old new
+HandsOwner (reply.Entered p woken) run given back old new = (back ≡ None) × (new ≡ with_owner given old)
+HandsOwner (reply.Idle p) run given back old new = (back ≡ None) × (new ≡ with_owner given old)
+HandsOwner _ run given back old new = (back ≡ given) × (new ≡ old)
+
+-- its place is vacant
+abbrev pub FitsPlace : {Q : Type 0} → Option (Proc Q) → List (Option Q) → Type 0
+FitsPlace None owners = Unit {0}
+FitsPlace (Some x) owners = is_vacant owners x.p.0 ≡ true
+
+abbrev pub FitsOwner : {Q : Type 0} → Reply → Option (Proc Q) → List (Option Q) → Type 0
+FitsOwner (reply.Proc p) given owners = (given ≡ None) × (is_filled owners p.0 ≡ true)
+FitsOwner (reply.Runs p) given owners = (given ≡ None) × (is_filled owners p.0 ≡ true)
+FitsOwner (reply.Entered p woken) given owners = FitsPlace given owners
+FitsOwner (reply.Idle p) given owners = FitsPlace given owners
+FitsOwner _ given owners = Unit {0}
+
+-- Refused
+
+-- what comes back of a make that was refused: where it wanted memory, its goroutine is told so
+abbrev pub handed_back : {T : Type 0} → Refusal → Held T → Held T
+handed_back OutOfMemory held = record held { woke = woke.NoMemory }
+handed_back _ held = held
+
+abbrev pub is_make : Call → Bool
+is_make (call.Make capacity) = true
+is_make _ = false
+
+abbrev pub back_where : {T Q : Type 0} → Bool → Refusal → Values T Q → Values T Q
+back_where true why v = record v { held = option_map (handed_back why) v.held }
+back_where false why v = v
+
+-- the values come back as they were, but for the goroutine of a make
+abbrev pub values_back : {T Q : Type 0} → Call → Refusal → Values T Q → Values T Q
+values_back c why v = back_where (is_make c) why v
+
+-- Together
+
+-- What an accepted call does with the values that it is handed, those that it hands out, and those in the book.
+pub record Hands {T Q : Type 0} (asked : Call) (answer : Reply) (given back : Values T Q) (old now : Contents T Q) : Type 0 where
+  pub ticket : back.ticket ≡ option_map (ticket_by old.log.run) (ticket_in answer)
+  pub body : HandsBody (way_of answer) old.log.run (claimed asked) (told_by (known_by asked old.log.state.table) answer) given.held given.called back.held back.called old.bodies now.bodies
+  pub owner : HandsOwner answer old.log.run given.proc back.proc old.owners now.owners

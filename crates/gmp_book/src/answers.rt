@@ -1,0 +1,22 @@
+//! What becomes of who exits or parks.
+
+/// What became of a goroutine that exits.
+#[derive(Clone, Copy, Debug, PartialEq, Eq)]
+pub enum Exited {
+    Dead,
+    /// It was goroutine 0, whose exit ends the run.
+    MainEnded,
+}
+
+/// What a machine is answered that has nothing to do.
+#[derive(Clone, Copy, Debug, PartialEq, Eq)]
+pub enum Parking {
+    /// It is parked, until it is woken.
+    Parked,
+    /// There is a goroutine on the shelf and an idle processor.
+    Work,
+    /// The least deadline, in nanoseconds: one stands, and nobody is ready or running.
+    Mind(u64),
+    /// Nobody can ever go on, and the run is over.
+    AllAsleep,
+}
