@@ -65,7 +65,11 @@ own call.Bare e = absurd (false≢true e)
 own call.Park e = absurd (false≢true e)
 own (call.Tick moment) e = absurd (false≢true e)
 own _ e = record {
-  held = refl; called = refl; proc = refl; body_out = refl; proc_out = refl;
+  held = refl;
+  called = refl;
+  proc = refl;
+  body_out = refl;
+  proc_out = refl;
   suits = λ run g. (run, g, refl);
   runs = λ m g p s grants. grants;
 }

@@ -111,10 +111,10 @@ module _ (old now : Log) (before after : Pass) (order : IsInOrder old.limits old
         subst (λ (a : Reply). Records old before call.Enter a now after) (entered answer h.2.1) records,
         h.2.0 ∙ ap (λ (k : GNo). set_status old.state.table k (status.Calling before.m)) (same h.0 h.1),
       ) where
-    entered : (a : Reply) → Enters before.m a old.state.machines now.state.machines → a ≡ reply.Entered p (woken_in a)
-    entered (reply.Entered q None) e = ap (λ (k : PNo). reply.Entered k None) (order.one_processor before.m q p e.0 holds)
-    entered (reply.Entered q (Some n)) e = ap (λ (k : PNo). reply.Entered k (Some n)) (order.one_processor before.m q p e.0 holds)
-    entered _ e = absurd e
+        entered : (a : Reply) → Enters before.m a old.state.machines now.state.machines → a ≡ reply.Entered p (woken_in a)
+        entered (reply.Entered q None) e = ap (λ (k : PNo). reply.Entered k None) (order.one_processor before.m q p e.0 holds)
+        entered (reply.Entered q (Some n)) e = ap (λ (k : PNo). reply.Entered k (Some n)) (order.one_processor before.m q p e.0 holds)
+        entered _ e = absurd e
 
   pub send_told : {T : Type 0} (c : Option CNo) (v : ℕ) (word : ℕ) (held : Held T) (how : Moved T) → Talks old before (call.Send c v) word held now after how → how ≡ moved.Waits
       → now.state.table ≡ made_wait old.state.table g kind.Plain (offers_of (case.Send c v ∷ [])) None

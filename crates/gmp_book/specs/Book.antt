@@ -20,7 +20,7 @@ use Rattle.gmp_ledger.specs.Log.{Log, opening_log}
 use Rattle.gmp_ledger.specs.Refusals.{Line, line}
 
 -- the run, and the bodies and owners that are in the book
-pub record Contents (T Q : Type 0) : Type 0 where
+pub record BookContents (T Q : Type 0) : Type 0 where
   pub log : Log
   pub bodies : List (Option T)
   pub owners : List (Option Q)
@@ -42,7 +42,7 @@ abbrev pub OwnersIn : {Q : Type 0} → Machines → List (Option Q) → Type 0
 OwnersIn w owners = map is_some owners ≡ map is_none w.holders
 
 -- a place for each body and owner; while the run lasts the empty ones are those of what is held
-pub record IsBook {T Q : Type 0} (book : Contents T Q) : Type 0 where
+pub record IsBook {T Q : Type 0} (book : BookContents T Q) : Type 0 where
   pub bodies_count : length book.bodies ≡ book.log.bodies
   pub owners_count : length book.owners ≡ book.log.limits.procs
   pub bodies : book.log.state.outcome ≡ None → BodiesIn book.log.state.table book.bodies
@@ -51,31 +51,31 @@ pub record IsBook {T Q : Type 0} (book : Contents T Q) : Type 0 where
 -- What a call does with bodies and owners
 
 -- they stay
-pub record SameValues {T Q : Type 0} (old now : Contents T Q) : Type 0 where
+pub record SameValues {T Q : Type 0} (old now : BookContents T Q) : Type 0 where
   pub bodies : now.bodies ≡ old.bodies
   pub owners : now.owners ≡ old.owners
 
 -- held has the body of its goroutine, out of its place
-pub record HandsOut {T Q : Type 0} (old now : Contents T Q) (held : Held T) : Type 0 where
+pub record HandsOut {T Q : Type 0} (old now : BookContents T Q) (held : Held T) : Type 0 where
   pub run : held.run ≡ old.log.run
   pub body : slice_get old.bodies held.g.0 ≡ Some (Some held.body)
   pub bodies : now.bodies ≡ slice_set old.bodies held.g.0 None
   pub owners : now.owners ≡ old.owners
 
 -- the body of held is back in its place
-pub record TakesBack {T Q : Type 0} (old now : Contents T Q) (held : Held T) : Type 0 where
+pub record TakesBack {T Q : Type 0} (old now : BookContents T Q) (held : Held T) : Type 0 where
   pub bodies : now.bodies ≡ slice_set old.bodies held.g.0 (Some held.body)
   pub owners : now.owners ≡ old.owners
 
 -- proc has the owner of its processor, out of its place
-pub record HandsOutOwner {T Q : Type 0} (old now : Contents T Q) (proc : Proc Q) : Type 0 where
+pub record HandsOutOwner {T Q : Type 0} (old now : BookContents T Q) (proc : Proc Q) : Type 0 where
   pub run : proc.run ≡ old.log.run
   pub owner : slice_get old.owners proc.p.0 ≡ Some (Some proc.owner)
   pub owners : now.owners ≡ slice_set old.owners proc.p.0 None
   pub bodies : now.bodies ≡ old.bodies
 
 -- the owner of proc is back in its place
-pub record TakesBackOwner {T Q : Type 0} (old now : Contents T Q) (proc : Proc Q) : Type 0 where
+pub record TakesBackOwner {T Q : Type 0} (old now : BookContents T Q) (proc : Proc Q) : Type 0 where
   pub owners : now.owners ≡ slice_set old.owners proc.p.0 (Some proc.owner)
   pub bodies : now.bodies ≡ old.bodies
 
@@ -92,7 +92,7 @@ WhyUnopened may OutOfMemory = may
 WhyUnopened may _ = ⊥
 
 -- no call was made, and all bodies and owners are in
-abbrev pub opening_book : {T Q : Type 0} → ℕ → Limits → List ℕ → List T → List Q → Contents T Q
+abbrev pub opening_book : {T Q : Type 0} → ℕ → Limits → List ℕ → List T → List Q → BookContents T Q
 opening_book run limits capacities bodies owners = record {
   log = opening_log run limits (length bodies) capacities;
   bodies = map Some bodies;
@@ -114,14 +114,14 @@ surrender_lines log run astray why =
     ∷ []
 
 -- when a report is refused: the run lasts, or a body or an owner is out
-abbrev pub report_lines : {T Q : Type 0} → Contents T Q → List Line
+abbrev pub report_lines : {T Q : Type 0} → BookContents T Q → List Line
 report_lines book =
     line (is_none book.log.state.outcome) NotOver
     ∷ line (not (all_filled book.bodies && all_filled book.owners)) Busy
     ∷ []
 
 -- the report tells the run, whose history is legal, and has all bodies and owners in order
-pub record IsReport {T Q : Type 0} (book : Contents T Q) (report : Report T Q) : Type 0 where
+pub record IsReport {T Q : Type 0} (book : BookContents T Q) (report : Report T Q) : Type 0 where
   pub limits : report.limits ≡ book.log.limits
   pub capacities : report.capacities.items ≡ book.log.capacities
   pub history : report.history.items ≡ book.log.history

@@ -27,8 +27,7 @@ use Rattle.gmp_ledger.specs.Known.{known_by}
 use Rattle.gmp_book.specs.declared.values.Values.{Values}
 use Rattle.gmp_book.specs.declared.values.Way.{Way}
 use Rattle.gmp_book.specs.declared.values.Way.TheVariants.{Stays, Home, Out, Calls, Returns}
-use Rattle.gmp_book.specs.Book.{Contents}
-
+use Rattle.gmp_book.specs.Book.{BookContents}
 
 -- What a call is handed and may give, by the call alone
 
@@ -254,7 +253,7 @@ values_back c why v = back_where (is_make c) why v
 -- Together
 
 -- What an accepted call does with the values that it is handed, those that it hands out, and those in the book.
-pub record Hands {T Q : Type 0} (asked : Call) (answer : Reply) (given back : Values T Q) (old now : Contents T Q) : Type 0 where
+pub record Hands {T Q : Type 0} (asked : Call) (answer : Reply) (given back : Values T Q) (old now : BookContents T Q) : Type 0 where
   pub ticket : back.ticket ≡ option_map (ticket_by old.log.run) (ticket_in answer)
   pub body : HandsBody (way_of answer) old.log.run (claimed asked) (told_by (known_by asked old.log.state.table) answer) given.held given.called back.held back.called old.bodies now.bodies
   pub owner : HandsOwner answer old.log.run given.proc back.proc old.owners now.owners

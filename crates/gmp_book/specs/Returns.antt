@@ -13,7 +13,7 @@ use Rattle.gmp_seq.specs.Machines.{Machines, some_idle}
 use Rattle.gmp_seq.specs.Table.{Table, made_ready, next_of, set_status}
 use Rattle.gmp_book.specs.declared.returned.Returned.{Returned}
 use Rattle.gmp_book.specs.declared.returned.Returned.TheVariants.{Runs, Shelved}
-use Rattle.gmp_book.specs.Book.{Contents, HandsOutOwner}
+use Rattle.gmp_book.specs.Book.{BookContents, HandsOutOwner}
 
 -- What a caller is answered
 
@@ -28,16 +28,16 @@ table_by t g m number (Runs held proc) = set_status t g (Running m)
 table_by t g m number Shelved = made_ready t g Shelf (woke.Number number)
 
 -- the body of called is back in its place
-pub record TakesBackCalled {T Q : Type 0} (old now : Contents T Q) (called : Called T) : Type 0 where
+pub record TakesBackCalled {T Q : Type 0} (old now : BookContents T Q) (called : Called T) : Type 0 where
   pub bodies : now.bodies ≡ slice_set old.bodies called.g.0 (Some called.body)
   pub owners : now.owners ≡ old.owners
 
 -- The goroutine runs on with its body and is told the number, and the owner of its processor is handed out; or its body is back in its
 -- place.
-abbrev pub Resumes : {T Q : Type 0} → Contents T Q → Contents T Q → Called T → ℕ → Returned T Q → Type 0
-Resumes old now called number (Runs held proc) =
+abbrev pub ComesBack : {T Q : Type 0} → BookContents T Q → BookContents T Q → Called T → ℕ → Returned T Q → Type 0
+ComesBack old now called number (Runs held proc) =
     (held ≡ record { run = called.run; g = called.g; woke = woke.Number number; body = called.body }) × HandsOutOwner old now proc
-Resumes old now called number Shelved = TakesBackCalled old now called
+ComesBack old now called number Shelved = TakesBackCalled old now called
 
 -- it runs on exactly where a processor was idle, with the least of these
 abbrev pub ByLeast : {T Q : Type 0} → Machines → Returned T Q → Type 0

@@ -14,7 +14,7 @@ use Rattle.gmp_seq.specs.Step.{woke_after}
 use Rattle.gmp_book.specs.declared.went.Moved.{Moved}
 use Rattle.gmp_book.specs.declared.went.Moved.TheVariants.{On, Waits}
 use Rattle.gmp_book.specs.declared.went.Went.{Went}
-use Rattle.gmp_book.specs.Book.{Contents, SameValues, TakesBack}
+use Rattle.gmp_book.specs.Book.{BookContents, SameValues, TakesBack}
 use Rattle.gmp_goroutines.specs.Choice.{IsChoice}
 use Rattle.gmp_ledger.specs.Grants.{Chooses}
 use Rattle.gmp_ledger.specs.Log.{Log, Records}
@@ -56,7 +56,7 @@ GoesBy answer held (On w) = (goes_home answer ≡ false) × GoesOn answer held w
 GoesBy answer held Waits = goes_home answer ≡ true
 
 -- The call was accepted with some reply, by which the goroutine that asked goes on.
-pub record Proceeds {T : Type 0} (old : Log) (before : Pass) (call : Call) (held : Held T) (now : Log) (after : Pass) (w : Went T) : Type 0 where
+pub record ProceedsOn {T : Type 0} (old : Log) (before : Pass) (call : Call) (held : Held T) (now : Log) (after : Pass) (w : Went T) : Type 0 where
   pub answer : Reply
   pub records : Records old before call answer now after
   pub goes : GoesOn answer held w
@@ -82,7 +82,7 @@ pub record ProceedsBy {T : Type 0} (old : Log) (before : Pass) (call : Call) (he
   pub counted : count ≡ closed_in answer
 
 -- the bodies stay where it goes on; where it waits, its body is back in its place
-abbrev pub MovesBody : {T Q : Type 0} → Contents T Q → Contents T Q → Held T → Moved T → Type 0
+abbrev pub MovesBody : {T Q : Type 0} → BookContents T Q → BookContents T Q → Held T → Moved T → Type 0
 MovesBody old now held (On w) = SameValues old now
 MovesBody old now held Waits = TakesBack old now held
 

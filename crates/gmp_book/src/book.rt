@@ -51,9 +51,9 @@ pub struct Book<T, Q> {
 }
 
 impl<T, Q> Model for Book<T, Q> {
-    ghost use Rattle.gmp_book.specs.Book.{Contents, IsBook};
+    ghost use Rattle.gmp_book.specs.Book.{BookContents, IsBook};
 
-    ghost Value = { Contents T Q };
+    ghost Value = { BookContents T Q };
 
     ghost view = { λ b. record { log = b.ledger; bodies = b.bodies; owners = b.owners } };
 
@@ -192,8 +192,7 @@ impl<T, Q> Book<T, Q> {
                 let run = self.ledger.run();
                 let told = told_by(known, reply);
                 let way = way_of(reply);
-                let (held, called) =
-                    settle_body(&mut self.bodies, way, run, g, told, held, called);
+                let (held, called) = settle_body(&mut self.bodies, way, run, g, told, held, called);
                 let proc = settle_owner(&mut self.owners, run, reply, proc);
                 let ticket = ticket_out(run, reply);
                 let back = Values {

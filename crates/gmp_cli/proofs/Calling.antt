@@ -14,12 +14,12 @@ use Rattle.gmp_base.specs.declared.value.Held.{Held}
 use Rattle.gmp_base.specs.declared.value.Proc.{Proc}
 use Rattle.gmp_book.specs.declared.returned.Returned.{Returned}
 use Rattle.gmp_book.specs.declared.returned.Returned.TheVariants.{Runs}
-use Rattle.gmp_book.specs.Book.{Contents, HandsOutOwner, TakesBackOwner}
+use Rattle.gmp_book.specs.Book.{BookContents, HandsOutOwner, TakesBackOwner}
 use Rattle.gmp_ledger.specs.Log.{Log, Records}
 use Rattle.gmp_seq.specs.Table.{is_calling_on}
 use Rattle.gmp_ledger.specs.Handed.{by_called}
 use Rattle.gmp_ledger.specs.Refusals.{refusal_of}
-use Rattle.gmp_book.specs.Returns.{Resumes, returned, table_by}
+use Rattle.gmp_book.specs.Returns.{ComesBack, returned, table_by}
 use Rattle.gmp_ledger.proofs.Needed as needed
 use Rattle.gmp_seq.specs.declared.call.Call.TheVariants as call
 use Rattle.gmp_seq.specs.declared.call.Reply.TheVariants as reply
@@ -130,14 +130,14 @@ left_driven old new p g number queue capacity n step is kept =
 
 -- Calls
 
-pub leave_allowed : {T Q : Type 0} (book : Contents T Q) (pass : Pass) (queue : List Readiness) (capacity : ℕ) (called : Called Commands) (number : ℕ) → book.log.state.outcome ≡ None
+pub leave_allowed : {T Q : Type 0} (book : BookContents T Q) (pass : Pass) (queue : List Readiness) (capacity : ℕ) (called : Called Commands) (number : ℕ) → book.log.state.outcome ≡ None
     → Drives book pass queue capacity (Block called) → refusal_of book.log pass (call.Leave number) (by_called called) ≡ None
 leave_allowed book pass queue capacity called number lasts kept =
     let calls = calls_at book.log called.g queue capacity (length book.bodies) kept.driven in
     rw kept.run ((needed.leave called.g number book.log pass kept.latest.run (may_call book.log pass kept.latest lasts)).1
     (subst (λ (m : MNo). IsCalling book.log.state.table called.g m) (sym kept.latest.m) calls))
 
-module _ (old new : Contents Commands Unit) (before after : Pass) (queue : List Readiness) (capacity : ℕ) where
+module _ (old new : BookContents Commands Unit) (before after : Pass) (queue : List Readiness) (capacity : ℕ) where
   pub enter_drives : (proc : Proc Unit) (held : Held Commands) (called : Called Commands) (woken : Option MNo) → Records old.log before call.Enter (reply.Entered proc.p woken) new.log after
       → new.log.state.table ≡ set_status old.log.state.table held.g (status.Calling before.m) → called ≡ record { run = held.run; g = held.g; body = held.body } → TakesBackOwner old new proc
       → Drives old before queue capacity (Run proc held) → Drives new after queue capacity (Block called)
@@ -172,9 +172,9 @@ module _ (old new : Contents Commands Unit) (before after : Pass) (queue : List 
 
   pub leave_drives : (called : Called Commands) (how : Returned Commands Unit) (held : Held Commands) (proc : Proc Unit) (number : ℕ) → how ≡ Runs held proc
       → Records old.log before (call.Leave number) (returned old.log.state.table called.g how) new.log after → new.log.state.table ≡ table_by old.log.state.table called.g before.m number how
-      → Resumes old new called number how → Drives old before queue capacity (Block called) → Drives new after queue capacity (Run proc held)
+      → ComesBack old new called number how → Drives old before queue capacity (Block called) → Drives new after queue capacity (Run proc held)
   leave_drives called how held proc number is records table resumes kept =
       let runs = subst (λ (x : Returned Commands Unit). Records old.log before (call.Leave number) (returned old.log.state.table called.g x) new.log after) is records in
       let at = subst (λ (x : Returned Commands Unit). new.log.state.table ≡ table_by old.log.state.table called.g before.m number x) is table in
-      let on = subst (λ (x : Returned Commands Unit). Resumes old new called number x) is resumes in
+      let on = subst (λ (x : Returned Commands Unit). ComesBack old new called number x) is resumes in
       runs_drives called held proc number runs at on.0 on.1 kept

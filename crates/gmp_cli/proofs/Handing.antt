@@ -23,7 +23,7 @@ use Rattle.gmp_book.specs.declared.answers.Parking.TheVariants as parks
 use Rattle.gmp_book.specs.declared.went.Moved.{Moved}
 use Rattle.gmp_book.specs.declared.went.Moved.TheVariants.{On, Waits}
 use Rattle.gmp_book.proofs.Bodies.{all_filled-map}
-use Rattle.gmp_book.specs.Book.{Contents, MayOpen, opening_book, SameValues, HandsOut, HandsOutOwner, TakesBack, TakesBackOwner}
+use Rattle.gmp_book.specs.Book.{BookContents, MayOpen, opening_book, SameValues, HandsOut, HandsOutOwner, TakesBack, TakesBackOwner}
 use Rattle.gmp_ledger.specs.Log.{Log, Records, calls_of}
 use Rattle.gmp_ledger.specs.Handed.{by_proc, by_ticket, nothing_handed}
 use Rattle.gmp_ledger.specs.Refusals.{IsCurrent, refusal_of}
@@ -123,35 +123,35 @@ may_call log pass latest lasts = record {
 
 -- the machine's calls are granted
 
-pub claim_allowed : {T Q : Type 0} (book : Contents T Q) (pass : Pass) (queue : List Readiness) (capacity : ℕ) (proc : Proc Unit) (ticket : Ticket) → book.log.state.outcome ≡ None
+pub claim_allowed : {T Q : Type 0} (book : BookContents T Q) (pass : Pass) (queue : List Readiness) (capacity : ℕ) (proc : Proc Unit) (ticket : Ticket) → book.log.state.outcome ≡ None
     → Drives book pass queue capacity (Claim proc ticket) → refusal_of book.log pass (call.Claim (readiness_of ticket)) (by_ticket ticket) ≡ None
 claim_allowed book pass queue capacity proc ticket lasts kept =
     let needs = claim_needs book.log proc.p (readiness_of ticket) queue capacity (length book.bodies) kept.driven in
     rw kept.run.1 ((needed.claim (readiness_of ticket) book.log pass kept.latest.run (may_call book.log pass kept.latest lasts)).1
     (subst (λ (m : MNo). Needs m (call.Claim (readiness_of ticket)) book.log.state) (sym kept.latest.m) needs))
 
-pub declare_allowed : {T Q : Type 0} (book : Contents T Q) (pass : Pass) (queue : List Readiness) (capacity : ℕ) (proc : Proc Unit) → book.log.state.outcome ≡ None
+pub declare_allowed : {T Q : Type 0} (book : BookContents T Q) (pass : Pass) (queue : List Readiness) (capacity : ℕ) (proc : Proc Unit) → book.log.state.outcome ≡ None
     → Drives book pass queue capacity (Drop proc) → refusal_of book.log pass call.Declare (by_proc proc) ≡ None
 declare_allowed book pass queue capacity proc lasts kept =
     let needs = declare_needs book.log proc.p queue capacity (length book.bodies) kept.driven in
     rw kept.run ((needed.declare proc.p book.log pass kept.latest.run (may_call book.log pass kept.latest lasts)).1
     (subst (λ (m : MNo). RunsNothing book.log.state.table m × (spins book.log.state.machines m ≡ false) × Holds book.log.state.machines m proc.p) (sym kept.latest.m) needs))
 
-pub take_allowed : {T Q : Type 0} (book : Contents T Q) (pass : Pass) (queue : List Readiness) (capacity : ℕ) (proc : Proc Unit) → book.log.state.outcome ≡ None
+pub take_allowed : {T Q : Type 0} (book : BookContents T Q) (pass : Pass) (queue : List Readiness) (capacity : ℕ) (proc : Proc Unit) → book.log.state.outcome ≡ None
     → Drives book pass queue capacity (Look proc) → refusal_of book.log pass call.Take nothing_handed ≡ None
 take_allowed book pass queue capacity proc lasts kept =
     (needed.take book.log pass kept.latest.run (may_call book.log pass kept.latest lasts)).1
     (subst (λ (m : MNo). Needs m call.Take book.log.state) (sym kept.latest.m) kept.driven.holds.0)
 
 -- the ticket in hand is out
-pub hand_out : {T Q : Type 0} (book : Contents T Q) (pass : Pass) (queue : List Readiness) (capacity : ℕ) (hand : Hand) (proc : Proc Unit) (ticket : Ticket) → hand ≡ Claim proc ticket
+pub hand_out : {T Q : Type 0} (book : BookContents T Q) (pass : Pass) (queue : List Readiness) (capacity : ℕ) (hand : Hand) (proc : Proc Unit) (ticket : Ticket) → hand ≡ Claim proc ticket
     → Drives book pass queue capacity hand → is_outstanding book.log.state.table (readiness_of ticket) ≡ true
 hand_out book pass queue capacity hand proc ticket is kept =
     let at = subst (λ (h : Hand). Drives book pass queue capacity h) is kept in
     out_test book.log.state.table (readiness_of ticket) (first_out book.log.state.table (readiness_of ticket) queue [] at.driven.tickets)
 
 -- the first ticket of the queue goes into the hand
-pub popped_drives : {T Q : Type 0} (book : Contents T Q) (pass : Pass) (queue rest : List Readiness) (capacity : ℕ) (proc : Proc Unit) (r : Readiness) (ticket : Ticket) → queue ≡ r ∷ rest
+pub popped_drives : {T Q : Type 0} (book : BookContents T Q) (pass : Pass) (queue rest : List Readiness) (capacity : ℕ) (proc : Proc Unit) (r : Readiness) (ticket : Ticket) → queue ≡ r ∷ rest
     → ticket ≡ record { run = pass.run; g = r.g; epoch = r.epoch } → Drives book pass queue capacity (Look proc) → Drives book pass rest capacity (Claim proc ticket)
 popped_drives book pass queue rest capacity proc r ticket first is kept =
     let driven = subst (λ (q : List Readiness). IsDriven book.log q capacity (looking proc.p) (length book.bodies)) first kept.driven in
@@ -166,7 +166,7 @@ popped_drives book pass queue rest capacity proc r ticket first is kept =
 
 -- Calls
 
-module _ (old new : Contents Commands Unit) (before after : Pass) (queue : List Readiness) (capacity : ℕ) where
+module _ (old new : BookContents Commands Unit) (before after : Pass) (queue : List Readiness) (capacity : ℕ) where
   pub at_machine : (asked : Call) (answer : Reply) (hand : Hand) → Records old.log before asked answer new.log after → Drives old before queue capacity hand
       → Step old.log.limits machine asked answer old.log.state new.log.state
   at_machine asked answer hand records kept = subst (λ (m : MNo). Step old.log.limits m asked answer old.log.state new.log.state) kept.latest.m records.step
@@ -374,31 +374,31 @@ module _ (old new : Contents Commands Unit) (before after : Pass) (queue : List 
         minds = tt;
       }
 
-  pub go_drives : (proc : Proc Unit) (held : Held Commands) (w : Went Commands) (k : GNo) → by.Proceeds old.log before (call.Go k) held new.log after w → SameValues old new
+  pub go_drives : (proc : Proc Unit) (held : Held Commands) (w : Went Commands) (k : GNo) → by.ProceedsOn old.log before (call.Go k) held new.log after w → SameValues old new
       → Drives old before queue capacity (Run proc held) → Drives new after (pushed capacity queue (option_map readiness_of w.push)) capacity (Run proc w.held)
   go_drives proc held w k went same kept =
       went_drives proc held w (call.Go k) went.answer went.records went.goes same
       (gone_driven old.log new.log proc.p held.g k went.answer queue capacity (length old.bodies) (at_machine (call.Go k) went.answer (Run proc held) went.records kept) kept.driven) kept
 
-  pub ready_drives : (proc : Proc Unit) (held : Held Commands) (w : Went Commands) (k : GNo) → by.Proceeds old.log before (call.Ready k) held new.log after w → SameValues old new
+  pub ready_drives : (proc : Proc Unit) (held : Held Commands) (w : Went Commands) (k : GNo) → by.ProceedsOn old.log before (call.Ready k) held new.log after w → SameValues old new
       → Drives old before queue capacity (Run proc held) → Drives new after (pushed capacity queue (option_map readiness_of w.push)) capacity (Run proc w.held)
   ready_drives proc held w k went same kept =
       went_drives proc held w (call.Ready k) went.answer went.records went.goes same
       (ready_driven old.log new.log proc.p held.g k went.answer queue capacity (length old.bodies) (at_machine (call.Ready k) went.answer (Run proc held) went.records kept) kept.driven) kept
 
-  pub make_drives : (proc : Proc Unit) (held : Held Commands) (w : Went Commands) (room : ℕ) → by.Proceeds old.log before (call.Make room) held new.log after w → SameValues old new
+  pub make_drives : (proc : Proc Unit) (held : Held Commands) (w : Went Commands) (room : ℕ) → by.ProceedsOn old.log before (call.Make room) held new.log after w → SameValues old new
       → Drives old before queue capacity (Run proc held) → Drives new after (pushed capacity queue (option_map readiness_of w.push)) capacity (Run proc w.held)
   make_drives proc held w room went same kept =
       went_drives proc held w (call.Make room) went.answer went.records went.goes same
       (made_driven old.log new.log proc.p held.g room went.answer queue capacity (length old.bodies) (at_machine (call.Make room) went.answer (Run proc held) went.records kept) kept.driven) kept
 
-  pub len_drives : (proc : Proc Unit) (held : Held Commands) (w : Went Commands) (c : Option CNo) → by.Proceeds old.log before (call.Len c) held new.log after w → SameValues old new
+  pub len_drives : (proc : Proc Unit) (held : Held Commands) (w : Went Commands) (c : Option CNo) → by.ProceedsOn old.log before (call.Len c) held new.log after w → SameValues old new
       → Drives old before queue capacity (Run proc held) → Drives new after (pushed capacity queue (option_map readiness_of w.push)) capacity (Run proc w.held)
   len_drives proc held w c went same kept =
       went_drives proc held w (call.Len c) went.answer went.records went.goes same
       (len_driven old.log new.log proc.p held.g c went.answer queue capacity (length old.bodies) (at_machine (call.Len c) went.answer (Run proc held) went.records kept) kept.driven) kept
 
-  pub cap_drives : (proc : Proc Unit) (held : Held Commands) (w : Went Commands) (c : Option CNo) → by.Proceeds old.log before (call.Cap c) held new.log after w → SameValues old new
+  pub cap_drives : (proc : Proc Unit) (held : Held Commands) (w : Went Commands) (c : Option CNo) → by.ProceedsOn old.log before (call.Cap c) held new.log after w → SameValues old new
       → Drives old before queue capacity (Run proc held) → Drives new after (pushed capacity queue (option_map readiness_of w.push)) capacity (Run proc w.held)
   cap_drives proc held w c went same kept =
       went_drives proc held w (call.Cap c) went.answer went.records went.goes same

@@ -13,7 +13,7 @@ use Rattle.gmp_base.specs.declared.pass.Pass.{Pass}
 use Rattle.gmp_base.specs.declared.value.Called.{Called}
 use Rattle.gmp_base.specs.Values.{readiness_of}
 use Rattle.gmp_book.specs.declared.report.Report.{Report}
-use Rattle.gmp_book.specs.Book.{Contents}
+use Rattle.gmp_book.specs.Book.{BookContents}
 use Rattle.gmp_goroutines.specs.Choice.{IsChoice}
 use Rattle.gmp_ledger.specs.Log.{Log, calls_of}
 use Rattle.gmp_seq.specs.Table.{is_calling_on}
@@ -254,7 +254,7 @@ RunsOn called (Run proc held) = held ≡ record { run = called.run; g = called.g
 RunsOn called _ = ⊥
 
 -- the machine with its book, its pass, its queue, and what it holds
-pub record Drives {T Q : Type 0} (book : Contents T Q) (pass : Pass) (queue : List Readiness) (capacity : ℕ) (hand : Hand) : Type 0 where
+pub record Drives {T Q : Type 0} (book : BookContents T Q) (pass : Pass) (queue : List Readiness) (capacity : ℕ) (hand : Hand) : Type 0 where
   pub driven : IsDriven book.log queue capacity (stand_of hand) (length book.bodies)
   pub latest : IsLatest book.log pass
   pub run : AreOfRun book.log.run hand

@@ -26,7 +26,7 @@ fn woken_in(reply: Reply) -> Option<MNo>
 
 impl<T, Q> Book<T, Q> {
     ghost use Rattle.gmp_book.specs.Book.{TakesBackOwner};
-    ghost use Rattle.gmp_book.specs.Returns.{ByLeast, Resumes, returned, table_by};
+    ghost use Rattle.gmp_book.specs.Returns.{ByLeast, ComesBack, returned, table_by};
 
     /// The goroutine that asks goes into a blocking call, which its machine makes. The machine gives up its processor, and the least
     /// parked machine wakes, where one is parked. Refused, it hands both values back.
@@ -70,7 +70,7 @@ impl<T, Q> Book<T, Q> {
         ensures err { OnErr result ((self.new ≡ self.old) × (pass.new ≡ pass.old)) }
         ensures entry { IfOk result (λ x. Records self.old.log pass.old (Call.Leave number) (returned self.old.log.state.table called.g x) self.new.log pass.new) }
         ensures table { IfOk result (λ x. self.new.log.state.table ≡ table_by self.old.log.state.table called.g pass.old.m number x) }
-        ensures resumes { IfOk result (Resumes self.old self.new called number) }
+        ensures resumes { IfOk result (ComesBack self.old self.new called number) }
         ensures least { IfOk result (ByLeast self.old.log.state.machines) }
     {
         let values = Values::by_called(called);

@@ -18,7 +18,7 @@ use std::alloc::Global;
 
 impl<T, Q> Book<T, Q> {
     ghost use Rattle.gmp_book.specs.Book.{SameValues};
-    ghost use Rattle.gmp_book.specs.Went.{Proceeds, ProceedsBy, ProceedsByChoice, ProceedsOrWaits, MovesBody, handed_back};
+    ghost use Rattle.gmp_book.specs.Went.{ProceedsOn, ProceedsBy, ProceedsByChoice, ProceedsOrWaits, MovesBody, handed_back};
 
     /// Makes a channel with room for so many values, 4,096 at most. The goroutine is told its number, or a fault: the room is too large, or
     /// the run has as many channels as it may.
@@ -36,7 +36,7 @@ impl<T, Q> Book<T, Q> {
         ensures needed { IfErr result (λ r. r.why ≡ Refusal.OutOfMemory → (capacity ≤ 4096) × (length self.old.log.state.channels < self.old.log.limits.channels)) }
         ensures back { IfErr result (λ r. r.back ≡ handed_back r.why held) }
         ensures err { OnErr result ((self.new ≡ self.old) × (pass.new ≡ pass.old)) }
-        ensures entry { IfOk result (λ w. Proceeds self.old.log pass.old (Call.Make capacity) held self.new.log pass.new w) }
+        ensures entry { IfOk result (λ w. ProceedsOn self.old.log pass.old (Call.Make capacity) held self.new.log pass.new w) }
         ensures values { OnOk result (SameValues self.old self.new) }
     {
         let given = as_handed(&held);
@@ -142,7 +142,7 @@ impl<T, Q> Book<T, Q> {
         ensures refused { why_refused result ≡ refusal_of self.old.log pass.old (Call.Len c) (by_held held) }
         ensures back { IfErr result (λ r. r.back ≡ held) }
         ensures err { OnErr result ((self.new ≡ self.old) × (pass.new ≡ pass.old)) }
-        ensures entry { IfOk result (λ w. Proceeds self.old.log pass.old (Call.Len c) held self.new.log pass.new w) }
+        ensures entry { IfOk result (λ w. ProceedsOn self.old.log pass.old (Call.Len c) held self.new.log pass.new w) }
         ensures values { OnOk result (SameValues self.old self.new) }
     {
         let (went, _) = self.proceed(pass, held, Call::Len(c))?;
@@ -159,7 +159,7 @@ impl<T, Q> Book<T, Q> {
         ensures refused { why_refused result ≡ refusal_of self.old.log pass.old (Call.Cap c) (by_held held) }
         ensures back { IfErr result (λ r. r.back ≡ held) }
         ensures err { OnErr result ((self.new ≡ self.old) × (pass.new ≡ pass.old)) }
-        ensures entry { IfOk result (λ w. Proceeds self.old.log pass.old (Call.Cap c) held self.new.log pass.new w) }
+        ensures entry { IfOk result (λ w. ProceedsOn self.old.log pass.old (Call.Cap c) held self.new.log pass.new w) }
         ensures values { OnOk result (SameValues self.old self.new) }
     {
         let (went, _) = self.proceed(pass, held, Call::Cap(c))?;

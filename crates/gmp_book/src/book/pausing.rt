@@ -14,7 +14,7 @@ use gmp_seq::Call;
 
 impl<T, Q> Book<T, Q> {
     ghost use Rattle.gmp_book.specs.Book.{SameValues, TakesBack};
-    ghost use Rattle.gmp_book.specs.Went.{Proceeds};
+    ghost use Rattle.gmp_book.specs.Went.{ProceedsOn};
 
     /// Lets the goroutine wait until this moment, in nanoseconds of the clock that `tick` shows. A tick at or after it wakes the
     /// goroutine, which is told Done; a moment that has passed waits for the next tick.
@@ -59,7 +59,7 @@ impl<T, Q> Book<T, Q> {
         ensures refused { why_refused result ≡ refusal_of self.old.log pass.old (Call.Ready g) (by_held held) }
         ensures back { IfErr result (λ r. r.back ≡ held) }
         ensures err { OnErr result ((self.new ≡ self.old) × (pass.new ≡ pass.old)) }
-        ensures entry { IfOk result (λ w. Proceeds self.old.log pass.old (Call.Ready g) held self.new.log pass.new w) }
+        ensures entry { IfOk result (λ w. ProceedsOn self.old.log pass.old (Call.Ready g) held self.new.log pass.new w) }
         ensures values { OnOk result (SameValues self.old self.new) }
     {
         let (went, _) = self.proceed(pass, held, Call::Ready(g))?;

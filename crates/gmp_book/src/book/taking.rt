@@ -20,7 +20,7 @@ use gmp_seq::{Call, Reply};
 
 impl<T, Q> Book<T, Q> {
     ghost use Rattle.gmp_book.specs.Book.{HandsOut, SameValues, TakesBack};
-    ghost use Rattle.gmp_book.specs.Went.{Proceeds};
+    ghost use Rattle.gmp_book.specs.Went.{ProceedsOn};
 
     /// Gives out the ticket of a goroutine on the shelf, if one is on it: as `StatusTable::unshelve`, of the one that is there for longest.
     pub fn take(&mut self, pass: &mut Pass) -> Result<Option<Ticket>, Refusal>
@@ -86,7 +86,7 @@ impl<T, Q> Book<T, Q> {
         ensures refused { why_refused result ≡ refusal_of self.old.log pass.old (Call.Go body) (by_held held) }
         ensures back { IfErr result (λ r. r.back ≡ held) }
         ensures err { OnErr result ((self.new ≡ self.old) × (pass.new ≡ pass.old)) }
-        ensures entry { IfOk result (λ w. Proceeds self.old.log pass.old (Call.Go body) held self.new.log pass.new w) }
+        ensures entry { IfOk result (λ w. ProceedsOn self.old.log pass.old (Call.Go body) held self.new.log pass.new w) }
         ensures values { OnOk result (SameValues self.old self.new) }
     {
         let (went, _) = self.proceed(pass, held, Call::Go(body))?;

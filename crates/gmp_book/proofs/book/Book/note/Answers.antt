@@ -1,5 +1,5 @@
 use Rattle.gmp_ledger.specs.Refusals.{refusal_in, refusal_of}
-use Rattle.gmp_book.specs.Book.{Contents}
+use Rattle.gmp_book.specs.Book.{BookContents}
 use Rattle.std.proofs.Common.{◌≡◌, subst}
 use Rattle.gmp_book.proofs.Asking.{says, still, still_kept}
 use Rattle.gmp_book.proofs.book.Book.note.Goals as goal
@@ -16,5 +16,5 @@ invariant_of-self g c =
 pub returns-clause-refused : goal.returns-clause-refused
 returns-clause-refused g c =
     let i = c.self.inside in
-    subst (λ (b : Contents _ _). refusal_in c.call.result ≡ refusal_of b.log c.args.pass.now c.args.call c.args.given) c.self.view_is
+    subst (λ (b : BookContents _ _). refusal_in c.call.result ≡ refusal_of b.log c.args.pass.now c.args.call c.args.given) c.self.view_is
     (says c.args.call i.ledger.limits i.ledger.state _ _ (still c.args.call c.requires.still).memory c.call.ensures.refused)

@@ -1,7 +1,7 @@
 use Rattle.std.proofs.Common.{◌≡◌, Some, subst}
 use Rattle.gmp_ledger.specs.Handed.{by_held}
 use Rattle.gmp_ledger.specs.Refusals.{refusal_of}
-use Rattle.gmp_book.specs.Book.{Contents}
+use Rattle.gmp_book.specs.Book.{BookContents}
 use Rattle.gmp_book.proofs.Asking.{home_placed, own, rest_told, runs_vacant, says}
 use Rattle.gmp_book.proofs.book.Book.rest.Goals as goal
 
@@ -11,7 +11,7 @@ call-requires-clause-suits g c = rw c.as_handed-given.ensures ((own c.args.call 
 pub returns-in-Err-clause-refused : goal.returns-in-Err-clause-refused
 returns-in-Err-clause-refused g c =
     let i = c.self.inside in
-    subst (λ (b : Contents _ _). Some c.in-Err.why ≡ refusal_of b.log c.args.pass.now c.args.call (by_held c.args.held)) c.self.view_is
+    subst (λ (b : BookContents _ _). Some c.in-Err.why ≡ refusal_of b.log c.args.pass.now c.args.call (by_held c.args.held)) c.self.view_is
     (says c.args.call i.ledger.limits i.ledger.state _ _ c.requires.plain (rw (c.as_handed-given.ensures, c.in-Err.is) at c.call.ensures.refused))
 
 pub put-requires : goal.put-requires
