@@ -1,26 +1,21 @@
 -- What the calls by their own types tell of the goroutine that asks, from the step that is made.
 use Rattle.std.specs.Prelude.{◌≢◌, Result, Ok, Err, IfOk, OnOk}
-use Rattle.std.proofs.Common.{◌≡◌, ℕ, Bool, true, false, Option, None, Some, List, [], ◌∷◌, refl, sym, ap, subst, ◌∙◌, inl, inr}
+use Rattle.std.proofs.Common.{◌≡◌, ℕ, Bool, false, Option, None, Some, List, [], ◌∷◌, refl, ap, subst, ◌∙◌, inl, inr}
 use Rattle.gmp_base.specs.declared.cases.Case.{Case}
 use Rattle.gmp_base.specs.declared.cases.Case.TheVariants as case
-use Rattle.gmp_base.specs.declared.ask.Woke.{Woke}
 use Rattle.gmp_base.specs.declared.ask.Woke.TheVariants as woke
 use Rattle.gmp_base.specs.declared.number.CNo.{CNo}
 use Rattle.gmp_base.specs.declared.number.GNo.{GNo}
-use Rattle.gmp_base.specs.declared.number.MNo.{MNo}
 use Rattle.gmp_base.specs.declared.number.Readiness.{Readiness}
 use Rattle.gmp_base.specs.declared.pass.Pass.{Pass}
 use Rattle.gmp_base.specs.declared.value.Held.{Held}
-use Rattle.gmp_seq.specs.declared.call.Call.{Call}
 use Rattle.gmp_seq.specs.declared.call.Call.TheVariants as call
-use Rattle.gmp_seq.specs.declared.call.Limits.{Limits}
 use Rattle.gmp_seq.specs.declared.call.Reply.{Reply}
 use Rattle.gmp_seq.specs.declared.call.Reply.TheVariants as reply
 use Rattle.gmp_seq.specs.declared.status.Kind.TheVariants as kind
 use Rattle.gmp_seq.specs.declared.status.Place.TheVariants.{Shelf}
 use Rattle.gmp_seq.specs.declared.status.Status.TheVariants as status
 use Rattle.gmp_seq.specs.Laws.{IsInOrder}
-use Rattle.gmp_seq.specs.State.{State}
 use Rattle.gmp_base.specs.declared.number.PNo.{PNo}
 use Rattle.gmp_base.specs.declared.refusal.Refused.{Refused}
 use Rattle.gmp_seq.specs.Machines.{Enters, Holds, some_idle}
@@ -111,10 +106,10 @@ module _ (old now : Log) (before after : Pass) (order : IsInOrder old.limits old
         subst (λ (a : Reply). Records old before call.Enter a now after) (entered answer h.2.1) records,
         h.2.0 ∙ ap (λ (k : GNo). set_status old.state.table k (status.Calling before.m)) (same h.0 h.1),
       ) where
-    entered : (a : Reply) → Enters before.m a old.state.machines now.state.machines → a ≡ reply.Entered p (woken_in a)
-    entered (reply.Entered q None) e = ap (λ (k : PNo). reply.Entered k None) (order.one_processor before.m q p e.0 holds)
-    entered (reply.Entered q (Some n)) e = ap (λ (k : PNo). reply.Entered k (Some n)) (order.one_processor before.m q p e.0 holds)
-    entered _ e = absurd e
+        entered : (a : Reply) → Enters before.m a old.state.machines now.state.machines → a ≡ reply.Entered p (woken_in a)
+        entered (reply.Entered q None) e = ap (λ (k : PNo). reply.Entered k None) (order.one_processor before.m q p e.0 holds)
+        entered (reply.Entered q (Some n)) e = ap (λ (k : PNo). reply.Entered k (Some n)) (order.one_processor before.m q p e.0 holds)
+        entered _ e = absurd e
 
   pub send_told : {T : Type 0} (c : Option CNo) (v : ℕ) (word : ℕ) (held : Held T) (how : Moved T) → Talks old before (call.Send c v) word held now after how → how ≡ moved.Waits
       → now.state.table ≡ made_wait old.state.table g kind.Plain (offers_of (case.Send c v ∷ [])) None

@@ -179,8 +179,7 @@ impl<T, Q> Book<T, Q> {
                 let run = self.ledger.run();
                 let told = told_by(known, reply);
                 let way = way_of(reply);
-                let (held, called) =
-                    settle_body(&mut self.bodies, way, run, g, told, held, called);
+                let (held, called) = settle_body(&mut self.bodies, way, run, g, told, held, called);
                 let proc = settle_owner(&mut self.owners, run, reply, proc);
                 let ticket = ticket_out(run, reply);
                 let back = Values {

@@ -28,5 +28,5 @@ pub use book::Book;
 pub use opening::Unopened;
 pub use report::Report;
 pub use returned::Returned;
-pub use values::{Values, Way};
+pub use values::Values;
 pub use went::{Moved, Went};

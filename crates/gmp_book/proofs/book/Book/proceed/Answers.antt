@@ -20,12 +20,12 @@ pub returns-clause-refused : goal.returns-clause-refused
 returns-clause-refused g c =
     let i = c.self.inside in
     elim c.match-call.branch [
-      in-Err w ↦
-      rw w.result-is
-      (subst (λ (b : Contents _ _). Some w.in-Err.why ≡ refusal_of b.log c.args.pass.now c.args.call (by_held c.args.held)) c.self.view_is
-      (says c.args.call i.ledger.limits i.ledger.state _ _ c.requires.plain (rw (c.as_handed-given.ensures, w.in-Err.is) at c.call.ensures.refused)))
-    | in-Ok w ↦
-      rw w.result-is
-      (subst (λ (b : Contents _ _). None ≡ refusal_of b.log c.args.pass.now c.args.call (by_held c.args.held)) c.self.view_is
-      (says c.args.call i.ledger.limits i.ledger.state _ _ c.requires.plain (rw (c.as_handed-given.ensures, w.in-Ok.is) at c.call.ensures.refused)))
+      | in-Err w ↦
+          rw w.result-is
+          (subst (λ (b : Contents _ _). Some w.in-Err.why ≡ refusal_of b.log c.args.pass.now c.args.call (by_held c.args.held)) c.self.view_is
+          (says c.args.call i.ledger.limits i.ledger.state _ _ c.requires.plain (rw (c.as_handed-given.ensures, w.in-Err.is) at c.call.ensures.refused)))
+      | in-Ok w ↦
+          rw w.result-is
+          (subst (λ (b : Contents _ _). None ≡ refusal_of b.log c.args.pass.now c.args.call (by_held c.args.held)) c.self.view_is
+          (says c.args.call i.ledger.limits i.ledger.state _ _ c.requires.plain (rw (c.as_handed-given.ensures, w.in-Ok.is) at c.call.ensures.refused)))
     ]
