@@ -9,6 +9,7 @@ ghost use Rattle.gmp_seq.specs.Step.{Takes, Puts, Claims, Starts, Ticks};
 ghost use Rattle.gmp_seq.specs.Table.{IsReady, IsRunning, RunsNothing, all_woken, epoch_at, how_many_woken, is_astir, is_outstanding, is_running_on, is_shelved, made_ready, made_wait, minded, next_of, set_status, some_status, status_at};
 ghost use Rattle.gmp_seq.specs.declared.call.Call.{Call};
 ghost use Rattle.gmp_table.specs.Waking.{answer_of};
+ghost use Rattle.gmp_table.specs.Kept.{IsListing};
 ghost use Rattle.gmp_goroutines.specs.Shelf.{Shelves, Wakes};
 ghost use Rattle.gmp_goroutines.specs.Present.{OnlyTable, opening_present};
 ghost use Rattle.gmp_goroutines.specs.Stored.{stored_at};
@@ -130,7 +131,9 @@ impl Goroutines {
 
     /// Whether somebody is on the shelf.
     pub fn has_shelved(&self) -> bool
-        ensures { result ≡ some_status is_shelved self.now.table }
+        ensures some { result ≡ some_status is_shelved self.now.table }
+        // The shelf has each goroutine on it once, and no other.
+        ensures listing { IsListing is_shelved self.now.table.goroutines self.now.shelf }
     {
         self.table.has_shelved()
     }

@@ -1,11 +1,6 @@
 -- What a select does among goroutines and channels alone it does in a whole state.
-use Rattle.std.proofs.Common.{◌≡◌, ◌∙◌, ℕ, ◌≤◌, true, false, Option, None, Some, List, length, slice_get, refl, sym, ap, Bool}
-use Rattle.std.specs.List.{list_any}
-use Rattle.std.specs.Prelude.{IfNone, IfSome}
+use Rattle.std.proofs.Common.{ℕ, Option, List, refl, Bool}
 use Rattle.gmp_base.specs.declared.cases.Case.{Case}
-use Rattle.gmp_seq.specs.declared.status.Waiter.{Waiter}
-use Rattle.gmp_seq.specs.Channels.{Channel}
-use Rattle.gmp_seq.specs.Waits.{can}
 use Rattle.gmp_seq.specs.declared.call.Outcome.{Outcome}
 use Rattle.gmp_seq.specs.declared.call.Reply.{Reply}
 use Rattle.gmp_seq.specs.declared.call.Reply.TheVariants as reply
@@ -14,10 +9,8 @@ use Rattle.gmp_base.specs.declared.number.GNo.{GNo}
 use Rattle.gmp_seq.specs.Machines.{Machines}
 use Rattle.gmp_seq.specs.State.{State}
 use Rattle.gmp_seq.specs.Step.{Selects}
-use Rattle.gmp_select.specs.Choosing.{case_can, is_set, pick}
 use Rattle.gmp_goroutines.specs.Choice.{IsChoice}
 use Rattle.gmp_goroutines.specs.Present.{Present, state_of}
-use Rattle.gmp_select.proofs.Picking.{none_picked, pick_same, picked}
 
 -- a state of these goroutines and channels with these machines, counts and outcome
 abbrev pub state_in : Present → Machines → List ℕ → Option Outcome → State

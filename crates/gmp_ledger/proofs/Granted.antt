@@ -5,7 +5,6 @@ use Rattle.std.specs.Option.{option_map_or}
 use Rattle.gmp_base.specs.declared.number.GNo.{GNo}
 use Rattle.gmp_base.specs.declared.number.MNo.{MNo}
 use Rattle.gmp_base.specs.declared.number.PNo.{PNo}
-use Rattle.gmp_base.specs.declared.number.Readiness.{Readiness}
 use Rattle.gmp_base.specs.declared.pass.Pass.{Pass}
 use Rattle.gmp_seq.specs.declared.call.Call.{Call}
 use Rattle.gmp_seq.specs.declared.call.Outcome.{Outcome}
@@ -37,12 +36,12 @@ use Rattle.gmp_ledger.specs.Kept.{IsKept}
 use Rattle.gmp_ledger.specs.Scene.{IsYoung}
 use Rattle.gmp_goroutines.proofs.Running.{running_on}
 use Rattle.gmp_seq.specs.State.{State, opening}
-use Rattle.gmp_seq.specs.Table.{IsRunning, IsCalling, RunsNothing, is_outstanding, is_running_on, some_status, status_at}
+use Rattle.gmp_seq.specs.Table.{IsRunning, IsCalling, RunsNothing, is_running_on, some_status, status_at}
 use Rattle.gmp_ledger.specs.Log.{Log}
 use Rattle.gmp_idle.specs.Replies.{is_awake_mode, is_calling_mode}
-use Rattle.gmp_ledger.specs.Refusals.{IsAllowed, IsCurrent, is_awake, calls_some, is_busy, is_calling_on, is_anothers, is_spent}
+use Rattle.gmp_ledger.specs.Refusals.{IsAllowed, IsCurrent, is_awake, calls_some, is_busy, is_calling_on, is_anothers}
 
-not_false : (b : Bool) → not b ≡ false → b ≡ true
+pub not_false : (b : Bool) → not b ≡ false → b ≡ true
 not_false true e = refl
 not_false false e = absurd cc
 
@@ -51,20 +50,20 @@ awake_mode (Some mode.Awake) e = refl
 awake_mode (Some _) e = absurd cc
 awake_mode None e = absurd cc
 
-awake : (s : State) (m : MNo) → not (is_awake s m) ≡ false → IsAwake s.machines m
+pub awake : (s : State) (m : MNo) → not (is_awake s m) ≡ false → IsAwake s.machines m
 awake s m e = awake_mode (slice_get s.machines.modes m.0) (not_false (is_awake s m) e)
 
-running : (m : MNo) (o : Option Status) → option_map_or (is_running_on m) o false ≡ true → o ≡ Some (status.Running m)
+pub running : (m : MNo) (o : Option Status) → option_map_or (is_running_on m) o false ≡ true → o ≡ Some (status.Running m)
 running m (Some (status.Running n)) e = ap (λ (k : ℕ). Some (status.Running (record { 0 = k }))) (sym (eqb-true m.0 n.0 e))
 running m (Some _) e = absurd cc
 running m None e = absurd cc
 
-calling : (m : MNo) (o : Option Status) → option_map_or (is_calling_on m) o false ≡ true → o ≡ Some (status.Calling m)
+pub calling : (m : MNo) (o : Option Status) → option_map_or (is_calling_on m) o false ≡ true → o ≡ Some (status.Calling m)
 calling m (Some (status.Calling n)) e = ap (λ (k : ℕ). Some (status.Calling (record { 0 = k }))) (sym (eqb-true m.0 n.0 e))
 calling m (Some _) e = absurd cc
 calling m None e = absurd cc
 
-holding : (m : MNo) (o : Option (Option MNo)) → option_map_or (is_held_by m) o false ≡ true → o ≡ Some (Some m)
+pub holding : (m : MNo) (o : Option (Option MNo)) → option_map_or (is_held_by m) o false ≡ true → o ≡ Some (Some m)
 holding m (Some (Some n)) e = ap (λ (k : ℕ). Some (Some (record { 0 = k }))) (sym (eqb-true m.0 n.0 e))
 holding m (Some None) e = absurd cc
 holding m None e = absurd cc

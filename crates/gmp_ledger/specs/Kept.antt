@@ -1,10 +1,7 @@
 -- What the parts of a book keep.
-use Rattle.std.specs.Prelude.{◌≡◌, ℕ, ◌≤◌, Bool, true, false, List, length, slice_get, Option, Some}
-use Rattle.gmp_base.specs.declared.number.GNo.{GNo}
-use Rattle.gmp_base.specs.declared.number.MNo.{MNo}
+use Rattle.std.specs.Prelude.{◌≡◌, ℕ, ◌≤◌}
 use Rattle.gmp_seq.specs.Fits.{AreLimits}
 use Rattle.gmp_seq.specs.Run.{IsLegal}
-use Rattle.gmp_seq.specs.Table.{Table, IsRunning}
 use Rattle.gmp_ledger.specs.Log.{Log}
 use Rattle.gmp_ledger.specs.Scene.{Scene}
 use Rattle.gmp_seq.specs.declared.call.Limits.{Limits}

@@ -6,3 +6,4 @@ pub mod Scene
 pub mod Grants
 pub mod LedgerView
 pub mod Known
+pub mod Laws

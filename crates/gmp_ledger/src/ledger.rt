@@ -1,8 +1,11 @@
 //! The run so far, and the call that goes on with it.
-ghost use Rattle.std.specs.Prelude.{◌≡◌, ◌<◌, None, false, length, IfNone, IfOk, OnErr, OnOk};
+ghost use Rattle.std.specs.Prelude.{◌≡◌, ◌<◌, None, false, length, slice_get, IfNone, IfOk, OnErr, OnOk};
 ghost use Rattle.gmp_seq.specs.Fits.{AreLimits};
+ghost use Rattle.gmp_seq.specs.Machines.{is_parked};
 ghost use Rattle.gmp_seq.specs.Run.{IsLegal};
-ghost use Rattle.gmp_seq.specs.Table.{is_outstanding};
+ghost use Rattle.gmp_seq.specs.Table.{is_outstanding, is_shelved};
+ghost use Rattle.gmp_table.specs.Kept.{IsListing};
+ghost use Rattle.std.specs.Option.{option_map_or};
 ghost use Rattle.gmp_ledger.specs.Grants.{Chooses, Grants, NeedsMemory, Suits, WantsMemory};
 ghost use Rattle.gmp_ledger.specs.Handed.{goroutine_in, names_other, processor_in};
 ghost use Rattle.gmp_ledger.specs.Known.{known_by};
@@ -88,7 +91,10 @@ impl Ledger {
         ensures entries { result.now ≡ self.now.history }
         ensures legal { IsLegal self.now.limits self.now.bodies self.now.capacities self.now.history self.now.state }
         ensures within { AreLimits self.now.limits self.now.bodies self.now.capacities }
+        // The shelf has each goroutine on it once, and no other.
+        ensures listing { IsListing is_shelved self.now.state.table.goroutines self.now.shelf }
     {
+        let _ = self.scheduler.has_shelved();
         self.entries.as_slice()
     }
 
@@ -97,6 +103,20 @@ impl Ledger {
         ensures { result ≡ is_outstanding self.now.state.table r }
     {
         self.scheduler.is_outstanding(r)
+    }
+
+    /// What it was opened with.
+    pub fn limits(&self) -> Limits
+        ensures { result ≡ self.now.limits }
+    {
+        self.limits
+    }
+
+    /// Whether the machine is parked.
+    pub fn is_parked(&self, m: MNo) -> bool
+        ensures { result ≡ option_map_or is_parked (slice_get self.now.state.machines.modes m.0) false }
+    {
+        m.0 < self.limits.machines && self.scheduler.is_parked(m)
     }
 
     /// What a call has for a goroutine to be told, whatever the reply.

@@ -1,21 +1,24 @@
 //! Goroutines, channels and machines together: the effect of each call on them.
-ghost use Rattle.std.specs.Prelude.{◌≡◌, ◌+◌, ◌<◌, ◌≤◌, ◌^◌, None, Some, length, slice_get, slice_index, sum, IfOk, OnErr};
+ghost use Rattle.std.specs.Prelude.{false, ◌≡◌, ◌+◌, ◌<◌, ◌^◌, None, Some, length, slice_get, slice_index, sum, IfOk, OnErr};
 ghost use Rattle.gmp_seq.specs.declared.call.Call.{Call};
-ghost use Rattle.gmp_seq.specs.declared.status.Mode.{Mode};
-ghost use Rattle.gmp_seq.specs.Machines.{IsBare};
-ghost use Rattle.gmp_seq.specs.Step.{Effect, Exits, OnTable, Parks, Selects, Step};
-ghost use Rattle.gmp_seq.specs.Table.{IsCalling, IsRunning, RunsNothing, is_outstanding};
+ghost use Rattle.gmp_seq.specs.Step.{Effect, Step};
+ghost use Rattle.gmp_seq.specs.Machines.{is_parked};
+ghost use Rattle.gmp_table.specs.Kept.{IsListing};
+ghost use Rattle.std.specs.Option.{option_map_or};
+ghost use Rattle.gmp_seq.specs.Table.{is_shelved, some_status, is_outstanding};
 ghost use Rattle.gmp_seq.specs.Fits.{AreLimits};
-ghost use Rattle.gmp_goroutines.specs.Choice.{IsChoice};
-ghost use Rattle.gmp_ledger.specs.Grants.{Chooses, Grants, Leaves, NeedsMemory, WantsMemory};
+ghost use Rattle.gmp_ledger.specs.Grants.{Chooses, Grants, NeedsMemory, WantsMemory};
 ghost use Rattle.gmp_goroutines.specs.Stored.{stored_at};
 ghost use Rattle.gmp_ledger.specs.Scene.{IsYoung, SameRest, counted_one, opening_scene};
 ghost use Rattle.gmp_goroutines.specs.Shelf.{Shelves};
 
+mod blocking;
 mod refusing;
+mod resting;
+mod selecting;
 
 use crate::replies;
-use gmp_base::{Case, Cases, GNo, MNo, PNo, Readiness, Woke};
+use gmp_base::{Case, GNo, MNo, PNo, Readiness, Woke};
 use gmp_goroutines::Goroutines;
 use gmp_idle::Machines;
 use gmp_seq::{Call, Limits, Outcome, Reply};
@@ -83,6 +86,23 @@ impl Scheduler {
         self.counts.get(m.0 as usize).copied().unwrap_or(0)
     }
 
+    /// Whether the machine is parked.
+    pub(crate) fn is_parked(&self, m: MNo) -> bool
+        requires { m.0 < length self.now.state.machines.modes }
+        ensures { result ≡ option_map_or is_parked (slice_get self.now.state.machines.modes m.0) false }
+    {
+        !self.machines.is_awake(m) && !self.machines.is_calling(m)
+    }
+
+    /// Whether somebody is on the shelf.
+    pub(crate) fn has_shelved(&self) -> bool
+        ensures some { result ≡ some_status is_shelved self.now.state.table }
+        // The shelf has each goroutine on it once, and no other.
+        ensures listing { IsListing is_shelved self.now.state.table.goroutines self.now.shelf }
+    {
+        self.goroutines.has_shelved()
+    }
+
     /// What is stored for g, where it is ready.
     pub(crate) fn stored(&self, g: GNo) -> Woke
         ensures { result ≡ stored_at self.now.state.table g }
@@ -95,87 +115,6 @@ impl Scheduler {
         ensures { result ≡ is_outstanding self.now.state.table r }
     {
         self.goroutines.is_outstanding(r)
-    }
-
-    /// m has nothing to do: it parks, unless there is work, or a deadline to mind, or all are asleep.
-    fn park(&mut self, m: MNo) -> Reply
-        requires { IsBare self.old.state.machines m }
-        ensures parks { Parks m result self.old.state self.new.state }
-        ensures shelf { self.new.shelf ≡ self.old.shelf }
-        ensures rest { SameRest self.old self.new }
-    {
-        if self.goroutines.has_shelved() && self.machines.has_idle() {
-            return Reply::Work;
-        }
-        if !self.goroutines.has_astir() {
-            return Reply::AllAsleep;
-        }
-        if let Some(until) = self.goroutines.minded() {
-            return Reply::Mind(until);
-        }
-        self.machines.park(m);
-        Reply::Parked
-    }
-
-    /// The goroutine g that m runs ends, and with goroutine 0 the run.
-    fn exit(&mut self, m: MNo, g: GNo) -> Reply
-        requires runs { IsRunning self.old.state.table g m }
-        requires there { m.0 < self.old.machines }
-        ensures exits { OnTable (Exits g result) self.old.state self.new.state }
-        ensures shelf { self.new.shelf ≡ self.old.shelf }
-        ensures rest { SameRest self.old self.new }
-    {
-        self.goroutines.exit(m, g);
-        if g.0 == 0 {
-            Reply::MainEnded
-        } else {
-            Reply::Dead
-        }
-    }
-
-    /// The goroutine g comes back from the blocking call that m makes. It runs on, and m holds the least idle processor, where one is
-    /// idle; else it goes onto the shelf, to be told the number.
-    fn leave(&mut self, m: MNo, g: GNo, number: u64) -> Reply
-        requires calls { IsCalling self.old.state.table g m }
-        requires free { RunsNothing self.old.state.table m }
-        requires mode { slice_get self.old.state.machines.modes m.0 ≡ Some Mode.Calling }
-        requires young { IsYoung self.old.state }
-        requires there { m.0 < self.old.machines }
-        ensures leaves { Leaves m g number result self.old.state self.new.state }
-        ensures shelf { Shelves (Call.Leave number) result self.old.state.table self.new.state.table self.old.shelf self.new.shelf }
-        ensures choice { Chooses (Call.Leave number) 0 result self.old.state self.old.shelf }
-        ensures rest { SameRest self.old self.new }
-    {
-        match self.machines.leave(m) {
-            Some(p) => {
-                self.goroutines.run_on(m, g);
-                Reply::Runs(p)
-            }
-            None => Reply::Shelved(self.goroutines.come_back(m, g, number)),
-        }
-    }
-
-    /// The goroutine g that m runs takes one of the cases that can proceed, or else the default, or else waits for any of them.
-    fn select(
-        &mut self,
-        m: MNo,
-        g: GNo,
-        cases: &Cases,
-        has_default: bool,
-        until: Option<u64>,
-        word: u64,
-    ) -> Reply
-        requires runs { IsRunning self.old.state.table g m }
-        requires young { IsYoung self.old.state }
-        requires there { m.0 < self.old.machines }
-        ensures selects { Selects g cases.now has_default until result self.old.state self.new.state }
-        ensures choice { IsChoice self.old.state cases.now word result }
-        ensures few { length cases.now ≤ 8 }
-        ensures shelf { self.new.shelf ≡ self.old.shelf }
-        ensures rest { SameRest self.old self.new }
-    {
-        self.goroutines
-            .select(m, g, cases, has_default, until, word)
     }
 
     /// A call of m has its effect. g and p are a goroutine and a processor of m's, where the call is by one.
@@ -233,10 +172,7 @@ impl Scheduler {
                 Reply::Waits
             }
             Call::Ready(h) => self.goroutines.ready(*h),
-            Call::Enter => {
-                self.goroutines.enter(m, g);
-                Reply::Entered(p, self.machines.enter(m, p))
-            }
+            Call::Enter => self.enter(m, g, p),
             Call::Leave(number) => self.leave(m, g, *number),
             Call::Spin => Reply::Answer(self.machines.spin(m)),
             Call::Woken => Reply::Answer(self.machines.woken(m)),

@@ -1,0 +1,137 @@
+-- A step is of the goroutine and the processor that its call was handed.
+use Rattle.std.proofs.Common.{◌≡◌, ◌↔◌, ◌∙◌, ℕ, Bool, true, false, Option, None, Some, List, ◌∷◌, [], if◌then◌else◌, is_some, refl, sym, ap, subst, inl, inr}
+use Rattle.std.proofs.lemmas.Bool.{and_parts, false≢true, or_parts}
+use Rattle.std.specs.List.{list_any}
+use Rattle.std.specs.Option.{option_map_or}
+use Rattle.gmp_base.specs.declared.ask.Woke.{Woke}
+use Rattle.gmp_base.specs.declared.ask.Woke.TheVariants as woke
+use Rattle.gmp_base.specs.declared.cases.Case.{Case}
+use Rattle.gmp_base.specs.declared.number.GNo.{GNo}
+use Rattle.gmp_base.specs.declared.number.MNo.{MNo}
+use Rattle.gmp_base.specs.declared.number.PNo.{PNo}
+use Rattle.gmp_base.specs.declared.number.Readiness.{Readiness}
+use Rattle.gmp_seq.specs.declared.call.Call.TheVariants as call
+use Rattle.gmp_seq.specs.declared.call.Limits.{Limits}
+use Rattle.gmp_seq.specs.declared.call.Reply.{Reply}
+use Rattle.gmp_seq.specs.declared.call.Reply.TheVariants as reply
+use Rattle.gmp_seq.specs.declared.status.Goroutine.{Goroutine}
+use Rattle.gmp_seq.specs.declared.status.Place.TheVariants as place
+use Rattle.gmp_seq.specs.declared.status.Status.{Status}
+use Rattle.gmp_seq.specs.declared.status.Status.TheVariants as status
+use Rattle.gmp_seq.proofs.Asleep.{fails_at}
+use Rattle.gmp_seq.proofs.Needed.{some_place}
+use Rattle.gmp_seq.specs.Laws.{IsInOrder}
+use Rattle.gmp_seq.specs.Machines.{Enters, Holds, Declares}
+use Rattle.gmp_seq.specs.State.{State}
+use Rattle.gmp_seq.specs.Step.{ByRunning, Claims, Exits, Parks, Resumes, Selects}
+use Rattle.gmp_seq.specs.Table.{Table, IsCalling, IsReady, IsRunning, deadline_of, is_astir, is_ready_or_running, is_shelved, least_deadline, least_of, minded, some_status}
+use Rattle.gmp_goroutines.specs.Stored.{stored_at, stored_in}
+use Rattle.gmp_ledger.specs.Laws.{Does}
+
+-- whichever goroutine of the machine's it is, it is this one
+pub by_this : (limits : Limits) (m : MNo) (g : GNo) (s : State) (P : GNo → Type 0) → IsInOrder limits s → IsRunning s.table g m → ByRunning m s P → P g
+by_this limits m g s P order runs (h, here, done) = subst P (order.one_goroutine m h g (inl here) (inl runs)) done
+
+by_caller : (limits : Limits) (m : MNo) (g h : GNo) (s : State) (P : GNo → Type 0) → IsInOrder limits s → IsCalling s.table g m → IsCalling s.table h m → P h → P g
+by_caller limits m g h s P order calls here done = subst P (order.one_goroutine m h g (inr here) (inr calls)) done
+
+-- what is stored for one that is ready is what it is to be told
+stored : (t : Table) (r : Readiness) (answer : Woke) → IsReady t r place.Out answer → IsReady t r place.Out (stored_at t r.g)
+stored t r answer ready =
+    let same : answer ≡ stored_at t r.g = sym (ap (λ (o : Option Goroutine). option_map_or (λ (x : Goroutine). stored_in x.status) o woke.Done) ready) in
+    subst (IsReady t r place.Out) same ready
+
+claims : (m : MNo) (r : Readiness) (answer : Reply) (old new : Table) → Claims m r answer old new → IsReady old r place.Out (stored_at old r.g)
+claims m r reply.Held old new (answer, ready, is) = stored old r answer ready
+claims m r _ old new h = absurd h
+
+pub main_ends : (g : GNo) (answer : Reply) (old new : Table) → Exits g answer old new → answer ≡ reply.MainEnded ↔ (g.0 ≡ 0)
+main_ends g reply.Dead old new (other, is) = (λ e. cc, λ zero. absurd (other zero))
+main_ends g reply.MainEnded old new (zero, is) = (λ e. zero, λ e. refl)
+main_ends g _ old new h = absurd h
+
+-- the processor that the machine gives up is the one that it holds
+enters : (limits : Limits) (m : MNo) (p : PNo) (answer : Reply) (old new : State) → IsInOrder limits old → Holds old.machines m p
+    → Enters m answer old.machines new.machines → (woken : Option MNo) × (answer ≡ reply.Entered p woken)
+enters limits m p (reply.Entered q None) old new order holds (here, rest, is) =
+    (None, ap (λ (x : PNo). reply.Entered x None) (order.one_processor m q p here holds))
+enters limits m p (reply.Entered q (Some n)) old new order holds (here, rest, is) =
+    (Some n, ap (λ (x : PNo). reply.Entered x (Some n)) (order.one_processor m q p here holds))
+enters limits m p _ old new order holds h = absurd h
+
+declares : (limits : Limits) (m : MNo) (p : PNo) (answer : Reply) (old new : State) → IsInOrder limits old → Holds old.machines m p
+    → Declares m answer old.machines new.machines → answer ≡ reply.Idle p
+declares limits m p (reply.Idle q) old new order holds (calm, here, is) = ap reply.Idle (order.one_processor m q p here holds)
+declares limits m p _ old new order holds h = absurd h
+
+-- By call
+
+pub claim : (r : Readiness) → Does (call.Claim r) (λ m g p answer old new. IsReady old.table r place.Out (stored_at old.table r.g))
+claim r limits m g p answer old new order grants (ongoing, (free, equipped, done), counted, ended) = claims m r answer old.table new.table done.0
+
+pub select : (cases : List Case) (has_default : Bool) (until : Option ℕ) → Does (call.Select cases has_default until) (λ m g p answer old new. Selects g cases has_default until answer old new)
+select cases has_default until limits m g p answer old new order grants (ongoing, (few, done), counted, ended) =
+    by_this limits m g old (λ (h : GNo). Selects h cases has_default until answer old new) order grants done
+
+pub entered : Does call.Enter (λ m g p answer old new. (woken : Option MNo) × (answer ≡ reply.Entered p woken))
+entered limits m g p answer old new order (runs, holds, awake) (ongoing, (h, here, (table, done, same)), counted, ended) = enters limits m p answer old new order holds done
+
+pub leave : (number : ℕ) → Does (call.Leave number) (λ m g p answer old new. Resumes g m number answer old.table new.table)
+leave number limits m g p answer old new order (calls, free, mode) (ongoing, (h, here, done, returns, same), counted, ended) =
+    by_caller limits m g h old (λ (k : GNo). Resumes k m number answer old.table new.table) order calls here done
+
+pub declare : Does call.Declare (λ m g p answer old new. answer ≡ reply.Idle p)
+declare limits m g p answer old new order (free, calm, holds) (ongoing, (nothing, done), counted, ended) = declares limits m p answer old new order holds done.0
+
+-- Parks
+
+-- where nobody is astir no deadline stands
+asleep_none : (s : Status) → is_astir s ≡ false → deadline_of s ≡ None
+asleep_none (status.Waiting w) e = by_until w.until e where
+  by_until : (o : Option ℕ) → is_some o ≡ false → o ≡ None
+  by_until None h = refl
+  by_until (Some n) h = cc
+asleep_none (status.Ready at told) e = cc
+asleep_none (status.Running m) e = cc
+asleep_none (status.Calling m) e = cc
+asleep_none _ e = refl
+
+still_least : (xs : List Goroutine) → list_any (λ (x : Goroutine). is_astir x.status) xs ≡ false → least_of xs ≡ None
+still_least [] e = refl
+still_least (x ∷ xs) e =
+    let parts = or_parts _ _ e in
+    rw (asleep_none x.status parts.0) (still_least xs parts.1)
+
+shelved_is_ready : (s : Status) → is_shelved s ≡ true → is_ready_or_running s ≡ true
+shelved_is_ready (status.Ready place.Shelf told) h = refl
+shelved_is_ready (status.Ready place.Out told) h = absurd (false≢true h)
+shelved_is_ready _ h = absurd (false≢true h)
+
+-- a deadline is minded only where nobody is ready or running, and one stands
+minded_parts : (t : Table) (until : ℕ) → minded t ≡ Some until → (some_status is_ready_or_running t ≡ false) × (least_deadline t ≡ Some until)
+minded_parts t until e = by_going (some_status is_ready_or_running t) refl e where
+  by_going : (b : Bool) → some_status is_ready_or_running t ≡ b → (if b then None else least_deadline t) ≡ Some until
+      → (some_status is_ready_or_running t ≡ false) × (least_deadline t ≡ Some until)
+  by_going true is e = cc
+  by_going false is e = (is, e)
+
+says : (m : MNo) (answer : Reply) (until : ℕ) (old new : State) → Parks m answer old new → answer ≡ reply.Mind until → minded old.table ≡ Some until
+says m (reply.Mind n) until old new (none, astir, minds, same) is = minds ∙ ap Some cc
+says m reply.Work until old new h is = cc
+says m reply.AllAsleep until old new h is = cc
+says m reply.Parked until old new h is = cc
+says m _ until old new h is = absurd h
+
+minds : (m : MNo) (answer : Reply) (until : ℕ) (old new : State) → Parks m answer old new → minded old.table ≡ Some until → answer ≡ reply.Mind until
+minds m (reply.Mind n) until old new (none, astir, told, same) is = let both : Some n ≡ Some until = sym told ∙ is in cc
+minds m reply.Work until old new (work, same) is =
+    let spot = some_place (λ (x : Goroutine). is_shelved x.status) old.table.goroutines (and_parts _ _ work).0 in
+    let none = (minded_parts old.table until is).0 in
+    absurd (false≢true (sym (fails_at (λ (x : Goroutine). is_ready_or_running x.status) old.table.goroutines spot.0 spot.1 none spot.2) ∙ shelved_is_ready spot.1.status spot.3))
+minds m reply.AllAsleep until old new (none, asleep, same) is =
+    let both : None ≡ Some until = sym (still_least old.table.goroutines asleep) ∙ (minded_parts old.table until is).1 in cc
+minds m reply.Parked until old new (none, astir, told, same, rest, machines) is = let both : None ≡ Some until = sym told ∙ is in cc
+minds m _ until old new h is = absurd h
+
+pub park_minds : (until : ℕ) → Does call.Park (λ m g p answer old new. answer ≡ reply.Mind until ↔ (minded old.table ≡ Some until))
+park_minds until limits m g p answer old new order grants (ongoing, (bare, done), counted, ended) = (says m answer until old new done, minds m answer until old new done)
