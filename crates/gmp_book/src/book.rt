@@ -1,10 +1,14 @@
 //! The book.
-ghost use Rattle.std.specs.Prelude.{◌≡◌, ◌<◌, ◌++◌, length, OnOk, OnErr, IfOk, IfErr, IfNone};
+ghost use Rattle.std.specs.Prelude.{◌≡◌, ◌<◌, ◌++◌, false, length, slice_get, OnOk, OnErr, IfOk, IfErr, IfNone};
 ghost use Rattle.gmp_base.specs.declared.number.CNo.{CNo};
 ghost use Rattle.gmp_seq.specs.Channels.{items_at};
 ghost use Rattle.gmp_seq.specs.Fits.{AreLimits};
+ghost use Rattle.gmp_seq.specs.Machines.{is_parked};
 ghost use Rattle.gmp_seq.specs.Laws.{IsInOrder, NobodyCouldProceed};
 ghost use Rattle.gmp_seq.specs.Run.{IsLegal, sent, received};
+ghost use Rattle.gmp_seq.specs.Table.{is_shelved};
+ghost use Rattle.gmp_table.specs.Kept.{IsListing};
+ghost use Rattle.std.specs.Option.{option_map_or};
 ghost use Rattle.gmp_ledger.specs.Grants.{Chooses, Grants, NeedsMemory, Suits, WantsMemory};
 ghost use Rattle.gmp_ledger.specs.Handed.{goroutine_in, processor_in};
 ghost use Rattle.gmp_ledger.specs.Log.{Records};
@@ -24,7 +28,7 @@ use crate::opening::{Unopened, first_passes, may_open};
 use crate::values::{
     Values, claimed, handed, is_make, settle_body, settle_owner, ticket_out, told_by, way_of,
 };
-use gmp_base::{Pass, Refusal};
+use gmp_base::{MNo, Pass, Refusal};
 use gmp_ledger::Ledger;
 use gmp_seq::{Call, Entry, Limits, Outcome, Reply};
 use gmp_slots::Slots;
@@ -126,6 +130,8 @@ impl<T, Q> Book<T, Q> {
         // What was sent on a channel is what was received from it, and then what is on its list.
         ensures fifo { (c : CNo) → sent c self.now.log.history ≡ received c self.now.log.history ++ items_at self.now.log.state.channels c }
         ensures waiting { NobodyCouldProceed self.now.log.state }
+        // The shelf has each goroutine on it once, and no other.
+        ensures shelf { IsListing is_shelved self.now.log.state.table.goroutines self.now.log.shelf }
     {
         self.ledger.history()
     }
@@ -137,6 +143,13 @@ impl<T, Q> Book<T, Q> {
         ensures ongoing { IfNone result (length self.now.log.history < self.now.log.limits.entries) }
     {
         self.ledger.outcome()
+    }
+
+    /// Whether the machine is parked.
+    pub fn is_parked(&self, m: MNo) -> bool
+        ensures { result ≡ option_map_or is_parked (slice_get self.now.log.state.machines.modes m.0) false }
+    {
+        self.ledger.is_parked(m)
     }
 
     /// The machine of the pass makes the call, with these values, or it is refused and hands them back. A make is given memory: where
