@@ -25,9 +25,8 @@ mod spinning;
 mod taking;
 
 use crate::opening::{Unopened, first_passes, may_open};
-use crate::values::{
-    Values, claimed, handed, is_make, settle_body, settle_owner, ticket_out, told_by, way_of,
-};
+use crate::settling::{settle_body, settle_owner};
+use crate::values::{Values, claimed, handed, is_make, ticket_out, told_by, way_of};
 use gmp_base::{MNo, Pass, Refusal};
 use gmp_ledger::Ledger;
 use gmp_seq::{Call, Entry, Limits, Outcome, Reply};

@@ -20,6 +20,7 @@ mod book;
 mod opening;
 mod report;
 mod returned;
+mod settling;
 mod values;
 mod went;
 
