@@ -1,8 +1,7 @@
 -- Calls of a goroutine that runs, and calls that move no body and no owner.
-use Rattle.std.proofs.Common.{◌≡◌, ℕ, Bool, true, false, not, Option, None, Some, List, ◌∷◌, [], set, length, length-set, refl, sym, ap, ◌∙◌, inl, inr, ◌⊎◌, if◌then◌else◌, subst}
+use Rattle.std.proofs.Common.{◌≡◌, ℕ, Bool, true, false, not, Option, None, Some, List, set, length, refl, sym, ap, ◌∙◌, inl, inr, if◌then◌else◌, subst}
 use Rattle.std.specs.Prelude.{Result, Ok, Err, OnErr, OnOk, IfOk}
 use Rattle.std.proofs.lemmas.Bool.{false≢true}
-use Rattle.gmp_base.specs.declared.ask.Fault.TheVariants as fault
 use Rattle.gmp_base.specs.declared.cases.Case.{Case}
 use Rattle.gmp_base.specs.declared.cases.Case.TheVariants as case
 use Rattle.gmp_base.specs.declared.number.GNo.{GNo}
@@ -10,7 +9,6 @@ use Rattle.gmp_base.specs.declared.number.MNo.{MNo}
 use Rattle.gmp_base.specs.declared.number.PNo.{PNo}
 use Rattle.gmp_base.specs.declared.pass.Pass.{Pass}
 use Rattle.gmp_base.specs.declared.refusal.Refusal.{Refusal}
-use Rattle.gmp_base.specs.declared.value.Called.{Called}
 use Rattle.gmp_base.specs.declared.value.Held.{Held}
 use Rattle.gmp_seq.specs.declared.call.Call.{Call}
 use Rattle.gmp_seq.specs.declared.call.Call.TheVariants as call
@@ -28,7 +26,6 @@ use Rattle.gmp_ledger.specs.Grants.{Grants, NeedsMemory, Suits, WantsMemory}
 use Rattle.gmp_ledger.specs.Handed.{held_handed}
 use Rattle.gmp_ledger.specs.Log.{Log, Records}
 use Rattle.gmp_ledger.specs.Refusals.{Says}
-use Rattle.gmp_ledger.proofs.Saying.{says_alone}
 use Rattle.gmp_book.specs.declared.went.Moved.{Moved}
 use Rattle.gmp_book.specs.declared.went.Moved.TheVariants as moved
 use Rattle.gmp_book.specs.Book.{BodiesIn, OwnersIn}

@@ -1,5 +1,5 @@
 -- The values that a call is handed are of its machine, and only of the kinds that it takes.
-use Rattle.std.proofs.Common.{◌≡◌, ℕ, Bool, true, false, not, Option, None, Some, refl, sym, ap}
+use Rattle.std.proofs.Common.{◌≡◌, ℕ, Bool, true, false, Option, None, Some, ap}
 use Rattle.std.specs.Option.{option_map, option_map_or}
 use Rattle.gmp_base.specs.declared.number.GNo.{GNo}
 use Rattle.gmp_base.specs.declared.number.MNo.{MNo}
@@ -15,7 +15,7 @@ use Rattle.gmp_seq.specs.Table.{IsCalling, IsRunning, Table}
 use Rattle.gmp_ledger.specs.declared.handed.Handed.{Handed}
 use Rattle.gmp_book.specs.declared.values.Values.{Values}
 use Rattle.gmp_ledger.specs.Grants.{Grants, Suits}
-use Rattle.gmp_ledger.specs.Handed.{called_handed, goroutine_in, held_and_proc_handed, held_handed, nothing_handed, proc_handed, processor_in, ticket_handed}
+use Rattle.gmp_ledger.specs.Handed.{goroutine_in, held_handed, nothing_handed, processor_in, ticket_handed}
 use Rattle.gmp_book.specs.Hands.{handed_of, hands_called, hands_held, hands_proc}
 use Rattle.gmp_base.specs.declared.number.Readiness.{Readiness}
 

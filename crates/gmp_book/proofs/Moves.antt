@@ -21,12 +21,10 @@ use Rattle.gmp_seq.specs.declared.status.Direction.TheVariants.{Sending, Receivi
 use Rattle.gmp_seq.specs.declared.status.Goroutine.{Goroutine}
 use Rattle.gmp_seq.specs.declared.status.Kind.{Kind}
 use Rattle.gmp_seq.specs.declared.status.Offer.{Offer}
-use Rattle.gmp_seq.specs.declared.status.Place.TheVariants.{Out, Shelf}
 use Rattle.gmp_seq.specs.declared.status.Status.{Status}
 use Rattle.gmp_seq.specs.declared.status.Status.TheVariants as status
 use Rattle.gmp_seq.specs.declared.status.Transfer.TheVariants.{Handed, Relayed}
-use Rattle.gmp_seq.specs.declared.status.Wait.{Wait}
-use Rattle.gmp_seq.specs.Machines.{Machines, Enters, Holds, IsIdle}
+use Rattle.gmp_seq.specs.Machines.{Machines, Holds, IsIdle}
 use Rattle.gmp_seq.specs.State.{State, SameTable, SameMachines}
 use Rattle.gmp_seq.specs.Step.{Effect, Communicates, Deals, Selects, Closes, Parks}
 use Rattle.gmp_seq.specs.Table.{Table, IsHeld, IsRunning, due_answer, is_parked, made_wait, status_at, woken_with}

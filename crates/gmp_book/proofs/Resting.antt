@@ -1,13 +1,10 @@
 -- What a machine with nothing to do is told.
-use Rattle.std.proofs.Common.{◌≡◌, ◌≢◌, ◌∙◌, ℕ, Bool, true, false, Option, Some, None, List, [], ◌∷◌, Result, Ok, Err, is_some, if◌then◌else◌, refl, ap, sym, subst}
+use Rattle.std.proofs.Common.{◌≡◌, ◌∙◌, ℕ, Bool, true, false, Option, Some, None, List, [], ◌∷◌, is_some, if◌then◌else◌, refl, ap, sym}
 use Rattle.std.proofs.lemmas.Bool.{and_parts, or_parts, false≢true}
 use Rattle.std.specs.List.{list_any}
-use Rattle.std.specs.Prelude.{◌↔◌, IfOk, IfSome, IfNone}
-use Rattle.gmp_base.specs.declared.number.GNo.{GNo}
+use Rattle.std.specs.Prelude.{◌↔◌}
 use Rattle.gmp_base.specs.declared.number.MNo.{MNo}
-use Rattle.gmp_base.specs.declared.number.Readiness.{Readiness}
 use Rattle.gmp_base.specs.declared.pass.Pass.{Pass}
-use Rattle.gmp_base.specs.declared.refusal.Refusal.{Refusal}
 use Rattle.gmp_seq.specs.declared.call.Call.TheVariants as call
 use Rattle.gmp_seq.specs.declared.call.Reply.TheVariants as reply
 use Rattle.gmp_seq.proofs.Asleep.{fails_at}
@@ -18,7 +15,7 @@ use Rattle.gmp_seq.specs.declared.status.Status.{Status}
 use Rattle.gmp_seq.specs.declared.status.Status.TheVariants as status
 use Rattle.gmp_seq.specs.State.{State}
 use Rattle.gmp_seq.specs.Step.{Parks}
-use Rattle.gmp_seq.specs.Table.{Table, IsAsleep, deadline_of, earlier, is_astir, is_ready_or_running, is_shelved, least_deadline, least_of, minded, set_status, some_status}
+use Rattle.gmp_seq.specs.Table.{Table, IsAsleep, deadline_of, earlier, is_astir, is_ready_or_running, is_shelved, least_deadline, least_of, minded, some_status}
 use Rattle.gmp_book.specs.declared.answers.Parking.{Parking}
 use Rattle.gmp_book.specs.declared.answers.Parking.TheVariants.{Parked, Work, Mind, AllAsleep}
 use Rattle.gmp_ledger.specs.Log.{Log, Records}

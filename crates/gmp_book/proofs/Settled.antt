@@ -1,5 +1,5 @@
 -- Bodies and owners stay in their places by each call that is accepted.
-use Rattle.std.proofs.Common.{◌≡◌, ℕ, Bool, true, false, not, Option, None, Some, List, map, set, length, length-set, slice_get, is_some, refl, sym, ap, ◌∙◌, inl, inr}
+use Rattle.std.proofs.Common.{◌≡◌, ℕ, Bool, true, false, not, Option, None, Some, List, map, set, length, length-set, is_some, refl, sym, ap, ◌∙◌, inl, inr}
 use Rattle.std.specs.Prelude.{is_none}
 use Rattle.gmp_base.specs.declared.ask.Woke.{Woke}
 use Rattle.gmp_base.specs.declared.number.GNo.{GNo}
@@ -12,7 +12,6 @@ use Rattle.gmp_seq.specs.declared.call.Call.{Call}
 use Rattle.gmp_seq.specs.declared.call.Limits.{Limits}
 use Rattle.gmp_seq.specs.declared.call.Reply.{Reply}
 use Rattle.gmp_seq.specs.declared.call.Reply.TheVariants as reply
-use Rattle.gmp_seq.specs.declared.status.Goroutine.{Goroutine}
 use Rattle.gmp_seq.specs.declared.status.Status.{Status}
 use Rattle.gmp_seq.specs.declared.status.Status.TheVariants as status
 use Rattle.gmp_seq.specs.Laws.{IsInOrder}
@@ -32,7 +31,7 @@ use Rattle.gmp_book.specs.Book.{BodiesIn, IsBook, OwnersIn, is_held}
 use Rattle.gmp_book.specs.Hands.{FitsBody, FitsHome, FitsOwner, FitsPlace, HandsBody, HandsOwner, claimed, handed_of, hands_called, hands_held, hands_proc, way_of, with_home, with_owner}
 use Rattle.gmp_book.proofs.Bodies.{filled_at, is_in, set_map, vacant_at}
 use Rattle.gmp_book.proofs.Handing.{CalledBy, HandedBy, HeldBy, ProcBy, handed_by}
-use Rattle.gmp_book.proofs.Moves.{BodyMoves, GivesOwner, Moves, OwnerMoves, TakesOwner, idles, ins, moves}
+use Rattle.gmp_book.proofs.Moves.{BodyMoves, Moves, OwnerMoves, idles, ins, moves}
 
 -- Places
 

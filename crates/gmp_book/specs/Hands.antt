@@ -1,6 +1,6 @@
 -- What a call does with the values that it is handed: one relation for all calls.
-use Rattle.std.specs.Prelude.{◌≡◌, ℕ, Bool, true, false, not, ◌&&◌, Option, None, Some, List, [], ◌∷◌, ◌++◌, slice_get, slice_set, unwrap_or}
-use Rattle.std.specs.Option.{option_map, option_map_or}
+use Rattle.std.specs.Prelude.{◌≡◌, ℕ, Bool, true, false, not, ◌&&◌, Option, None, Some, List, slice_get, slice_set, unwrap_or}
+use Rattle.std.specs.Option.{option_map}
 use Rattle.gmp_base.specs.declared.ask.Woke.{Woke}
 use Rattle.gmp_base.specs.declared.ask.Woke.TheVariants as woke
 use Rattle.gmp_base.specs.declared.number.GNo.{GNo}

@@ -3,8 +3,8 @@ ghost use Rattle.std.specs.Prelude.{◌≡◌, ◌<◌, ◌++◌, false, length,
 ghost use Rattle.gmp_base.specs.declared.number.CNo.{CNo};
 ghost use Rattle.gmp_seq.specs.Channels.{items_at};
 ghost use Rattle.gmp_seq.specs.Fits.{AreLimits};
-ghost use Rattle.gmp_seq.specs.Laws.{IsInOrder, NobodyCouldProceed};
 ghost use Rattle.gmp_seq.specs.Machines.{is_parked};
+ghost use Rattle.gmp_seq.specs.Laws.{IsInOrder, NobodyCouldProceed};
 ghost use Rattle.gmp_seq.specs.Run.{IsLegal, sent, received};
 ghost use Rattle.gmp_seq.specs.Table.{is_shelved};
 ghost use Rattle.gmp_table.specs.Kept.{IsListing};
@@ -25,9 +25,8 @@ mod spinning;
 mod taking;
 
 use crate::opening::{Unopened, first_passes, may_open};
-use crate::values::{
-    Values, claimed, handed, is_make, settle_body, settle_owner, ticket_out, told_by, way_of,
-};
+use crate::settling::{settle_body, settle_owner};
+use crate::values::{Values, claimed, handed, is_make, ticket_out, told_by, way_of};
 use gmp_base::{MNo, Pass, Refusal};
 use gmp_ledger::Ledger;
 use gmp_seq::{Call, Entry, Limits, Outcome, Reply};
@@ -130,7 +129,7 @@ impl<T, Q> Book<T, Q> {
         // What was sent on a channel is what was received from it, and then what is on its list.
         ensures fifo { (c : CNo) → sent c self.now.log.history ≡ received c self.now.log.history ++ items_at self.now.log.state.channels c }
         ensures waiting { NobodyCouldProceed self.now.log.state }
-        // The shelf has each goroutine that is on it once, and no other.
+        // The shelf has each goroutine on it once, and no other.
         ensures listing { IsListing is_shelved self.now.log.state.table.goroutines self.now.log.shelf }
     {
         self.ledger.history()

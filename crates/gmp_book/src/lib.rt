@@ -20,6 +20,7 @@ mod book;
 mod opening;
 mod report;
 mod returned;
+mod settling;
 mod values;
 mod went;
 
@@ -28,5 +29,5 @@ pub use book::Book;
 pub use opening::Unopened;
 pub use report::Report;
 pub use returned::Returned;
-pub use values::{Values, Way};
+pub use values::Values;
 pub use went::{Moved, Went};

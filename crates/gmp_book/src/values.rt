@@ -3,13 +3,12 @@ ghost use Rattle.std.specs.Prelude.{◌≡◌, None, Some};
 ghost use Rattle.std.specs.Option.{option_map};
 ghost use Rattle.gmp_seq.specs.Step.{woke_after};
 ghost use Rattle.gmp_book.specs.Hands as hands;
-ghost use Rattle.gmp_book.specs.Hands.{back_where, FitsBody, FitsOwner, HandsBody, HandsOwner, claimed, handed_of, is_make, ticket_in, way_of};
+ghost use Rattle.gmp_book.specs.Hands.{back_where, claimed, handed_of, is_make, ticket_in, way_of};
 
 use crate::went::handed_back;
 use gmp_base::{Called, Fault, GNo, Held, Proc, Readiness, Refusal, Ticket, Woke};
 use gmp_ledger::Handed;
 use gmp_seq::{Call, Relay, Reply, Taken};
-use gmp_slots::Slots;
 
 /// What a call is handed or hands out: each kind of value once at most. None can be let go.
 pub struct Values<T, Q> {
@@ -343,101 +342,5 @@ pub(crate) fn handed<T, Q>(values: &Values<T, Q>) -> Handed
         held,
         called,
         proc,
-    }
-}
-
-/// The body goes so: the goroutine that asked is told this, or g comes out.
-pub(crate) fn settle_body<T>(
-    bodies: &mut Slots<T>,
-    way: Way,
-    run: u64,
-    g: GNo,
-    told: Woke,
-    held: Option<Held<T>>,
-    called: Option<Called<T>>,
-) -> (Option<Held<T>>, Option<Called<T>>)
-    requires { FitsBody way g held called bodies.old }
-    ensures { HandsBody way run g told held called result.0 result.1 bodies.old bodies.new }
-{
-    match way {
-        Way::Stays => match held {
-            Some(held) => {
-                let (run, g, _, body) = held.open();
-                (Some(Held::of(run, g, told, body)), called)
-            }
-            None => (None, called),
-        },
-        Way::Home => match held {
-            Some(held) => {
-                let (_, g, _, body) = held.open();
-                bodies.put(g.0 as usize, body);
-                (None, called)
-            }
-            None => match called {
-                Some(called) => {
-                    let (_, g, body) = called.open();
-                    bodies.put(g.0 as usize, body);
-                    (None, None)
-                }
-                None => (None, None),
-            },
-        },
-        Way::Out => match held {
-            Some(held) => (Some(held), called),
-            None => {
-                let body = bodies.take(g.0 as usize);
-                (Some(Held::of(run, g, told, body)), called)
-            }
-        },
-        Way::Calls => match held {
-            Some(held) => match called {
-                Some(called) => (Some(held), Some(called)),
-                None => {
-                    let (run, g, _, body) = held.open();
-                    (None, Some(Called::of(run, g, body)))
-                }
-            },
-            None => (None, called),
-        },
-        Way::Returns => match called {
-            Some(called) => match held {
-                Some(held) => (Some(held), Some(called)),
-                None => {
-                    let (run, g, body) = called.open();
-                    (Some(Held::of(run, g, told, body)), None)
-                }
-            },
-            None => (held, None),
-        },
-    }
-}
-
-/// The owner of a processor goes as the reply says.
-pub(crate) fn settle_owner<Q>(
-    owners: &mut Slots<Q>,
-    run: u64,
-    reply: Reply,
-    proc: Option<Proc<Q>>,
-) -> Option<Proc<Q>>
-    requires { FitsOwner reply proc owners.old }
-    ensures { HandsOwner reply run proc result owners.old owners.new }
-{
-    match reply {
-        Reply::Proc(p) | Reply::Runs(p) => match proc {
-            Some(proc) => Some(proc),
-            None => {
-                let owner = owners.take(p.0 as usize);
-                Some(Proc::of(run, p, owner))
-            }
-        },
-        Reply::Entered(_, _) | Reply::Idle(_) => match proc {
-            Some(proc) => {
-                let (_, p, owner) = proc.open();
-                owners.put(p.0 as usize, owner);
-                None
-            }
-            None => None,
-        },
-        _ => proc,
     }
 }

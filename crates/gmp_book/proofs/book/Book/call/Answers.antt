@@ -1,8 +1,3 @@
-use Rattle.std.proofs.Common.{None, subst}
-use Rattle.gmp_ledger.specs.Grants.{WantsMemory}
-use Rattle.gmp_ledger.specs.Refusals.{Says, refusal_of}
-use Rattle.gmp_book.specs.Book.{BookContents}
-use Rattle.gmp_book.specs.Hands.{handed_of}
 use Rattle.gmp_book.proofs.Settled.{body_fits, owner_fits, settled}
 use Rattle.gmp_book.proofs.book.Book.call.Goals as goal
 
