@@ -27,6 +27,7 @@ use Rattle.gmp_book.specs.Book.{BookContents, MayOpen, opening_book, SameValues,
 use Rattle.gmp_ledger.specs.Log.{Log, Records, calls_of}
 use Rattle.gmp_ledger.specs.Handed.{by_proc, by_ticket, nothing_handed}
 use Rattle.gmp_ledger.specs.Refusals.{IsCurrent, refusal_of}
+use Rattle.gmp_ledger.proofs.Granted.{not_false}
 use Rattle.gmp_ledger.proofs.Needed.{out_test}
 use Rattle.gmp_ledger.proofs.Needed as needed
 use Rattle.gmp_cli.proofs.Resting.{waits_machines}
@@ -148,7 +149,7 @@ pub hand_out : {T Q : Type 0} (book : BookContents T Q) (pass : Pass) (queue : L
     → Drives book pass queue capacity hand → is_outstanding book.log.state.table (readiness_of ticket) ≡ true
 hand_out book pass queue capacity hand proc ticket is kept =
     let at = subst (λ (h : Hand). Drives book pass queue capacity h) is kept in
-    out_test book.log.state.table (readiness_of ticket) (first_out book.log.state.table (readiness_of ticket) queue [] at.driven.tickets)
+    not_false _ (out_test book.log.state.table (readiness_of ticket) (first_out book.log.state.table (readiness_of ticket) queue [] at.driven.tickets))
 
 -- the first ticket of the queue goes into the hand
 pub popped_drives : {T Q : Type 0} (book : BookContents T Q) (pass : Pass) (queue rest : List Readiness) (capacity : ℕ) (proc : Proc Unit) (r : Readiness) (ticket : Ticket) → queue ≡ r ∷ rest
