@@ -1,7 +1,7 @@
 //! The channels, and those who wait on them.
 //!
-//! A send, a receive and a withdrawal look at the offers of those who wait, 8 of each goroutine at most; the rest is constant. Only the
-//! opening and `make` take memory.
+//! What asks who waits looks at the offers of those who do, 8 of each goroutine at most: a send, a receive, a withdrawal, `can`,
+//! `first_waiting`, `is_waiting`, `is_later`. The rest is constant. Only the opening and `make` take memory.
 #![tactic(auto)]
 
 mod cases;

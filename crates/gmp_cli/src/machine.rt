@@ -1,4 +1,4 @@
-//! One machine with a processor, and its own queue of tickets: the loop of the driver's table over the book.
+//! One machine with a processor, and its own queue of tickets: the loop of its program over the book.
 ghost use Rattle.std.specs.Prelude.{◌≡◌, ◌⊎◌, ℕ, true, false, None, Some, [], length, slice_set, is_none, IfOk, IfErr, OnOk};
 ghost use Rattle.gmp_base.specs.Values.{readiness_of};
 ghost use Rattle.gmp_seq.specs.Table.{is_outstanding};

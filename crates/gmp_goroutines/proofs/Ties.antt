@@ -285,7 +285,7 @@ module _ (t : Table) (records : List Waiter) (bodies : ℕ) (tied : IsTied t rec
   proceeds_tied old channels (case.Recv (Some c)) Drained new proceeds is = same_tied new is
   proceeds_tied old channels _ how new proceeds is = absurd proceeds
 
--- Facts that a call of the book needs
+-- Facts that the calls need
 
 -- who is served waits
 pub handed_waits : (t : Table) (old new : List Channel) (records : List Waiter) (c : Option CNo) (v : ℕ) (w : Waiter) → records ≡ waiters t

@@ -1,4 +1,4 @@
-//! Goroutines, the channels on which they wait, and who runs where: what a running goroutine does to them, whichever machine it runs on.
+//! Goroutines, the channels on which they wait, and who runs where, tied together: what each call does to them, whichever machine makes it.
 //!
 //! Only `open` and `make` take memory.
 #![tactic(auto)]

@@ -17,7 +17,7 @@ use std::marker::Model;
 
 /// Who holds each processor, what each machine does, and which of them spin. A contract sees the three lists.
 ///
-/// A machine holds one processor at most. Each call but `awake` is constant.
+/// A machine holds one processor at most. Each call but `opening` is constant.
 #[derive(Drop)]
 pub struct Machines {
     processors: Processors,

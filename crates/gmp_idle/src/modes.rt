@@ -11,7 +11,7 @@ use std::marker::Model;
 
 /// What each machine does. A contract sees the list of it.
 ///
-/// Each call but `awake` is constant.
+/// Each call but `all_awake` is constant.
 #[derive(Drop)]
 pub(crate) struct Modes {
     modes: Vec<Mode>,

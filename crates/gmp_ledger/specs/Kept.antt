@@ -1,4 +1,4 @@
--- What the parts of a book keep.
+-- What the parts of a ledger keep.
 use Rattle.std.specs.Prelude.{◌≡◌, ℕ, ◌≤◌}
 use Rattle.gmp_seq.specs.Fits.{AreLimits}
 use Rattle.gmp_seq.specs.Run.{IsLegal}

@@ -1,4 +1,4 @@
--- The run that a book keeps, and what an accepted call adds to it.
+-- The run that a ledger keeps, and what an accepted call adds to it.
 use Rattle.std.specs.Prelude.{◌≡◌, ℕ, ◌+◌, ◌≤◌, List, [], ◌∷◌, ◌++◌, length, slice_index}
 use Rattle.gmp_base.specs.declared.number.GNo.{GNo}
 use Rattle.gmp_base.specs.declared.number.MNo.{MNo}

@@ -22,7 +22,7 @@ impl<T, Q> Book<T, Q> {
     ghost use Rattle.gmp_book.specs.Book.{HandsOut, SameValues, TakesBack};
     ghost use Rattle.gmp_book.specs.Went.{ProceedsOn};
 
-    /// Gives out the ticket of a goroutine on the shelf, if one is on it: as `StatusTable::unshelve`, of the one that is there for longest.
+    /// Gives out the ticket of a goroutine on the shelf, if one is on it: of the one that is there for longest.
     pub fn take(&mut self, pass: &mut Pass) -> Result<Option<Ticket>, Refusal>
         ensures refused { refusal_in result ≡ refusal_of self.old.log pass.old Call.Take nothing_handed }
         ensures err { OnErr result ((self.new ≡ self.old) × (pass.new ≡ pass.old)) }
@@ -36,7 +36,7 @@ impl<T, Q> Book<T, Q> {
         }
     }
 
-    /// Puts a ticket onto the shelf, last as `StatusTable::shelve` does.
+    /// Puts a ticket onto the shelf, last.
     pub fn put(&mut self, pass: &mut Pass, ticket: Ticket) -> Result<(), Refused<Ticket>>
         ensures refused { why_refused result ≡ refusal_of self.old.log pass.old (Call.Put (readiness_of ticket)) (by_ticket ticket) }
         ensures back { IfErr result (λ r. r.back ≡ ticket) }
@@ -93,7 +93,7 @@ impl<T, Q> Book<T, Q> {
         Ok(went)
     }
 
-    /// Puts the goroutine that asks onto the shelf, last as `StatusTable::requeue` does. It is to be told Done.
+    /// Puts the goroutine that asks onto the shelf, last. It is to be told Done.
     pub fn yield_to(&mut self, pass: &mut Pass, held: Held<T>) -> Result<(), Refused<Held<T>>>
         ensures refused { why_refused result ≡ refusal_of self.old.log pass.old Call.Yield (by_held held) }
         ensures back { IfErr result (λ r. r.back ≡ held) }

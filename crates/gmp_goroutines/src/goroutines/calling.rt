@@ -1,4 +1,4 @@
-//! What a running goroutine does that makes a blocking call.
+//! Blocking calls: a goroutine goes into one, and comes back.
 ghost use Rattle.std.specs.Prelude.{◌≡◌, ◌<◌, ◌^◌, ◌∷◌, ◌++◌, []};
 ghost use Rattle.gmp_seq.specs.declared.status.Place.TheVariants.{Shelf};
 ghost use Rattle.gmp_seq.specs.declared.status.Status.{Status};
