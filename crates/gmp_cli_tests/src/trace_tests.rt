@@ -2,6 +2,7 @@
 use crate::tests::settings_of;
 use gmp_cli::step;
 use std::alloc::Global;
+use std::process::Abort;
 use std::test::Fail;
 
 /// A run of the program, and what it is to write. The lines of the script, and the calls from the fourth on with their replies, are parted
@@ -244,17 +245,23 @@ impl Run {
     }
 }
 
+/// Runs the program on the script, and compares its status and what it writes.
+fn play(rt: &impl Abort, alloc: Global, run: Run) -> Result<(), Fail> {
+    let script = run.script(alloc)?;
+    let settings = settings_of(rt, alloc, run.line)?;
+    let mut out = Vec::new(alloc);
+    let ended = step(alloc, &settings, &mut script.as_bytes(), &mut out);
+    assert_eq!(rt; ended.status, run.status);
+    let want = run.trace(alloc)?;
+    assert_eq!(rt; out.as_slice(), want.as_bytes());
+    Ok(())
+}
+
 #[test]
 fn traces_are_written(rt: HostRuntime) -> Result<(), Fail> {
     let alloc = rt.alloc();
     for run in RUNS {
-        let script = run.script(alloc)?;
-        let settings = settings_of(&rt, alloc, run.line)?;
-        let mut out = Vec::new(alloc);
-        let ended = step(alloc, &settings, &mut script.as_bytes(), &mut out);
-        assert_eq!(rt; ended.status, run.status, "{}", run.script);
-        let want = run.trace(alloc)?;
-        assert_eq!(rt; out.as_slice(), want.as_bytes(), "{}", run.script);
+        play(&rt, alloc, run)?;
     }
     Ok(())
 }
