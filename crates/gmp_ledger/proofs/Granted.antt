@@ -17,13 +17,14 @@ use Rattle.gmp_seq.specs.declared.status.Mode.TheVariants as mode
 use Rattle.gmp_seq.specs.declared.status.Status.{Status}
 use Rattle.gmp_seq.specs.declared.status.Status.TheVariants as status
 use Rattle.std.proofs.lemmas.Option.{slice_get-get_or}
+use Rattle.std.proofs.lemmas.List.{length-append}
 use Rattle.std.proofs.lemmas.List.Sums.{get_or-le-sum_by}
 use Rattle.gmp_seq.specs.declared.call.Entry.{Entry}
 use Rattle.gmp_seq.specs.Laws.{HasSizes, IsInOrder}
 use Rattle.gmp_seq.specs.Machines.{IsAwake, IsBare, IsParked, Holds, is_held_by}
-use Rattle.gmp_seq.specs.Run.{Run}
+use Rattle.gmp_seq.specs.Run.{IsLegal, Run}
 use Rattle.gmp_seq.specs.Step.{Effect, outcome_after}
-use Rattle.gmp_seq.proofs.Counts.{legal_total}
+use Rattle.gmp_seq.proofs.Counts.{sum_after}
 use Rattle.gmp_seq.proofs.InOrder.{legal_in_order}
 use Rattle.gmp_seq.proofs.Manned.{status_of}
 use Rattle.gmp_seq.proofs.Needed.{some_place}
@@ -37,7 +38,7 @@ use Rattle.gmp_ledger.specs.Scene.{IsYoung}
 use Rattle.gmp_goroutines.proofs.Running.{running_on}
 use Rattle.gmp_seq.specs.State.{State, opening}
 use Rattle.gmp_seq.specs.Table.{IsRunning, IsCalling, RunsNothing, is_calling_on, is_running_on, some_status, status_at}
-use Rattle.gmp_ledger.specs.Log.{Log}
+use Rattle.gmp_ledger.specs.Log.{Log, entries_made}
 use Rattle.gmp_idle.specs.Replies.{is_awake_mode, is_calling_mode}
 use Rattle.gmp_ledger.specs.Refusals.{IsAllowed, IsCurrent, is_awake, calls_some, is_busy, is_anothers}
 
@@ -68,39 +69,41 @@ holding m (Some (Some n)) e = ap (λ (k : ℕ). Some (Some (record { 0 = k }))) 
 holding m (Some None) e = absurd cc
 holding m None e = absurd cc
 
+-- all entries since the opening lead to the present state
+pub since_opening : (log : Log) (space : ℕ) → (kept : IsKept log space) → IsLegal log.limits log.bodies log.capacities (kept.before ++ log.history) log.state
+since_opening log space kept = run_join log.limits (opening log.limits log.bodies log.capacities) log.start log.state kept.before log.history kept.start kept.legal
+
+pub sizes : (log : Log) (space : ℕ) → IsKept log space → HasSizes log.limits log.bodies log.state
+sizes log space kept = legal_sizes log.limits log.bodies log.capacities (kept.before ++ log.history) log.state kept.within (since_opening log space kept)
+
 pub in_order : (log : Log) (space : ℕ) → IsKept log space → IsInOrder log.limits log.state
-in_order log space kept = legal_in_order log.limits log.bodies log.capacities log.history log.state kept.within kept.legal
+in_order log space kept = legal_in_order log.limits log.bodies log.capacities (kept.before ++ log.history) log.state kept.within (since_opening log space kept)
 
 -- while the run lasts another entry fits
-pub ongoing_room : (old now : Log) (space : ℕ) (o : Option Outcome) → old ≡ now → IsKept old space → old.state.outcome ≡ o → IfNone o (length now.history < now.limits.entries)
+pub ongoing_room : (old now : Log) (space : ℕ) (o : Option Outcome) → old ≡ now → IsKept old space → old.state.outcome ≡ o → IfNone o (entries_made now < now.limits.entries)
 ongoing_room old now space (Some how) is kept lasts = tt
-ongoing_room old now space None is kept lasts =
-    let within = (in_order old space kept).ongoing lasts in
-    let total = legal_total old.limits old.bodies old.capacities old.history old.state kept.legal in
-    subst (λ (l : Log). length l.history < l.limits.entries) is (omega (arith, within, total))
+ongoing_room old now space None is kept lasts = subst (λ (l : Log). entries_made l < l.limits.entries) is ((in_order old space kept).ongoing lasts)
 
 module _ (log : Log) (space : ℕ) (pass : Pass) (kept : IsKept log space) (current : IsCurrent log pass) where
-  sizes : HasSizes log.limits log.bodies log.state
-  sizes = legal_sizes log.limits log.bodies log.capacities log.history log.state kept.within kept.legal
-
-  total : sum log.state.counts ≡ length log.history
-  total = legal_total log.limits log.bodies log.capacities log.history log.state kept.legal
-
   -- the machine has a count
   pub counted : pass.m.0 < length log.state.counts
-  counted = omega (arith, current.machine, sizes.counts)
+  counted = omega (arith, current.machine, (sizes log space kept).counts)
 
   -- another entry fits
-  pub fits : length log.history < log.limits.entries
-  fits = omega (arith, (in_order log space kept).ongoing current.lasts, total)
+  more : entries_made log < log.limits.entries
+  more = (in_order log space kept).ongoing current.lasts
 
-  pub few : slice_index log.state.counts pass.m.0 < 2 ^ 63
-  few =
+  pub fits : length log.history < space
+  fits = omega (arith, more, kept.room)
+
+  pub few : entries_made log < 2 ^ 63
+  few = omega (arith, more, kept.within.entries.1)
+
+  -- the machine's count is no greater
+  pub few_of_machine : slice_index log.state.counts pass.m.0 < 2 ^ 63
+  few_of_machine =
       let most : slice_index log.state.counts pass.m.0 ≤ sum log.state.counts = get_or-le-sum_by (λ (n : ℕ). n) log.state.counts pass.m.0 0 counted in
-      omega (arith, most, total, fits, kept.within.entries.1)
-
-  pub made : length log.history + 1 ≡ sum log.state.counts + 1
-  made = omega (arith, total)
+      omega (arith, most, few)
 
   pub young : IsYoung log.state
   young =
@@ -120,11 +123,15 @@ module _ (log : Log) (space : ℕ) (pass : Pass) (kept : IsKept log space) (curr
       let number : slice_get log.state.counts pass.m.0 ≡ Some (slice_index log.state.counts pass.m.0) = slice_get-get_or log.state.counts pass.m.0 0 counted in
       let e : Entry = record { m = pass.m; k = slice_index log.state.counts pass.m.0; call = call; reply = reply } in
       let one : Run log.limits log.state (e ∷ []) state = (state, (number, (current.lasts, effect, counts, outcome)), refl) in
-      let run = run_join log.limits (opening log.limits log.bodies log.capacities) log.state state log.history (e ∷ []) kept.legal one in
+      let run = run_join log.limits log.start log.state state log.history (e ∷ []) kept.legal one in
+      let made : sum state.counts ≡ entries_made log + 1 = ap (λ (l : List ℕ). sum l) counts ∙ sum_after log.state.counts pass.m.0 (slice_index log.state.counts pass.m.0) number in
+      let longer : length history ≡ length log.history + 1 = ap (λ (l : List Entry). length l) written ∙ length-append log.history (e ∷ []) in
       record {
+        before = kept.before;
+        start = kept.start;
         legal = rw written run;
         within = kept.within;
-        room = rw same kept.room;
+        room = rw same (omega (arith, kept.room, made, longer));
       }
 
   -- a machine that is in no blocking call is awake or parked
@@ -135,7 +142,7 @@ module _ (log : Log) (space : ℕ) (pass : Pass) (kept : IsKept log space) (curr
     by_mode (Some mode.Parked) at = inr at
     by_mode (Some mode.Calling) at = absurd (false≢true (sym free ∙ ap (λ (o : Option Mode). option_map_or is_calling_mode o false) at))
     by_mode None at =
-        let within : pass.m.0 < length log.state.machines.modes = omega (arith, current.machine, sizes.modes) in
+        let within : pass.m.0 < length log.state.machines.modes = omega (arith, current.machine, (sizes log space kept).modes) in
         let both : None ≡ Some (get_or log.state.machines.modes pass.m.0 mode.Awake) = sym at ∙ slice_get-get_or log.state.machines.modes pass.m.0 mode.Awake within in
         absurd cc
 

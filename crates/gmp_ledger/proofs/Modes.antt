@@ -6,13 +6,13 @@ use Rattle.std.specs.Option.{option_map_or}
 use Rattle.gmp_base.specs.declared.number.MNo.{MNo}
 use Rattle.gmp_seq.specs.declared.status.Mode.{Mode}
 use Rattle.gmp_seq.specs.Machines.{is_parked}
-use Rattle.gmp_seq.proofs.Sizes.{legal_sizes}
 use Rattle.gmp_ledger.specs.Kept.{IsKept}
 use Rattle.gmp_ledger.specs.Log.{Log}
+use Rattle.gmp_ledger.proofs.Granted.{sizes}
 
 module _ (log : Log) (space : ℕ) (kept : IsKept log space) (m : MNo) where
   modes : length log.state.machines.modes ≡ log.limits.machines
-  modes = (legal_sizes log.limits log.bodies log.capacities log.history log.state kept.within kept.legal).modes
+  modes = (sizes log space kept).modes
 
   -- each has one
   pub has_mode : m.0 < log.limits.machines → m.0 < length log.state.machines.modes

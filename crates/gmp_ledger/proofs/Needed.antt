@@ -24,7 +24,7 @@ use Rattle.gmp_idle.specs.Replies.{is_awake_mode, is_calling_mode}
 use Rattle.gmp_ledger.specs.declared.handed.Handed.{Handed}
 use Rattle.gmp_ledger.specs.Handed.{called_handed, held_and_proc_handed, held_handed, names_other, nothing_handed, proc_handed, ticket_handed}
 use Rattle.gmp_ledger.specs.Laws.{GrantedWhere}
-use Rattle.gmp_ledger.specs.Log.{Log, calls_of}
+use Rattle.gmp_ledger.specs.Log.{Log, calls_of, entries_made}
 use Rattle.gmp_ledger.specs.Refusals.{IsAllowed, IsCurrent, is_anothers, is_awake, is_busy, is_foreign, is_spent, lacks_processor, need_lines, refusal_of, turn_lines}
 use Rattle.gmp_ledger.proofs.Granted.{awake, calling, holding, not_false, running}
 use Rattle.gmp_ledger.proofs.Lines.{none_holds, none_refuses}
@@ -79,7 +79,7 @@ module _ (log : Log) (pass : Pass) (run : pass.run ≡ log.run) (current : IsCur
       → refusal_of log pass asked values ≡ None
   granted asked values ours free equipped unspent own =
       let there : nat_le log.limits.machines pass.m.0 ≡ false = (let within = current.machine in grind (arith, nat_tests, within)) in
-      let seen : nat_lt (length log.history) pass.seen ≡ false = (let most = current.seen in grind (arith, nat_tests, most)) in
+      let seen : nat_lt (entries_made log) pass.seen ≡ false = (let most = current.seen in grind (arith, nat_tests, most)) in
       let foreign : is_foreign log pass values ≡ false = or_false _ _ (or_false _ _ (same_run pass.run log.run run) there) ours in
       let turn : not (pass.calls == calls_of log pass.m) ≡ false = same_run pass.calls (calls_of log pass.m) current.turn in
       none_refuses (turn_lines log pass values ++ need_lines log.state pass.m asked values)

@@ -1,5 +1,5 @@
 -- The run that a ledger keeps, and what an accepted call adds to it.
-use Rattle.std.specs.Prelude.{◌≡◌, ℕ, ◌+◌, ◌≤◌, List, [], ◌∷◌, ◌++◌, length, slice_index}
+use Rattle.std.specs.Prelude.{◌≡◌, ℕ, ◌+◌, ◌≤◌, List, [], ◌∷◌, ◌++◌, slice_index, sum}
 use Rattle.gmp_base.specs.declared.number.GNo.{GNo}
 use Rattle.gmp_base.specs.declared.number.MNo.{MNo}
 use Rattle.gmp_base.specs.declared.pass.Pass.{Pass}
@@ -11,12 +11,13 @@ use Rattle.gmp_seq.specs.State.{State, opening}
 use Rattle.gmp_seq.specs.Step.{Step}
 use Rattle.gmp_goroutines.specs.Shelf.{Shelves}
 
--- the run's number, what it was opened with, its history, the present state, and who is on the shelf, in order
+-- the run's number, what it was opened with, the state from which its history leads to the present one, and who is on the shelf, in order
 pub record Log : Type 0 where
   pub run : ℕ
   pub limits : Limits
   pub bodies : ℕ
   pub capacities : List ℕ
+  pub start : State
   pub history : List Entry
   pub state : State
   pub shelf : List GNo
@@ -28,29 +29,27 @@ opening_log run limits bodies capacities = record {
   limits = limits;
   bodies = bodies;
   capacities = capacities;
+  start = opening limits bodies capacities;
   history = [];
   state = opening limits bodies capacities;
   shelf = record { 0 = 0 } ∷ [];
 }
 
+-- how many calls were accepted, of all machines and since the opening
+abbrev pub entries_made : Log → ℕ
+entries_made log = sum log.state.counts
+
 -- how many calls of the machine were accepted
 abbrev pub calls_of : Log → MNo → ℕ
 calls_of log m = slice_index log.state.counts m.0
 
--- The call was accepted: its entry goes last, behind as many of its machine's as it counts, and it is a step of the scheduler.
--- The shelf is first in, first out.
-pub record Appends (old : Log) (m : MNo) (call : Call) (reply : Reply) (now : Log) : Type 0 where
-  pub entry : now.history ≡ old.history ++ record { m = m; k = calls_of old m; call = call; reply = reply } ∷ []
-  pub step : Step old.limits m call reply old.state now.state
-  pub shelf : Shelves call reply old.state.table now.state.table old.shelf now.shelf
-  pub opened : now ≡ record old { history = now.history; state = now.state; shelf = now.shelf }
-
--- The same by a pass, which has made one call more from then on, and has seen all.
+-- The call was accepted: its entry goes last, behind as many of its machine's as the pass counts, and it is a step of the scheduler.
+-- The shelf is first in, first out. The pass has made one call more from then on, and has seen all.
 pub record Records (old : Log) (before : Pass) (call : Call) (reply : Reply) (now : Log) (after : Pass) : Type 0 where
   pub entry : now.history ≡ old.history ++ record { m = before.m; k = before.calls; call = call; reply = reply } ∷ []
   pub step : Step old.limits before.m call reply old.state now.state
   pub shelf : Shelves call reply old.state.table now.state.table old.shelf now.shelf
   pub opened : now ≡ record old { history = now.history; state = now.state; shelf = now.shelf }
-  pub pass : after ≡ record before { calls = before.calls + 1; seen = length now.history }
+  pub pass : after ≡ record before { calls = before.calls + 1; seen = entries_made now }
   -- all that the pass had seen comes before the entry
-  pub order : before.seen ≤ length old.history
+  pub order : before.seen ≤ entries_made old

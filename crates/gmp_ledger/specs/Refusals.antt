@@ -1,5 +1,5 @@
 -- When a call is refused, and why.
-use Rattle.std.specs.Prelude.{◌≡◌, ◌⊎◌, ℕ, ◌==◌, ◌<◌, ◌≤◌, Bool, false, not, ◌||◌, if◌then◌else◌, nat_lt, nat_le, is_some, List, [], ◌∷◌, ◌++◌, length, slice_get, Option, Some, None, Result, Ok, Err}
+use Rattle.std.specs.Prelude.{◌≡◌, ◌⊎◌, ℕ, ◌==◌, ◌<◌, ◌≤◌, Bool, false, not, ◌||◌, if◌then◌else◌, nat_lt, nat_le, is_some, List, [], ◌∷◌, ◌++◌, slice_get, Option, Some, None, Result, Ok, Err}
 use Rattle.std.specs.Option.{option_map_or}
 use Rattle.gmp_base.specs.declared.number.GNo.{GNo}
 use Rattle.gmp_base.specs.declared.number.MNo.{MNo}
@@ -17,7 +17,7 @@ use Rattle.gmp_seq.specs.Table.{is_calling_on, is_outstanding, is_running_on, so
 use Rattle.gmp_idle.specs.Replies.{is_awake_mode, is_calling_mode}
 use Rattle.gmp_ledger.specs.declared.handed.Handed.{Handed}
 use Rattle.gmp_ledger.specs.Handed.{names_other}
-use Rattle.gmp_ledger.specs.Log.{Log, calls_of}
+use Rattle.gmp_ledger.specs.Log.{Log, calls_of, entries_made}
 
 -- Tests of the lines
 
@@ -91,7 +91,7 @@ abbrev pub turn_lines : Log → Pass → Handed → List Line
 turn_lines log pass values =
     line (is_foreign log pass values) WrongRun
     ∷ line (not (pass.calls == calls_of log pass.m)) (OutOfTurn (calls_of log pass.m))
-    ∷ line (nat_lt (length log.history) pass.seen) (Behind (length log.history) pass.seen)
+    ∷ line (nat_lt (entries_made log) pass.seen) (Behind (entries_made log) pass.seen)
     ∷ line (is_some log.state.outcome) Over
     ∷ []
 
@@ -114,7 +114,7 @@ refusal_of log pass asked values = first_refusal (turn_lines log pass values ++ 
 pub record IsCurrent (log : Log) (pass : Pass) : Type 0 where
   pub machine : pass.m.0 < log.limits.machines
   pub turn : pass.calls ≡ calls_of log pass.m
-  pub seen : pass.seen ≤ length log.history
+  pub seen : pass.seen ≤ entries_made log
   pub lasts : log.state.outcome ≡ None
 
 -- no line refuses the call

@@ -2,7 +2,8 @@
 ghost use Rattle.std.specs.Prelude.{◌≡◌, ◌<◌, None, false, length, slice_get, IfNone, IfOk, OnErr, OnOk};
 ghost use Rattle.gmp_seq.specs.Fits.{AreLimits};
 ghost use Rattle.gmp_seq.specs.Machines.{is_parked};
-ghost use Rattle.gmp_seq.specs.Run.{IsLegal};
+ghost use Rattle.gmp_seq.specs.Run.{Run};
+ghost use Rattle.gmp_seq.specs.State.{opening};
 ghost use Rattle.gmp_seq.specs.Table.{is_outstanding, is_shelved};
 ghost use Rattle.gmp_table.specs.Kept.{IsListing};
 ghost use Rattle.std.specs.Option.{option_map_or};
@@ -10,7 +11,7 @@ ghost use Rattle.gmp_ledger.specs.Grants.{Chooses, Grants, NeedsMemory, Suits, W
 ghost use Rattle.gmp_ledger.specs.Handed.{goroutine_in, names_other, processor_in};
 ghost use Rattle.gmp_ledger.specs.Known.{known_by};
 ghost use Rattle.gmp_seq.specs.Laws.{IsInOrder};
-ghost use Rattle.gmp_ledger.specs.Log.{Records, opening_log};
+ghost use Rattle.gmp_ledger.specs.Log.{Records, entries_made, opening_log};
 ghost use Rattle.gmp_ledger.specs.Refusals.{IsAllowed, IsCurrent, Says, first_refusal, is_foreign, need_lines, refusal_in, refusal_of, turn_lines};
 
 use crate::handed::Handed;
@@ -22,7 +23,7 @@ use std::marker::Model;
 
 /// A run of the scheduler. A contract sees what it was opened with, its history, and its present state.
 ///
-/// The history is a legal run from the opening to the present state, whatever is called. Only the opening and a make take memory.
+/// The history is a run from a state of a legal run, today the opening, to the present state, whatever is called. Only the opening and a make take memory.
 #[derive(Drop)]
 pub struct Ledger {
     run: u64,
@@ -81,15 +82,16 @@ impl Ledger {
     pub fn outcome(&self) -> Option<Outcome>
         ensures outcome { result ≡ self.now.state.outcome }
         // While the run lasts another entry fits.
-        ensures ongoing { IfNone result (length self.now.history < self.now.limits.entries) }
+        ensures ongoing { IfNone result (entries_made self.now < self.now.limits.entries) }
     {
         self.scheduler.outcome()
     }
 
-    /// Every accepted call with its reply, in order: a legal run.
+    /// Every accepted call with its reply, in order: a legal run from the start.
     pub fn history(&self) -> &[Entry]
         ensures entries { result.now ≡ self.now.history }
-        ensures legal { IsLegal self.now.limits self.now.bodies self.now.capacities self.now.history self.now.state }
+        ensures legal { Run self.now.limits self.now.start self.now.history self.now.state }
+        ensures start { self.now.start ≡ opening self.now.limits self.now.bodies self.now.capacities }
         ensures within { AreLimits self.now.limits self.now.bodies self.now.capacities }
         // The shelf has each goroutine on it once, and no other.
         ensures listing { IsListing is_shelved self.now.state.table.goroutines self.now.shelf }
@@ -103,13 +105,6 @@ impl Ledger {
         ensures { result ≡ is_outstanding self.now.state.table r }
     {
         self.scheduler.is_outstanding(r)
-    }
-
-    /// What it was opened with.
-    pub fn limits(&self) -> Limits
-        ensures { result ≡ self.now.limits }
-    {
-        self.limits
     }
 
     /// Whether the machine is parked.
@@ -161,9 +156,9 @@ impl Ledger {
         if pass.calls != calls {
             return Some(Refusal::OutOfTurn(calls));
         }
-        let length = self.entries.len() as u64;
-        if pass.seen > length {
-            return Some(Refusal::Behind(length, pass.seen));
+        let made = self.scheduler.made();
+        if pass.seen > made {
+            return Some(Refusal::Behind(made, pass.seen));
         }
         if self.scheduler.outcome().is_some() {
             return Some(Refusal::Over);
@@ -199,12 +194,11 @@ impl Ledger {
     {
         let (m, k) = (pass.m, pass.calls);
         let (g, p) = (values.goroutine(), values.processor());
-        let made = self.entries.len() + 1;
         let reply = self
             .scheduler
-            .step(memory, self.limits, m, g, p, &call, word, made)?;
+            .step(memory, self.limits, m, g, p, &call, word)?;
         self.entries.push_reserved(Entry { m, k, call, reply });
-        pass.advance(made as u64);
+        pass.advance(self.scheduler.made());
         Ok(reply)
     }
 
@@ -241,7 +235,8 @@ impl Ledger {
         ensures limits { result.0 ≡ self.limits }
         ensures capacities { result.1.items ≡ self.capacities }
         ensures history { result.2.items ≡ self.history }
-        ensures legal { IsLegal self.limits self.bodies self.capacities self.history self.state }
+        ensures legal { Run self.limits self.start self.history self.state }
+        ensures start { self.start ≡ opening self.limits self.bodies self.capacities }
         ensures within { AreLimits self.limits self.bodies self.capacities }
     {
         let Ledger {

@@ -17,6 +17,7 @@ mod refusing;
 mod resting;
 mod selecting;
 
+use crate::counts::Counts;
 use crate::replies;
 use gmp_base::{Case, GNo, MNo, PNo, Readiness, Woke};
 use gmp_goroutines::Goroutines;
@@ -30,7 +31,7 @@ use std::marker::Model;
 pub(crate) struct Scheduler {
     goroutines: Goroutines,
     machines: Machines,
-    counts: Vec<u64>,
+    counts: Counts,
     outcome: Option<Outcome>,
 }
 
@@ -40,7 +41,7 @@ impl Model for Scheduler {
     ghost Value = { Scene };
 
     ghost view = { λ s. record {
-      state = record { table = s.goroutines.table; channels = s.goroutines.channels; machines = s.machines; counts = s.counts.items; outcome = s.outcome };
+      state = record { table = s.goroutines.table; channels = s.goroutines.channels; machines = s.machines; counts = s.counts; outcome = s.outcome };
       shelf = s.goroutines.shelf;
       limit = s.goroutines.limit;
       machines = s.goroutines.machines;
@@ -67,7 +68,7 @@ impl Scheduler {
                 capacities,
             )?,
             machines: Machines::opening(alloc, limits.procs, limits.machines)?,
-            counts: vec![in alloc; 0; limits.machines as usize]?,
+            counts: Counts::none(alloc, limits.machines)?,
             outcome: None,
         })
     }
@@ -83,7 +84,14 @@ impl Scheduler {
     pub(crate) fn calls(&self, m: MNo) -> u64
         ensures { result ≡ slice_index self.now.state.counts m.0 }
     {
-        self.counts.get(m.0 as usize).copied().unwrap_or(0)
+        self.counts.of(m)
+    }
+
+    /// How many entries there are.
+    pub(crate) fn made(&self) -> u64
+        ensures { result ≡ sum self.now.state.counts }
+    {
+        self.counts.all()
     }
 
     /// Whether the machine is parked.
@@ -191,15 +199,14 @@ impl Scheduler {
         })
     }
 
-    /// m made one entry more, the last of `made`, which was answered so.
-    fn count_one(&mut self, limits: Limits, m: MNo, reply: Reply, made: usize)
+    /// m made one entry more, which was answered so.
+    fn count_one(&mut self, limits: Limits, m: MNo, reply: Reply)
         requires counted { m.0 < length self.old.state.counts }
-        requires few { slice_index self.old.state.counts m.0 < 2 ^ 63 }
-        requires made { made ≡ sum self.old.state.counts + 1 }
+        requires few { sum self.old.state.counts < 2 ^ 63 }
         ensures { self.new ≡ counted_one limits m reply self.old }
     {
-        self.counts[m.0 as usize] += 1;
-        let is_full = made >= limits.entries as usize;
+        self.counts.add_one(m);
+        let is_full = self.counts.all() >= u64::from(limits.entries);
         self.outcome = match reply {
             Reply::MainEnded => Some(Outcome::MainEnded),
             Reply::AllAsleep => Some(Outcome::AllAsleep),
@@ -208,7 +215,7 @@ impl Scheduler {
         };
     }
 
-    /// A call of m is a step, which makes the last of `made` entries.
+    /// A call of m is a step.
     pub(crate) fn step(
         &mut self,
         memory: Option<Global>,
@@ -218,7 +225,6 @@ impl Scheduler {
         p: PNo,
         call: &Call,
         word: u64,
-        made: usize,
     ) -> Result<Reply, AllocError>
         requires lasts { self.old.state.outcome ≡ None }
         requires memory { NeedsMemory call.now memory }
@@ -227,8 +233,7 @@ impl Scheduler {
         requires there { m.0 < self.old.machines }
         requires limit { self.old.limit ≡ limits.channels }
         requires counted { m.0 < length self.old.state.counts }
-        requires few { slice_index self.old.state.counts m.0 < 2 ^ 63 }
-        requires made { made ≡ sum self.old.state.counts + 1 }
+        requires few { sum self.old.state.counts < 2 ^ 63 }
         ensures step { IfOk result (λ reply. Step limits m call.now reply self.old.state self.new.state) }
         ensures shelf { IfOk result (λ reply. Shelves call.now reply self.old.state.table self.new.state.table self.old.shelf self.new.shelf) }
         ensures choice { IfOk result (λ reply. Chooses call.now word reply self.old.state self.old.shelf) }
@@ -238,7 +243,7 @@ impl Scheduler {
         ensures wanted { OnErr result (WantsMemory limits call.now self.old.state) }
     {
         let reply = self.effect(memory, limits, m, g, p, call, word)?;
-        self.count_one(limits, m, reply, made);
+        self.count_one(limits, m, reply);
         Ok(reply)
     }
 }

@@ -5,7 +5,7 @@ use Rattle.gmp_ledger.specs.Handed.{goroutine_in, processor_in}
 use Rattle.gmp_ledger.specs.LedgerView.{log_of}
 use Rattle.gmp_ledger.specs.Log.{Log}
 use Rattle.gmp_ledger.specs.Refusals.{IsAllowed}
-use Rattle.gmp_ledger.proofs.Granted.{counted, few, fits, granted, in_order, kept_on, made, young}
+use Rattle.gmp_ledger.proofs.Granted.{counted, few, few_of_machine, fits, granted, in_order, kept_on, young}
 use Rattle.gmp_ledger.proofs.ledger.Ledger.accept.Goals as goal
 
 pub step-requires-clause-grants : goal.step-requires-clause-grants
@@ -33,25 +33,17 @@ step-requires-clause-few c =
     let allowed = subst (λ (l : Log). IsAllowed l c.args.pass.now c.args.call c.args.values.now) (sym c.self.view_is) c.requires.allowed in
     few (log_of i) _ c.args.pass.now c.self.invariant.0 allowed.current
 
-pub step-requires-clause-made : goal.step-requires-clause-made
-step-requires-clause-made c =
-    let i = c.self.inside in
-    let allowed = subst (λ (l : Log). IsAllowed l c.args.pass.now c.args.call c.args.values.now) (sym c.self.view_is) c.requires.allowed in
-    let all : c.len-made.result ≡ length i.entries.items = search rules in
-    rw all (made (log_of i) _ c.args.pass.now c.self.invariant.0 allowed.current)
-
 pub push_reserved-requires : goal.push_reserved-requires
 push_reserved-requires c =
     let i = c.self.inside in
     let allowed = subst (λ (l : Log). IsAllowed l c.args.pass.now c.args.call c.args.values.now) (sym c.self.view_is) c.requires.allowed in
-    let fitting = fits (log_of i) _ c.args.pass.now c.self.invariant.0 allowed.current in
-    omega (arith, fitting, c.self.invariant.0.room)
+    fits (log_of i) _ c.args.pass.now c.self.invariant.0 allowed.current
 
 pub advance-requires : goal.advance-requires
 advance-requires c =
     let i = c.self.inside in
     let allowed = subst (λ (l : Log). IsAllowed l c.args.pass.now c.args.call c.args.values.now) (sym c.self.view_is) c.requires.allowed in
-    let least = few (log_of i) _ c.args.pass.now c.self.invariant.0 allowed.current in
+    let least = few_of_machine (log_of i) _ c.args.pass.now c.self.invariant.0 allowed.current in
     omega (arith, least, allowed.current.turn)
 
 pub invariant_of-self-2 : goal.invariant_of-self-2
