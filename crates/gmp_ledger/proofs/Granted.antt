@@ -8,7 +8,7 @@ use Rattle.gmp_base.specs.declared.number.PNo.{PNo}
 use Rattle.gmp_base.specs.declared.pass.Pass.{Pass}
 use Rattle.gmp_seq.specs.declared.call.Call.{Call}
 use Rattle.gmp_seq.specs.declared.call.Outcome.{Outcome}
-use Rattle.std.specs.Prelude.{IfNone}
+use Rattle.std.specs.Prelude.{All, IfNone}
 use Rattle.gmp_seq.specs.declared.call.Call.TheVariants as call
 use Rattle.gmp_seq.specs.declared.call.Reply.{Reply}
 use Rattle.gmp_seq.specs.declared.status.Goroutine.{Goroutine}
@@ -18,8 +18,10 @@ use Rattle.gmp_seq.specs.declared.status.Status.{Status}
 use Rattle.gmp_seq.specs.declared.status.Status.TheVariants as status
 use Rattle.std.proofs.lemmas.Option.{slice_get-get_or}
 use Rattle.std.proofs.lemmas.List.{length-append}
+use Rattle.std.proofs.lemmas.List.Elements.{All-append, All-cons, All-nil}
 use Rattle.std.proofs.lemmas.List.Sums.{get_or-le-sum_by}
 use Rattle.gmp_seq.specs.declared.call.Entry.{Entry}
+use Rattle.gmp_seq.specs.Fits.{Fits}
 use Rattle.gmp_seq.specs.Laws.{HasSizes, IsInOrder}
 use Rattle.gmp_seq.specs.Machines.{IsAwake, IsBare, IsParked, Holds, is_held_by}
 use Rattle.gmp_seq.specs.Run.{IsLegal, Run}
@@ -93,8 +95,8 @@ module _ (log : Log) (space : ℕ) (pass : Pass) (kept : IsKept log space) (curr
   more : entries_made log < log.limits.entries
   more = (in_order log space kept).ongoing current.lasts
 
-  pub fits : length log.history < space
-  fits = omega (arith, more, kept.room)
+  pub has_room : length log.history < space
+  has_room = omega (arith, more, kept.room)
 
   pub few : entries_made log < 2 ^ 63
   few = omega (arith, more, kept.within.entries.1)
@@ -118,8 +120,9 @@ module _ (log : Log) (space : ℕ) (pass : Pass) (kept : IsKept log space) (curr
       → history ≡ log.history ++ record { m = pass.m; k = slice_index log.state.counts pass.m.0; call = call; reply = reply } ∷ []
       → state.counts ≡ slice_set log.state.counts pass.m.0 (slice_index log.state.counts pass.m.0 + 1)
       → state.outcome ≡ outcome_after log.limits reply state.counts → space' ≡ space
+      → Fits (record { m = pass.m; k = slice_index log.state.counts pass.m.0; call = call; reply = reply })
       → IsKept (record log { history = history; state = state; shelf = shelf }) space'
-  kept_on call reply history state shelf space' effect written counts outcome same =
+  kept_on call reply history state shelf space' effect written counts outcome same entry_fits =
       let number : slice_get log.state.counts pass.m.0 ≡ Some (slice_index log.state.counts pass.m.0) = slice_get-get_or log.state.counts pass.m.0 0 counted in
       let e : Entry = record { m = pass.m; k = slice_index log.state.counts pass.m.0; call = call; reply = reply } in
       let one : Run log.limits log.state (e ∷ []) state = (state, (number, (current.lasts, effect, counts, outcome)), refl) in
@@ -130,6 +133,7 @@ module _ (log : Log) (space : ℕ) (pass : Pass) (kept : IsKept log space) (curr
         before = kept.before;
         start = kept.start;
         legal = rw written run;
+        fits = subst (All Fits) (sym written) (All-append Fits log.history (e ∷ []) kept.fits (All-cons Fits e [] entry_fits (All-nil Fits)));
         within = kept.within;
         room = rw same (omega (arith, kept.room, made, longer));
       }

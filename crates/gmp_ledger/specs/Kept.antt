@@ -1,17 +1,19 @@
 -- What the parts of a ledger keep.
-use Rattle.std.specs.Prelude.{◌≡◌, ℕ, ◌+◌, ◌≤◌, List, length}
+use Rattle.std.specs.Prelude.{◌≡◌, ℕ, ◌+◌, ◌≤◌, All, List, length}
 use Rattle.gmp_seq.specs.declared.call.Entry.{Entry}
 use Rattle.gmp_seq.specs.declared.call.Limits.{Limits}
-use Rattle.gmp_seq.specs.Fits.{AreLimits}
+use Rattle.gmp_seq.specs.Fits.{AreLimits, Fits}
 use Rattle.gmp_seq.specs.Run.{IsLegal, Run}
 use Rattle.gmp_ledger.specs.Log.{Log, entries_made}
 use Rattle.gmp_ledger.specs.Scene.{Scene}
 
--- the history is a run from a state of a legal run to the present one, under limits in range, and there is room for the rest of it
+-- the history is a run from a state of a legal run to the present one, under limits in range, its numbers are within their types, and
+-- there is room for the rest of it
 pub record IsKept (log : Log) (space : ℕ) : Type 0 where
   pub before : List Entry
   pub start : IsLegal log.limits log.bodies log.capacities before log.start
   pub legal : Run log.limits log.start log.history log.state
+  pub fits : All Fits log.history
   pub within : AreLimits log.limits log.bodies log.capacities
   pub room : length log.history + log.limits.entries ≤ space + entries_made log
 

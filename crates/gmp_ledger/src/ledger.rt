@@ -1,6 +1,6 @@
 //! The run so far, and the call that goes on with it.
-ghost use Rattle.std.specs.Prelude.{◌≡◌, ◌<◌, None, false, length, slice_get, IfNone, IfOk, OnErr, OnOk};
-ghost use Rattle.gmp_seq.specs.Fits.{AreLimits};
+ghost use Rattle.std.specs.Prelude.{◌≡◌, ◌<◌, All, None, false, length, slice_get, IfNone, IfOk, OnErr, OnOk};
+ghost use Rattle.gmp_seq.specs.Fits.{AreLimits, Fits};
 ghost use Rattle.gmp_seq.specs.Machines.{is_parked};
 ghost use Rattle.gmp_seq.specs.Run.{Run};
 ghost use Rattle.gmp_seq.specs.State.{opening};
@@ -92,6 +92,7 @@ impl Ledger {
         ensures entries { result.now ≡ self.now.history }
         ensures legal { Run self.now.limits self.now.start self.now.history self.now.state }
         ensures start { self.now.start ≡ opening self.now.limits self.now.bodies self.now.capacities }
+        ensures fits { All Fits self.now.history }
         ensures within { AreLimits self.now.limits self.now.bodies self.now.capacities }
         // The shelf has each goroutine on it once, and no other.
         ensures listing { IsListing is_shelved self.now.state.table.goroutines self.now.shelf }
@@ -197,7 +198,7 @@ impl Ledger {
         let reply = self
             .scheduler
             .step(memory, self.limits, m, g, p, &call, word)?;
-        self.entries.push_reserved(Entry { m, k, call, reply });
+        self.entries.push_reserved(Entry::new(m, k, call, reply));
         pass.advance(self.scheduler.made());
         Ok(reply)
     }
@@ -237,6 +238,7 @@ impl Ledger {
         ensures history { result.2.items ≡ self.history }
         ensures legal { Run self.limits self.start self.history self.state }
         ensures start { self.start ≡ opening self.limits self.bodies self.capacities }
+        ensures fits { All Fits self.history }
         ensures within { AreLimits self.limits self.bodies self.capacities }
     {
         let Ledger {

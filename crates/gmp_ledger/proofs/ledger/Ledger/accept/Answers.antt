@@ -5,7 +5,7 @@ use Rattle.gmp_ledger.specs.Handed.{goroutine_in, processor_in}
 use Rattle.gmp_ledger.specs.LedgerView.{log_of}
 use Rattle.gmp_ledger.specs.Log.{Log}
 use Rattle.gmp_ledger.specs.Refusals.{IsAllowed}
-use Rattle.gmp_ledger.proofs.Granted.{counted, few, few_of_machine, fits, granted, in_order, kept_on, young}
+use Rattle.gmp_ledger.proofs.Granted.{counted, few, few_of_machine, granted, has_room, in_order, kept_on, young}
 use Rattle.gmp_ledger.proofs.ledger.Ledger.accept.Goals as goal
 
 pub step-requires-clause-grants : goal.step-requires-clause-grants
@@ -37,7 +37,8 @@ pub push_reserved-requires : goal.push_reserved-requires
 push_reserved-requires c =
     let i = c.self.inside in
     let allowed = subst (λ (l : Log). IsAllowed l c.args.pass.now c.args.call c.args.values.now) (sym c.self.view_is) c.requires.allowed in
-    fits (log_of i) _ c.args.pass.now c.self.invariant.0 allowed.current
+    let room = has_room (log_of i) _ c.args.pass.now c.self.invariant.0 allowed.current in
+    omega (arith, room)
 
 pub advance-requires : goal.advance-requires
 advance-requires c =
@@ -53,7 +54,7 @@ invariant_of-self-2 c =
     let k = c.in_ok-reply in
     let step = k.ensures.step in (
       kept_on (log_of i) _ c.args.pass.now c.self.invariant.0 allowed.current c.args.call k.reply c.push_reserved.new.self.items c.step.new.self.state c.step.new.self.shelf _ step.1
-          (rw (← allowed.current.turn) c.push_reserved.ensures.items) step.2 step.3 c.push_reserved.ensures.capacity,
+          (rw (← allowed.current.turn) c.push_reserved.ensures.items) step.2 step.3 c.push_reserved.ensures.capacity (rw (← allowed.current.turn) c.new.ensures.fits),
       record { channels = rw k.ensures.limit c.self.invariant.1.channels; machines = rw k.ensures.machines c.self.invariant.1.machines },
     )
 

@@ -9,12 +9,12 @@ pub returns-clause-selects : goal.returns-clause-selects
 returns-clause-selects c =
     let a = c.args in
     let i = c.self.inside in
-    let new = state_in c.select.new.self i.machines i.counts.items i.outcome in
+    let new = state_in c.select.new.self i.machines i.counts i.outcome in
     subst (λ (s : Scene). Selects a.g a.cases.now a.has_default a.until c.select.result s.state new) c.self.view_is
-    (selects_in a.g a.cases.now a.has_default a.until c.select.result i.goroutines c.select.new.self i.machines i.counts.items i.outcome c.select.ensures.selects)
+    (selects_in a.g a.cases.now a.has_default a.until c.select.result i.goroutines c.select.new.self i.machines i.counts i.outcome c.select.ensures.selects)
 
 pub returns-clause-choice : goal.returns-clause-choice
 returns-clause-choice c =
     let i = c.self.inside in
     subst (λ (s : Scene). IsChoice s.state c.args.cases.now c.args.word c.select.result) c.self.view_is
-    (choice_in c.args.cases.now c.args.word c.select.result i.goroutines i.machines i.counts.items i.outcome c.select.ensures.choice)
+    (choice_in c.args.cases.now c.args.word c.select.result i.goroutines i.machines i.counts i.outcome c.select.ensures.choice)
