@@ -1,5 +1,5 @@
 -- What a contract sees of a book, and what its calls do to it.
-use Rattle.std.specs.Prelude.{◌≡◌, ℕ, ◌==◌, Bool, true, false, not, ◌&&◌, List, [], ◌∷◌, length, map, Option, Some, None, is_some, is_none, slice_get, slice_set}
+use Rattle.std.specs.Prelude.{◌≡◌, ℕ, ◌==◌, All, Bool, true, false, not, ◌&&◌, List, [], ◌∷◌, length, map, Option, Some, None, is_some, is_none, slice_get, slice_set}
 use Rattle.std.specs.List.{range_with_len}
 use Rattle.gmp_base.specs.declared.pass.Pass.{Pass}
 use Rattle.gmp_base.specs.declared.refusal.Refusal.{Refusal}
@@ -10,9 +10,10 @@ use Rattle.gmp_seq.specs.declared.call.Limits.{Limits}
 use Rattle.gmp_seq.specs.declared.status.Goroutine.{Goroutine}
 use Rattle.gmp_seq.specs.declared.status.Status.{Status}
 use Rattle.gmp_seq.specs.declared.status.Status.TheVariants.{Running, Calling}
-use Rattle.gmp_seq.specs.Fits.{AreLimits}
+use Rattle.gmp_seq.specs.Fits.{AreLimits, Fits}
 use Rattle.gmp_seq.specs.Machines.{Machines}
-use Rattle.gmp_seq.specs.Run.{IsLegal}
+use Rattle.gmp_seq.specs.Run.{Run}
+use Rattle.gmp_seq.specs.State.{opening}
 use Rattle.gmp_seq.specs.Table.{Table}
 use Rattle.gmp_slots.specs.Slots.{all_filled}
 use Rattle.gmp_book.specs.declared.report.Report.{Report}
@@ -120,7 +121,7 @@ report_lines book =
     ∷ line (not (all_filled book.bodies && all_filled book.owners)) Busy
     ∷ []
 
--- the report tells the run, whose history is legal, and has all bodies and owners in order
+-- the report tells the run, whose history is a legal run from its start, and has all bodies and owners in order
 pub record IsReport {T Q : Type 0} (book : BookContents T Q) (report : Report T Q) : Type 0 where
   pub limits : report.limits ≡ book.log.limits
   pub capacities : report.capacities.items ≡ book.log.capacities
@@ -129,5 +130,7 @@ pub record IsReport {T Q : Type 0} (book : BookContents T Q) (report : Report T 
   pub bodies : map Some report.bodies.items ≡ book.bodies
   pub owners : map Some report.owners.items ≡ book.owners
   pub stock : length report.bodies.items ≡ book.log.bodies
-  pub legal : IsLegal book.log.limits book.log.bodies book.log.capacities book.log.history book.log.state
+  pub legal : Run book.log.limits book.log.start book.log.history book.log.state
+  pub start : book.log.start ≡ opening book.log.limits book.log.bodies book.log.capacities
+  pub fits : All Fits book.log.history
   pub within : AreLimits book.log.limits book.log.bodies book.log.capacities

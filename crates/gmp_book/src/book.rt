@@ -1,17 +1,18 @@
 //! The book.
-ghost use Rattle.std.specs.Prelude.{◌≡◌, ◌<◌, ◌++◌, false, length, slice_get, OnOk, OnErr, IfOk, IfErr, IfNone};
+ghost use Rattle.std.specs.Prelude.{◌≡◌, ◌<◌, ◌++◌, All, false, length, slice_get, OnOk, OnErr, IfOk, IfErr, IfNone};
 ghost use Rattle.gmp_base.specs.declared.number.CNo.{CNo};
 ghost use Rattle.gmp_seq.specs.Channels.{items_at};
-ghost use Rattle.gmp_seq.specs.Fits.{AreLimits};
+ghost use Rattle.gmp_seq.specs.Fits.{AreLimits, Fits};
 ghost use Rattle.gmp_seq.specs.Machines.{is_parked};
 ghost use Rattle.gmp_seq.specs.Laws.{IsInOrder, NobodyCouldProceed};
-ghost use Rattle.gmp_seq.specs.Run.{IsLegal, sent, received};
+ghost use Rattle.gmp_seq.specs.Run.{Run, sent, received};
+ghost use Rattle.gmp_seq.specs.State.{opening};
 ghost use Rattle.gmp_seq.specs.Table.{is_shelved};
 ghost use Rattle.gmp_table.specs.Kept.{IsListing};
 ghost use Rattle.std.specs.Option.{option_map_or};
 ghost use Rattle.gmp_ledger.specs.Grants.{Chooses, Grants, NeedsMemory, Suits, WantsMemory};
 ghost use Rattle.gmp_ledger.specs.Handed.{goroutine_in, processor_in};
-ghost use Rattle.gmp_ledger.specs.Log.{Records};
+ghost use Rattle.gmp_ledger.specs.Log.{Records, entries_made};
 ghost use Rattle.gmp_ledger.specs.Refusals.{Says, refusal_in, refusal_of};
 ghost use Rattle.gmp_book.specs.Hands.{handed_of};
 
@@ -120,14 +121,16 @@ impl<T, Q> Book<T, Q> {
         Ok((book, passes))
     }
 
-    /// Every accepted call with its reply, in order: a legal run.
+    /// Every accepted call with its reply, in order: a legal run from the start, which is the opening, to the present state.
     pub fn history(&self) -> &[Entry]
         ensures entries { result.now ≡ self.now.log.history }
-        ensures legal { IsLegal self.now.log.limits self.now.log.bodies self.now.log.capacities self.now.log.history self.now.log.state }
+        ensures legal { Run self.now.log.limits self.now.log.start self.now.log.history self.now.log.state }
+        ensures start { self.now.log.start ≡ opening self.now.log.limits self.now.log.bodies self.now.log.capacities }
+        ensures fits { All Fits self.now.log.history }
         ensures within { AreLimits self.now.log.limits self.now.log.bodies self.now.log.capacities }
         ensures values { IsBook self.now }
-        // What was sent on a channel is what was received from it, and then what is on its list.
-        ensures fifo { (c : CNo) → sent c self.now.log.history ≡ received c self.now.log.history ++ items_at self.now.log.state.channels c }
+        // What was on a channel's list at the start and what was sent since is what was received since, and then what is on its list.
+        ensures fifo { (c : CNo) → items_at self.now.log.start.channels c ++ sent c self.now.log.history ≡ received c self.now.log.history ++ items_at self.now.log.state.channels c }
         ensures waiting { NobodyCouldProceed self.now.log.state }
         // The shelf has each goroutine on it once, and no other.
         ensures listing { IsListing is_shelved self.now.log.state.table.goroutines self.now.log.shelf }
@@ -139,7 +142,7 @@ impl<T, Q> Book<T, Q> {
     pub fn outcome(&self) -> Option<Outcome>
         ensures outcome { result ≡ self.now.log.state.outcome }
         // While the run lasts another entry fits.
-        ensures ongoing { IfNone result (length self.now.log.history < self.now.log.limits.entries) }
+        ensures ongoing { IfNone result (entries_made self.now.log < self.now.log.limits.entries) }
     {
         self.ledger.outcome()
     }

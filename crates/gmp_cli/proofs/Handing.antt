@@ -1,7 +1,6 @@
 -- What the machine holds is the book's, call by call.
 use Rattle.std.proofs.Common.{◌≡◌, ℕ, zero, suc, ◌+◌, ◌<◌, ◌≤◌, Bool, true, false, List, [], ◌∷◌, Option, Some, None, length, length-set, map, replicate, set, slice_get, slice_index, is_some, inl, inr, refl, sym, ◌∙◌, ap, subst, arith}
 use Rattle.std.proofs.lemmas.Bool.{and_parts, false≢true}
-use Rattle.std.proofs.lemmas.Grind.{common_steps}
 use Rattle.std.proofs.lemmas.List.{get_or-set_same, length-map, length-replicate}
 use Rattle.std.specs.Option.{option_map}
 use Rattle.std.specs.Prelude.{◌⊎◌, IfSome, MatchOption}
@@ -24,7 +23,7 @@ use Rattle.gmp_book.specs.declared.went.Moved.{Moved}
 use Rattle.gmp_book.specs.declared.went.Moved.TheVariants.{On, Waits}
 use Rattle.gmp_book.proofs.Bodies.{all_filled-map}
 use Rattle.gmp_book.specs.Book.{BookContents, MayOpen, opening_book, SameValues, HandsOut, HandsOutOwner, TakesBack, TakesBackOwner}
-use Rattle.gmp_ledger.specs.Log.{Log, Records, calls_of}
+use Rattle.gmp_ledger.specs.Log.{Log, Records, calls_of, entries_made}
 use Rattle.gmp_ledger.specs.Handed.{by_proc, by_ticket, nothing_handed}
 use Rattle.gmp_ledger.specs.Refusals.{IsCurrent, refusal_of}
 use Rattle.gmp_ledger.proofs.Granted.{not_false}
@@ -94,14 +93,13 @@ goes_on old new before after asked answer records = record {
     bodies = ap (λ (l : Log). l.bodies) records.opened;
     capacities = ap (λ (l : Log). l.capacities) records.opened;
   };
-  longer = rw records.entry (grind (arith, common_steps));
+  longer = records.made;
 }
 
 pub latest_on : (old new : Log) (before after : Pass) (asked : Call) (answer : Reply) → Records old before asked answer new after → IsLatest old before → IsLatest new after
 latest_on old new before after asked answer records latest =
     let m : before.m.0 ≡ machine.0 = ap (λ (k : MNo). k.0) latest.m in
-    let longer = (goes_on old new before after asked answer records).longer in
-    let seen : after.seen ≡ length new.history = ap (λ (p : Pass). p.seen) records.pass in
+    let seen : after.seen ≡ entries_made new = ap (λ (p : Pass). p.seen) records.pass in
     let calls : after.calls ≡ before.calls + 1 = ap (λ (p : Pass). p.calls) records.pass in
     let counts : new.state.counts ≡ set old.state.counts machine.0 (slice_index old.state.counts machine.0 + 1) = subst (λ (k : ℕ). new.state.counts ≡ set old.state.counts k (slice_index old.state.counts k + 1)) m records.step.2 in
     record {

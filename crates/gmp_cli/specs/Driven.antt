@@ -1,5 +1,5 @@
 -- What one machine keeps while it drives a run.
-use Rattle.std.specs.Prelude.{◌≡◌, ℕ, ◌+◌, ◌≤◌, ◌<◌, ◌==◌, Bool, true, false, not, Option, None, Some, List, [], ◌∷◌, ◌++◌, length, map, slice_get, slice_set, nat_lt}
+use Rattle.std.specs.Prelude.{◌≡◌, ℕ, ◌+◌, ◌≤◌, ◌<◌, ◌==◌, All, Bool, true, false, not, Option, None, Some, List, [], ◌∷◌, ◌++◌, length, map, slice_get, slice_set, nat_lt}
 use Rattle.circular_buffer.specs.Buffer.{keep_last}
 use Rattle.gmp_base.specs.declared.ask.Ask.{Ask}
 use Rattle.gmp_base.specs.declared.ask.Ask.TheVariants as ask
@@ -15,7 +15,7 @@ use Rattle.gmp_base.specs.Values.{readiness_of}
 use Rattle.gmp_book.specs.declared.report.Report.{Report}
 use Rattle.gmp_book.specs.Book.{BookContents}
 use Rattle.gmp_goroutines.specs.Choice.{IsChoice}
-use Rattle.gmp_ledger.specs.Log.{Log, calls_of}
+use Rattle.gmp_ledger.specs.Log.{Log, calls_of, entries_made}
 use Rattle.gmp_seq.specs.Table.{is_calling_on}
 use Rattle.gmp_seq.specs.declared.call.Call.{Call}
 use Rattle.gmp_seq.specs.declared.call.Call.TheVariants as call
@@ -24,7 +24,7 @@ use Rattle.gmp_seq.specs.declared.status.Mode.{Mode}
 use Rattle.gmp_seq.specs.declared.status.Mode.TheVariants as mode
 use Rattle.gmp_seq.specs.declared.status.Status.{Status}
 use Rattle.gmp_seq.specs.declared.status.Status.TheVariants.{Running, Calling}
-use Rattle.gmp_seq.specs.Fits.{AreLimits}
+use Rattle.gmp_seq.specs.Fits.{AreLimits, Fits}
 use Rattle.gmp_seq.specs.Machines.{Machines, Holds, has_processor, set_holder, some_idle, spins}
 use Rattle.gmp_seq.specs.Run.{IsLegal}
 use Rattle.gmp_seq.specs.State.{State}
@@ -47,7 +47,7 @@ pub record SameOpening (old new : Log) : Type 0 where
 -- the run goes on by one entry
 pub record AddsEntry (old new : Log) : Type 0 where
   pub opened : SameOpening old new
-  pub longer : length new.history ≡ length old.history + 1
+  pub longer : entries_made new ≡ entries_made old + 1
 
 -- the call that the run goes on by is this
 pub record AddsEntryBy (call : Call) (old new : Log) : Type 0 where
@@ -82,7 +82,8 @@ call_of (ask.Ready g) = call.Ready g
 call_of ask.Block = call.Enter
 call_of ask.Exit = call.Exit
 
--- the report tells a run that was opened so: its history is legal, and its outcome is that of the state that the history leads to
+-- the report tells a run that was opened so: its history is legal, its numbers are within their types, and its outcome is that of the
+-- state that the history leads to
 pub record IsReportOf {T Q : Type 0} (log : Log) (report : Report T Q) : Type 0 where
   pub limits : report.limits ≡ log.limits
   pub bodies : length report.bodies.items ≡ log.bodies
@@ -90,6 +91,7 @@ pub record IsReportOf {T Q : Type 0} (log : Log) (report : Report T Q) : Type 0 
   pub last : State
   pub legal : IsLegal log.limits log.bodies log.capacities report.history.items last
   pub outcome : Some report.outcome ≡ last.outcome
+  pub fits : All Fits report.history.items
   pub within : AreLimits log.limits log.bodies log.capacities
 
 -- The machine
@@ -187,7 +189,7 @@ pub record IsLatest (log : Log) (pass : Pass) : Type 0 where
   pub there : machine.0 < log.limits.machines
   pub counted : machine.0 < length log.state.counts
   pub turn : pass.calls ≡ calls_of log machine
-  pub seen : pass.seen ≤ length log.history
+  pub seen : pass.seen ≤ entries_made log
 
 -- What the machine holds
 

@@ -116,15 +116,15 @@ module _ (log : Log) (space : ℕ) (pass : Pass) (kept : IsKept log space) (curr
       }
 
   -- the run is longer by one step
-  pub kept_on : (call : Call) (reply : Reply) (history : List Entry) (state : State) (shelf : List GNo) (space' : ℕ) → Effect log.limits pass.m call reply log.state state
-      → history ≡ log.history ++ record { m = pass.m; k = slice_index log.state.counts pass.m.0; call = call; reply = reply } ∷ []
+  pub kept_on : (call : Call) (reply : Reply) (history : List Entry) (state : State) (shelf : List GNo) (space' : ℕ) (last : Entry) → Effect log.limits pass.m call reply log.state state
+      → last ≡ record { m = pass.m; k = slice_index log.state.counts pass.m.0; call = call; reply = reply } → Fits last → history ≡ log.history ++ last ∷ []
       → state.counts ≡ slice_set log.state.counts pass.m.0 (slice_index log.state.counts pass.m.0 + 1)
       → state.outcome ≡ outcome_after log.limits reply state.counts → space' ≡ space
-      → Fits (record { m = pass.m; k = slice_index log.state.counts pass.m.0; call = call; reply = reply })
       → IsKept (record log { history = history; state = state; shelf = shelf }) space'
-  kept_on call reply history state shelf space' effect written counts outcome same entry_fits =
+  kept_on call reply history state shelf space' last effect is last_fits ends counts outcome same =
       let number : slice_get log.state.counts pass.m.0 ≡ Some (slice_index log.state.counts pass.m.0) = slice_get-get_or log.state.counts pass.m.0 0 counted in
       let e : Entry = record { m = pass.m; k = slice_index log.state.counts pass.m.0; call = call; reply = reply } in
+      let written : history ≡ log.history ++ e ∷ [] = subst (λ (x : Entry). history ≡ log.history ++ x ∷ []) is ends in
       let one : Run log.limits log.state (e ∷ []) state = (state, (number, (current.lasts, effect, counts, outcome)), refl) in
       let run = run_join log.limits log.start log.state state log.history (e ∷ []) kept.legal one in
       let made : sum state.counts ≡ entries_made log + 1 = ap (λ (l : List ℕ). sum l) counts ∙ sum_after log.state.counts pass.m.0 (slice_index log.state.counts pass.m.0) number in
@@ -133,7 +133,7 @@ module _ (log : Log) (space : ℕ) (pass : Pass) (kept : IsKept log space) (curr
         before = kept.before;
         start = kept.start;
         legal = rw written run;
-        fits = subst (All Fits) (sym written) (All-append Fits log.history (e ∷ []) kept.fits (All-cons Fits e [] entry_fits (All-nil Fits)));
+        fits = subst (All Fits) (sym written) (All-append Fits log.history (e ∷ []) kept.fits (All-cons Fits e [] (subst Fits is last_fits) (All-nil Fits)));
         within = kept.within;
         room = rw same (omega (arith, kept.room, made, longer));
       }

@@ -50,6 +50,8 @@ pub record Records (old : Log) (before : Pass) (call : Call) (reply : Reply) (no
   pub step : Step old.limits before.m call reply old.state now.state
   pub shelf : Shelves call reply old.state.table now.state.table old.shelf now.shelf
   pub opened : now ≡ record old { history = now.history; state = now.state; shelf = now.shelf }
+  -- of all machines one more was made
+  pub made : entries_made now ≡ entries_made old + 1
   pub pass : after ≡ record before { calls = before.calls + 1; seen = entries_made now }
   -- all that the pass had seen comes before the entry
   pub order : before.seen ≤ entries_made old

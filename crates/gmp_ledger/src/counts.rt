@@ -49,7 +49,8 @@ impl Counts {
     pub(crate) fn add_one(&mut self, m: MNo)
         requires there { m.0 < length self.old }
         requires few { sum self.old < 2 ^ 63 }
-        ensures { self.new ≡ slice_set self.old m.0 (slice_index self.old m.0 + 1) }
+        ensures counts { self.new ≡ slice_set self.old m.0 (slice_index self.old m.0 + 1) }
+        ensures all { sum self.new ≡ sum self.old + 1 }
     {
         self.each[m.0 as usize] += 1;
         self.all += 1;

@@ -203,7 +203,8 @@ impl Scheduler {
     fn count_one(&mut self, limits: Limits, m: MNo, reply: Reply)
         requires counted { m.0 < length self.old.state.counts }
         requires few { sum self.old.state.counts < 2 ^ 63 }
-        ensures { self.new ≡ counted_one limits m reply self.old }
+        ensures scene { self.new ≡ counted_one limits m reply self.old }
+        ensures made { sum self.new.state.counts ≡ sum self.old.state.counts + 1 }
     {
         self.counts.add_one(m);
         let is_full = self.counts.all() >= u64::from(limits.entries);
@@ -237,6 +238,7 @@ impl Scheduler {
         ensures step { IfOk result (λ reply. Step limits m call.now reply self.old.state self.new.state) }
         ensures shelf { IfOk result (λ reply. Shelves call.now reply self.old.state.table self.new.state.table self.old.shelf self.new.shelf) }
         ensures choice { IfOk result (λ reply. Chooses call.now word reply self.old.state self.old.shelf) }
+        ensures made { IfOk result (λ reply. sum self.new.state.counts ≡ sum self.old.state.counts + 1) }
         ensures limit { self.new.limit ≡ self.old.limit }
         ensures machines { self.new.machines ≡ self.old.machines }
         ensures err { OnErr result (self.new ≡ self.old) }

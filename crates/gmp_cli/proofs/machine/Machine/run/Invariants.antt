@@ -1,4 +1,5 @@
-use Rattle.std.proofs.Common.{◌-◌, length}
+use Rattle.std.proofs.Common.{◌-◌}
+use Rattle.gmp_ledger.specs.Log.{entries_made}
 use Rattle.gmp_cli.specs.Driven.{Drives, SameOpening}
 use Rattle.gmp_cli.proofs.machine.Machine.run.Given as goal
 
@@ -11,4 +12,4 @@ invariant-loop-alloc l = record {
 
 -- how many entries may still come
 abbrev pub decreases-loop-alloc : goal.decreases-loop-alloc
-decreases-loop-alloc l = l.machine.book.log.limits.entries - length l.machine.book.log.history
+decreases-loop-alloc l = l.machine.book.log.limits.entries - entries_made l.machine.book.log

@@ -53,8 +53,8 @@ invariant_of-self-2 c =
     let allowed = subst (λ (l : Log). IsAllowed l c.args.pass.now c.args.call c.args.values.now) (sym c.self.view_is) c.requires.allowed in
     let k = c.in_ok-reply in
     let step = k.ensures.step in (
-      kept_on (log_of i) _ c.args.pass.now c.self.invariant.0 allowed.current c.args.call k.reply c.push_reserved.new.self.items c.step.new.self.state c.step.new.self.shelf _ step.1
-          (rw (← allowed.current.turn) c.push_reserved.ensures.items) step.2 step.3 c.push_reserved.ensures.capacity (rw (← allowed.current.turn) c.new.ensures.fits),
+      kept_on (log_of i) _ c.args.pass.now c.self.invariant.0 allowed.current c.args.call k.reply c.push_reserved.new.self.items c.step.new.self.state c.step.new.self.shelf _ c.new.result step.1
+          (rw (← allowed.current.turn) c.new.ensures.value) c.new.ensures.fits c.push_reserved.ensures.items step.2 step.3 c.push_reserved.ensures.capacity,
       record { channels = rw k.ensures.limit c.self.invariant.1.channels; machines = rw k.ensures.machines c.self.invariant.1.machines },
     )
 
