@@ -15,7 +15,7 @@ use Rattle.gmp_seq.specs.declared.status.Status.{Status}
 use Rattle.gmp_seq.specs.declared.status.Status.TheVariants.{Waiting}
 use Rattle.gmp_seq.specs.declared.status.Wait.{Wait}
 use Rattle.gmp_seq.specs.declared.status.Waiter.{Waiter}
-use Rattle.gmp_seq.specs.Table.{Table, status_at}
+use Rattle.gmp_seq.specs.Table.{Table}
 use Rattle.gmp_seq.specs.Waits.{as_waiters, arrived, arrived_among, close_answer, closed_answer, first_waiters, waiters}
 use Rattle.gmp_table.specs.declared.wake.Candidate.{Candidate}
 use Rattle.gmp_table.specs.declared.wake.Wake.TheVariants.{Closed}

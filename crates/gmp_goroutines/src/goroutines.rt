@@ -13,7 +13,7 @@ ghost use Rattle.gmp_table.specs.Waking.{IsFirst, answer_of};
 ghost use Rattle.gmp_table.specs.Kept.{IsListing};
 ghost use Rattle.gmp_chan.specs.Order.{are_made, rise};
 ghost use Rattle.gmp_goroutines.specs.Shelf.{Shelves, Wakes};
-ghost use Rattle.gmp_goroutines.specs.Present.{OnlyTable, opening_present};
+ghost use Rattle.gmp_goroutines.specs.Present.{opening_present};
 ghost use Rattle.gmp_goroutines.specs.Stored.{stored_at};
 ghost use Rattle.gmp_goroutines.specs.Replies.{taken, started};
 ghost use Rattle.gmp_goroutines.specs.Tied.{IsEarly};
@@ -167,7 +167,7 @@ impl Goroutines {
     pub fn take(&mut self) -> Option<Readiness>
         ensures takes { Takes (taken result) self.old.table self.new.table }
         ensures shelf { Shelves Call.Take (taken result) self.old.table self.new.table self.old.shelf self.new.shelf }
-        ensures only { OnlyTable self.old self.new }
+        ensures rest { self.new ≡ record self.old { table = self.new.table; shelf = self.new.shelf } }
     {
         self.table.unshelve()
     }
@@ -177,7 +177,7 @@ impl Goroutines {
         requires { is_outstanding self.old.table r ≡ true }
         ensures puts { Puts r Reply.Shelf self.old.table self.new.table }
         ensures last { self.new.shelf ≡ self.old.shelf ++ r.g ∷ [] }
-        ensures only { OnlyTable self.old self.new }
+        ensures rest { self.new ≡ record self.old { table = self.new.table; shelf = self.new.shelf } }
     {
         self.table.shelve(r);
     }
@@ -217,7 +217,7 @@ impl Goroutines {
         requires young { epoch_at self.old.table g < 2 ^ 63 }
         ensures yields { Yields g (Reply.Shelved result) self.old.table self.new.table }
         ensures last { self.new.shelf ≡ self.old.shelf ++ g ∷ [] }
-        ensures only { OnlyTable self.old self.new }
+        ensures rest { self.new ≡ record self.old { table = self.new.table; shelf = self.new.shelf } }
     {
         let r = self.table.requeue(g, Woke::Done);
         self.runners.set(m, None);
@@ -257,7 +257,7 @@ impl Goroutines {
         ensures table { self.new.table ≡ all_woken (answer_of wake) self.old.table }
         ensures count { result ≡ how_many_woken (answer_of wake) self.old.table }
         ensures order { Wakes wake self.old.table self.old.shelf self.new.shelf }
-        ensures only { OnlyTable self.old self.new }
+        ensures rest { self.new ≡ record self.old { table = self.new.table; shelf = self.new.shelf } }
     {
         let bodies = u64::from(self.table.len());
         let mut count = 0;
@@ -276,7 +276,7 @@ impl Goroutines {
         requires young { (g : GNo) → epoch_at self.old.table g < 2 ^ 63 }
         ensures ticks { Ticks moment (Reply.Woke result) self.old.table self.new.table }
         ensures order { Wakes (Wake.Due self.new.table.clock) self.old.table self.old.shelf self.new.shelf }
-        ensures only { OnlyTable self.old self.new }
+        ensures rest { self.new ≡ record self.old { table = self.new.table; shelf = self.new.shelf } }
     {
         let now = self.table.advance_clock(moment);
         self.wake_all(Wake::Due(now))

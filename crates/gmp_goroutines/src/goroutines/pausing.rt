@@ -4,7 +4,6 @@ ghost use Rattle.gmp_seq.specs.declared.call.Reply.{Reply};
 ghost use Rattle.gmp_seq.specs.declared.status.Status.{Status};
 ghost use Rattle.gmp_seq.specs.Step.{Goparks, Readies, Resumes, Sleeps};
 ghost use Rattle.gmp_seq.specs.Table.{IsCalling, IsRunning, RunsNothing, epoch_at, set_status};
-ghost use Rattle.gmp_goroutines.specs.Present.{OnlyTable};
 
 use crate::goroutines::Goroutines;
 use gmp_base::{Fault, GNo, MNo, Readiness, Woke};
@@ -76,7 +75,7 @@ impl Goroutines {
         requires young { epoch_at self.old.table g < 2 ^ 63 }
         ensures resumes { Resumes g m number (Reply.Shelved result) self.old.table self.new.table }
         ensures last { self.new.shelf ≡ self.old.shelf ++ g ∷ [] }
-        ensures only { OnlyTable self.old self.new }
+        ensures rest { self.new ≡ record self.old { table = self.new.table; shelf = self.new.shelf } }
     {
         self.table.requeue(g, Woke::Number(number))
     }

@@ -1,4 +1,4 @@
-use Rattle.std.proofs.Common.{◌≡◌, false, refl, [], ◌∷◌, ◌++◌, Some, is_some, arith, ap, ◌∙◌}
+use Rattle.std.proofs.Common.{◌≡◌, false, refl, rules, [], ◌∷◌, ◌++◌, Some, is_some, arith, ap, ◌∙◌}
 use Rattle.std.proofs.lemmas.List.Sums.{count_by-le-length}
 use Rattle.gmp_base.specs.declared.ask.Woke.{Woke}
 use Rattle.gmp_seq.specs.declared.status.Goroutine.{Goroutine}
@@ -55,21 +55,13 @@ prove-unreachable-requires c =
     let over = c.if-prove.true in
     omega (arith, less, woken.1.counted, most, over, c.len.ensures, c.from-bodies.ensures)
 
-pub returns-clause-table : goal.returns-clause-table
-returns-clause-table c =
-    let woken = c.loop-next.invariant.woken in
-    (all_done c.args.wake c.self.inside.table c.loop-next.self-inside.table woken.0 c.loop-next.count woken.1 c.in_default.ensures).0
-    ∙ ap (λ v. all_woken (answer_of c.args.wake) v.table) c.self.view_is
-
-pub returns-clause-count : goal.returns-clause-count
-returns-clause-count c =
-    let woken = c.loop-next.invariant.woken in
-    (all_done c.args.wake c.self.inside.table c.loop-next.self-inside.table woken.0 c.loop-next.count woken.1 c.in_default.ensures).1
-    ∙ ap (λ v. how_many_woken (answer_of c.args.wake) v.table) c.self.view_is
-
-pub returns-clause-order : goal.returns-clause-order
-returns-clause-order c =
+pub returns : goal.returns
+returns c =
     let woken = c.loop-next.invariant.woken in
     let done = all_done c.args.wake c.self.inside.table c.loop-next.self-inside.table woken.0 c.loop-next.count woken.1 c.in_default.ensures in
-    let rows = ap (λ v. v.table.goroutines) c.self.view_is in
-    (woken.0, rw (← rows) done.2, woken.1.shelf ∙ ap (λ v. v.shelf ++ woken.0) c.self.view_is)
+    record {
+      table = done.0 ∙ ap (λ v. all_woken (answer_of c.args.wake) v.table) c.self.view_is;
+      count = done.1 ∙ ap (λ v. how_many_woken (answer_of c.args.wake) v.table) c.self.view_is;
+      order = (woken.0, rw (← ap (λ v. v.table.goroutines) c.self.view_is) done.2, woken.1.shelf ∙ ap (λ v. v.shelf ++ woken.0) c.self.view_is);
+      rest = search rules;
+    }
