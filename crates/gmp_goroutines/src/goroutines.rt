@@ -1,13 +1,14 @@
 //! The goroutines, the channels on which they wait, and who runs on each machine.
-ghost use Rattle.std.specs.Prelude.{◌≡◌, ◌<◌, ◌≤◌, ◌^◌, ◌++◌, ◌∷◌, [], true, Some, List, IfOk, IfSome, IsTrue, ◌↔◌, option_copied, length, slice_get};
+ghost use Rattle.std.specs.Prelude.{◌≡◌, ◌<◌, ◌≤◌, ◌^◌, ◌++◌, ◌∷◌, [], true, Some, IfOk, IsTrue, ◌↔◌, option_copied, length, slice_get};
 ghost use Rattle.gmp_base.specs.declared.number.GNo.{GNo};
 ghost use Rattle.gmp_seq.specs.declared.call.Reply.{Reply};
 ghost use Rattle.gmp_seq.specs.declared.status.Kind.{Kind};
-ghost use Rattle.gmp_seq.specs.declared.status.Place.TheVariants.{Shelf, Out};
+ghost use Rattle.gmp_seq.specs.declared.status.Place.TheVariants.{Out};
 ghost use Rattle.gmp_seq.specs.declared.status.Status.{Status};
 ghost use Rattle.gmp_seq.specs.Step.{Takes, Puts, Claims, Starts, Yields, Ticks};
-ghost use Rattle.gmp_seq.specs.Table.{IsReady, IsRunning, RunsNothing, all_woken, epoch_at, how_many_woken, is_astir, is_outstanding, is_running_on, is_shelved, made_ready, made_wait, minded, next_of, set_status, some_status, status_at};
+ghost use Rattle.gmp_seq.specs.Table.{IsReady, IsRunning, RunsNothing, all_woken, epoch_at, how_many_woken, is_astir, is_outstanding, is_running_on, is_shelved, made_wait, minded, set_status, some_status, status_at};
 ghost use Rattle.gmp_seq.specs.declared.call.Call.{Call};
+ghost use Rattle.gmp_seq.specs.Waits.{waiters};
 ghost use Rattle.gmp_table.specs.declared.wake.Wake.{Wake};
 ghost use Rattle.gmp_table.specs.Waking.{IsFirst, answer_of};
 ghost use Rattle.gmp_table.specs.Kept.{IsListing};
@@ -17,14 +18,13 @@ ghost use Rattle.gmp_goroutines.specs.Present.{opening_present};
 ghost use Rattle.gmp_goroutines.specs.Stored.{stored_at};
 ghost use Rattle.gmp_goroutines.specs.Replies.{taken, started};
 ghost use Rattle.gmp_goroutines.specs.Tied.{IsEarly};
-ghost use Rattle.gmp_seq.specs.Waits.{waiters};
 
 mod communicating;
 mod pausing;
 mod serving;
 
 use crate::runners::Runners;
-use gmp_base::{CNo, Fault, GNo, MNo, Readiness, Woke};
+use gmp_base::{Fault, GNo, MNo, Readiness, Woke};
 use gmp_chan::Channels;
 use gmp_seq::{Goroutine, Kind, Offers, Status};
 use gmp_table::{Candidate, Rank, StatusTable, Wake};

@@ -1,5 +1,5 @@
 //! Sends, receives and selects: a case proceeds and serves who waits for it, or the goroutine waits itself.
-ghost use Rattle.std.specs.Prelude.{◌≡◌, ◌<◌, ◌^◌, ◌≤◌, ℕ, Some, None, IfNone, IfSome, is_some, true, false, length, slice_get};
+ghost use Rattle.std.specs.Prelude.{◌≡◌, ◌<◌, ◌^◌, ◌≤◌, Some, None, IfNone, IfSome, is_some, true, false, length, slice_get};
 ghost use Rattle.gmp_base.specs.declared.cases.Case.{Case};
 ghost use Rattle.gmp_base.specs.declared.number.GNo.{GNo};
 ghost use Rattle.gmp_seq.specs.declared.status.Kind.{Kind};
