@@ -1,4 +1,3 @@
-pub mod Answered
 pub mod Arrivals
 pub mod Closing
 pub mod Ties

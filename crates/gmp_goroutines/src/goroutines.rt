@@ -1,31 +1,30 @@
 //! The goroutines, the channels on which they wait, and who runs on each machine.
-ghost use Rattle.std.specs.Prelude.{◌≡◌, ◌<◌, ◌≤◌, ◌^◌, ◌++◌, ◌∷◌, [], true, Some, List, IfOk, IfSome, IsTrue, ◌↔◌, option_copied, length, slice_get};
+ghost use Rattle.std.specs.Prelude.{◌≡◌, ◌<◌, ◌≤◌, ◌^◌, ◌++◌, ◌∷◌, [], true, Some, IfOk, IsTrue, ◌↔◌, option_copied, length, slice_get};
 ghost use Rattle.gmp_base.specs.declared.number.GNo.{GNo};
 ghost use Rattle.gmp_seq.specs.declared.call.Reply.{Reply};
 ghost use Rattle.gmp_seq.specs.declared.status.Kind.{Kind};
-ghost use Rattle.gmp_seq.specs.declared.status.Place.TheVariants.{Shelf, Out};
+ghost use Rattle.gmp_seq.specs.declared.status.Place.TheVariants.{Out};
 ghost use Rattle.gmp_seq.specs.declared.status.Status.{Status};
-ghost use Rattle.gmp_seq.specs.Step.{Takes, Puts, Claims, Starts, Ticks};
-ghost use Rattle.gmp_seq.specs.Table.{IsReady, IsRunning, RunsNothing, all_woken, epoch_at, how_many_woken, is_astir, is_outstanding, is_running_on, is_shelved, made_ready, made_wait, minded, next_of, set_status, some_status, status_at};
+ghost use Rattle.gmp_seq.specs.Step.{Takes, Puts, Claims, Starts, Yields, Ticks};
+ghost use Rattle.gmp_seq.specs.Table.{IsReady, IsRunning, RunsNothing, all_woken, epoch_at, how_many_woken, is_astir, is_outstanding, is_running_on, is_shelved, made_wait, minded, set_status, some_status, status_at};
 ghost use Rattle.gmp_seq.specs.declared.call.Call.{Call};
+ghost use Rattle.gmp_seq.specs.Waits.{waiters};
 ghost use Rattle.gmp_table.specs.declared.wake.Wake.{Wake};
 ghost use Rattle.gmp_table.specs.Waking.{IsFirst, answer_of};
 ghost use Rattle.gmp_table.specs.Kept.{IsListing};
 ghost use Rattle.gmp_chan.specs.Order.{are_made, rise};
 ghost use Rattle.gmp_goroutines.specs.Shelf.{Shelves, Wakes};
-ghost use Rattle.gmp_goroutines.specs.Present.{OnlyTable, opening_present};
+ghost use Rattle.gmp_goroutines.specs.Present.{opening_present};
 ghost use Rattle.gmp_goroutines.specs.Stored.{stored_at};
 ghost use Rattle.gmp_goroutines.specs.Replies.{taken, started};
-ghost use Rattle.gmp_goroutines.specs.Tied.{IsTied};
+ghost use Rattle.gmp_goroutines.specs.Tied.{IsEarly};
 
-mod calling;
 mod communicating;
 mod pausing;
-mod selecting;
 mod serving;
 
 use crate::runners::Runners;
-use gmp_base::{CNo, Fault, GNo, MNo, Readiness, Woke};
+use gmp_base::{Fault, GNo, MNo, Readiness, Woke};
 use gmp_chan::Channels;
 use gmp_seq::{Goroutine, Kind, Offers, Status};
 use gmp_table::{Candidate, Rank, StatusTable, Wake};
@@ -50,48 +49,28 @@ impl Model for Goroutines {
 
     ghost view = { λ g. record { table = g.table.table; shelf = g.table.shelf; channels = g.channels.channels; limit = g.channels.limit; machines = length g.runners } };
 
-    ghost invariant = { λ g. IsTied g.table.table g.channels.waiters g.channels.bodies × AreRunners g.table.table (length g.runners) g.runners };
-}
-
-/// Starts a body, where there is one that is dormant.
-fn start(table: &mut StatusTable, body: GNo) -> Result<Readiness, Fault>
-    requires { epoch_at table.old.table body < 2 ^ 63 }
-    ensures starts { Starts body (started result) table.old.table table.new.table }
-    ensures shelf { table.new.shelf ≡ table.old.shelf }
-{
-    match table.get(body) {
-        None => Err(Fault::NoSuchBody),
-        Some(row) => match row.status {
-            Status::Dormant => Ok(table.start(body)),
-            _ => Err(Fault::AlreadyStarted),
-        },
-    }
-}
-
-/// Who of those that wait on a channel is woken first by its close, and what it is told.
-fn first_waiting(table: &StatusTable, channels: &Channels, c: CNo) -> Option<Candidate>
-    requires { IsTied table.now.table channels.now.waiters channels.now.bodies }
-    ensures { IsFirst (Wake.Closed c) table.now.table.goroutines (length table.now.table.goroutines) result }
-{
-    let w = channels.first_waiting(c)?;
-    Some(Candidate {
-        g: w.g,
-        rank: Rank {
-            moment: 0,
-            arrival: w.arrival,
-        },
-        woke: w.offer.closed_answer(w.kind),
-    })
+    ghost invariant = { λ g. IsTied g.table.table g.channels.waiters g.channels.bodies × AreRunners g.table.table g.runners };
 }
 
 /// Who is woken next, and what it is told.
 fn next_to_wake(table: &StatusTable, channels: &Channels, wake: Wake) -> Option<Candidate>
-    requires { IsTied table.now.table channels.now.waiters channels.now.bodies }
+    requires same { channels.now.waiters ≡ waiters table.now.table }
+    requires early { IsEarly table.now.table }
     ensures { IsFirst wake table.now.table.goroutines (length table.now.table.goroutines) result }
 {
     match wake {
-        Wake::Closed(c) => first_waiting(table, channels, c),
         Wake::Due(now) => table.due(now),
+        Wake::Closed(c) => {
+            let w = channels.first_waiting(c)?;
+            Some(Candidate {
+                g: w.g,
+                rank: Rank {
+                    moment: 0,
+                    arrival: w.arrival,
+                },
+                woke: w.offer.closed_answer(w.kind),
+            })
+        }
     }
 }
 
@@ -188,7 +167,7 @@ impl Goroutines {
     pub fn take(&mut self) -> Option<Readiness>
         ensures takes { Takes (taken result) self.old.table self.new.table }
         ensures shelf { Shelves Call.Take (taken result) self.old.table self.new.table self.old.shelf self.new.shelf }
-        ensures only { OnlyTable self.old self.new }
+        ensures rest { self.new ≡ record self.old { table = self.new.table; shelf = self.new.shelf } }
     {
         self.table.unshelve()
     }
@@ -198,7 +177,7 @@ impl Goroutines {
         requires { is_outstanding self.old.table r ≡ true }
         ensures puts { Puts r Reply.Shelf self.old.table self.new.table }
         ensures last { self.new.shelf ≡ self.old.shelf ++ r.g ∷ [] }
-        ensures only { OnlyTable self.old self.new }
+        ensures rest { self.new ≡ record self.old { table = self.new.table; shelf = self.new.shelf } }
     {
         self.table.shelve(r);
     }
@@ -210,8 +189,7 @@ impl Goroutines {
         requires there { m.0 < self.old.machines }
         ensures claims { Claims m r Reply.Held self.old.table self.new.table }
         ensures answer { IsReady self.old.table r Out result }
-        ensures shelf { self.new.shelf ≡ self.old.shelf }
-        ensures only { OnlyTable self.old self.new }
+        ensures rest { self.new ≡ record self.old { table = self.new.table } }
     {
         let woke = self.table.claim(m, r);
         self.runners.set(m, Some(r.g));
@@ -222,21 +200,24 @@ impl Goroutines {
     pub fn go(&mut self, body: GNo) -> Result<Readiness, Fault>
         requires young { epoch_at self.old.table body < 2 ^ 63 }
         ensures starts { Starts body (started result) self.old.table self.new.table }
-        ensures shelf { self.new.shelf ≡ self.old.shelf }
-        ensures only { OnlyTable self.old self.new }
+        ensures rest { self.new ≡ record self.old { table = self.new.table } }
     {
-        start(&mut self.table, body)
+        match self.table.get(body) {
+            None => Err(Fault::NoSuchBody),
+            Some(row) => match row.status {
+                Status::Dormant => Ok(self.table.start(body)),
+                _ => Err(Fault::AlreadyStarted),
+            },
+        }
     }
 
     /// g, which m runs, goes onto the shelf, last.
     pub fn yield_to(&mut self, m: MNo, g: GNo) -> Readiness
         requires runs { IsRunning self.old.table g m }
         requires young { epoch_at self.old.table g < 2 ^ 63 }
-        requires there { m.0 < self.old.machines }
-        ensures ticket { result ≡ next_of self.old.table g }
-        ensures table { self.new.table ≡ made_ready self.old.table g Shelf Woke.Done }
+        ensures yields { Yields g (Reply.Shelved result) self.old.table self.new.table }
         ensures last { self.new.shelf ≡ self.old.shelf ++ g ∷ [] }
-        ensures only { OnlyTable self.old self.new }
+        ensures rest { self.new ≡ record self.old { table = self.new.table; shelf = self.new.shelf } }
     {
         let r = self.table.requeue(g, Woke::Done);
         self.runners.set(m, None);
@@ -246,10 +227,8 @@ impl Goroutines {
     /// g, which m runs, ends.
     pub fn exit(&mut self, m: MNo, g: GNo)
         requires runs { IsRunning self.old.table g m }
-        requires there { m.0 < self.old.machines }
         ensures table { self.new.table ≡ set_status self.old.table g Status.Dead }
-        ensures shelf { self.new.shelf ≡ self.old.shelf }
-        ensures only { OnlyTable self.old self.new }
+        ensures rest { self.new ≡ record self.old { table = self.new.table } }
     {
         self.table.dead(g);
         self.runners.set(m, None);
@@ -259,14 +238,12 @@ impl Goroutines {
     fn wait(&mut self, m: MNo, g: GNo, kind: Kind, offers: Offers, until: Option<u64>)
         requires runs { IsRunning self.old.table g m }
         requires few { self.old.table.arrivals < 2 ^ 63 }
-        requires there { m.0 < self.old.machines }
         // Who is parked offers nothing.
         requires bare { kind ≡ Kind.Parked → offers ≡ [] }
         requires rising { rise offers ≡ true }
         requires made { are_made self.old.channels offers ≡ true }
         ensures table { self.new.table ≡ made_wait self.old.table g kind offers until }
-        ensures shelf { self.new.shelf ≡ self.old.shelf }
-        ensures only { OnlyTable self.old self.new }
+        ensures rest { self.new ≡ record self.old { table = self.new.table } }
     {
         self.channels
             .wait_on(g, self.table.arrivals(), kind, &offers);
@@ -280,7 +257,7 @@ impl Goroutines {
         ensures table { self.new.table ≡ all_woken (answer_of wake) self.old.table }
         ensures count { result ≡ how_many_woken (answer_of wake) self.old.table }
         ensures order { Wakes wake self.old.table self.old.shelf self.new.shelf }
-        ensures only { OnlyTable self.old self.new }
+        ensures rest { self.new ≡ record self.old { table = self.new.table; shelf = self.new.shelf } }
     {
         let bodies = u64::from(self.table.len());
         let mut count = 0;
@@ -299,7 +276,7 @@ impl Goroutines {
         requires young { (g : GNo) → epoch_at self.old.table g < 2 ^ 63 }
         ensures ticks { Ticks moment (Reply.Woke result) self.old.table self.new.table }
         ensures order { Wakes (Wake.Due self.new.table.clock) self.old.table self.old.shelf self.new.shelf }
-        ensures only { OnlyTable self.old self.new }
+        ensures rest { self.new ≡ record self.old { table = self.new.table; shelf = self.new.shelf } }
     {
         let now = self.table.advance_clock(moment);
         self.wake_all(Wake::Due(now))

@@ -1,5 +1,5 @@
 //! Who runs on each machine.
-ghost use Rattle.std.specs.Prelude.{◌≡◌, ◌<◌, None, length, replicate, slice_get, slice_set, IfOk};
+ghost use Rattle.std.specs.Prelude.{◌≡◌, None, replicate, slice_get, slice_set, IfOk};
 ghost use Rattle.gmp_goroutines.specs.Runners.{is_runner};
 
 use gmp_base::{GNo, MNo};
@@ -37,11 +37,12 @@ impl Runners {
         matches!(self.list.get(m.0 as usize), Some(Some(_)))
     }
 
-    /// Says whom m runs.
+    /// Says whom m runs, where there is such a machine.
     pub(crate) fn set(&mut self, m: MNo, runner: Option<GNo>)
-        requires { m.0 < length self.old }
         ensures { self.new ≡ slice_set self.old m.0 runner }
     {
-        self.list[m.0 as usize] = runner;
+        if let Some(place) = self.list.get_mut(m.0 as usize) {
+            *place = runner;
+        }
     }
 }

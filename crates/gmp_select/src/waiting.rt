@@ -1,5 +1,5 @@
 //! Who waits for any of its cases, and the case that proceeds.
-ghost use Rattle.std.specs.Prelude.{◌≡◌, ◌<◌, ◌++◌, Some, true, count_by, is_some, IfNone, IfSome};
+ghost use Rattle.std.specs.Prelude.{◌≡◌, ◌<◌, ◌≤◌, ◌++◌, Some, true, count_by, length, is_some, IfNone, IfSome};
 ghost use Rattle.gmp_seq.specs.declared.status.Kind.{Kind};
 ghost use Rattle.gmp_seq.specs.declared.status.Waiter.{Waiter};
 ghost use Rattle.gmp_seq.specs.Waits.{Proceeds, as_waiters, can, channel_of, names_no_missing, offers_of};
@@ -14,7 +14,8 @@ use gmp_seq::{Kind, Offers, Transfer, channel_of};
 
 /// Whether each case names nil or a channel that was made.
 pub fn are_made(channels: &Channels, cases: &Cases) -> bool
-    ensures { result ≡ list_all (λ c. names_no_missing channels.now.channels (channel_of c)) cases.now }
+    ensures made { result ≡ list_all (λ c. names_no_missing channels.now.channels (channel_of c)) cases.now }
+    ensures few { length cases.now ≤ 8 }
 {
     cases
         .as_slice()

@@ -1,5 +1,5 @@
 //! What a running goroutine does with channels.
-ghost use Rattle.std.specs.Prelude.{◌≡◌, ◌<◌, ◌≤◌, ◌^◌, ◌++◌, ℕ, Some, List, IfOk, OnOk, OnErr, length};
+ghost use Rattle.std.specs.Prelude.{◌≡◌, ◌<◌, ◌≤◌, ◌^◌, Some, IfOk, OnOk, OnErr, length};
 ghost use Rattle.gmp_base.specs.declared.number.GNo.{GNo};
 ghost use Rattle.gmp_base.specs.declared.number.CNo.{CNo};
 ghost use Rattle.gmp_seq.specs.declared.call.Limits.{Limits};
@@ -9,7 +9,7 @@ ghost use Rattle.gmp_seq.specs.Step.{Closes, Makes, Tells};
 ghost use Rattle.gmp_seq.specs.Table.{epoch_at};
 ghost use Rattle.gmp_seq.specs.declared.call.Call.{Call};
 ghost use Rattle.gmp_goroutines.specs.Shelf.{Shelves};
-ghost use Rattle.gmp_goroutines.specs.Present.{SameSizes, state_of};
+ghost use Rattle.gmp_goroutines.specs.Present.{state_of};
 
 use crate::goroutines::Goroutines;
 use gmp_base::{CNo, Fault};
@@ -40,7 +40,7 @@ impl Goroutines {
         requires young { (g : GNo) → epoch_at self.old.table g < 2 ^ 63 }
         ensures closes { Closes c result (state_of self.old) (state_of self.new) }
         ensures shelf { Shelves (Call.Close c) result self.old.table self.new.table self.old.shelf self.new.shelf }
-        ensures sizes { SameSizes self.old self.new }
+        ensures rest { self.new ≡ record self.old { table = self.new.table; shelf = self.new.shelf; channels = self.new.channels } }
     {
         let Some(c) = c else {
             return Reply::Fault(Fault::CloseOfNil);

@@ -1,42 +1,21 @@
-//! What a running goroutine does with time, and with those that are parked.
-ghost use Rattle.std.specs.Prelude.{◌≡◌, ◌<◌, ◌^◌, [], None, Some};
+//! How a goroutine pauses and comes back: by itself, or by a blocking call.
+ghost use Rattle.std.specs.Prelude.{◌≡◌, ◌<◌, ◌^◌, ◌∷◌, ◌++◌, []};
 ghost use Rattle.gmp_seq.specs.declared.call.Reply.{Reply};
-ghost use Rattle.gmp_seq.specs.declared.status.Kind.{Kind};
-ghost use Rattle.gmp_seq.specs.Step.{Readies};
-ghost use Rattle.gmp_seq.specs.Table.{IsRunning, epoch_at, made_wait};
-ghost use Rattle.gmp_goroutines.specs.Present.{OnlyTable};
+ghost use Rattle.gmp_seq.specs.declared.status.Status.{Status};
+ghost use Rattle.gmp_seq.specs.Step.{Goparks, Readies, Resumes, Sleeps};
+ghost use Rattle.gmp_seq.specs.Table.{IsCalling, IsRunning, RunsNothing, epoch_at, set_status};
 
 use crate::goroutines::Goroutines;
-use gmp_base::{Fault, GNo, MNo, Woke};
+use gmp_base::{Fault, GNo, MNo, Readiness, Woke};
 use gmp_seq::{Kind, Offers, Reply, Status};
-use gmp_table::StatusTable;
-
-/// Makes a goroutine ready that is parked. Its ticket is given out.
-fn ready(table: &mut StatusTable, h: GNo) -> Reply
-    requires { epoch_at table.old.table h < 2 ^ 63 }
-    ensures readies { Readies h result table.old.table table.new.table }
-    ensures shelf { table.new.shelf ≡ table.old.shelf }
-{
-    let Some(row) = table.get(h) else {
-        return Reply::Fault(Fault::NoSuchBody);
-    };
-    match &row.status {
-        Status::Waiting(wait) if wait.kind == Kind::Parked => {
-            Reply::Ticket(table.ready(h, Woke::Done))
-        }
-        _ => Reply::Fault(Fault::NotParked),
-    }
-}
 
 impl Goroutines {
     /// g, which m runs, waits until this moment, in nanoseconds.
     pub fn sleep(&mut self, m: MNo, g: GNo, until: u64)
         requires runs { IsRunning self.old.table g m }
         requires few { self.old.table.arrivals < 2 ^ 63 }
-        requires there { m.0 < self.old.machines }
-        ensures table { self.new.table ≡ made_wait self.old.table g Kind.Sleep [] (Some until) }
-        ensures shelf { self.new.shelf ≡ self.old.shelf }
-        ensures only { OnlyTable self.old self.new }
+        ensures sleeps { Sleeps g until Reply.Waits self.old.table self.new.table }
+        ensures rest { self.new ≡ record self.old { table = self.new.table } }
     {
         self.wait(m, g, Kind::Sleep, Offers::new(), Some(until));
     }
@@ -45,10 +24,8 @@ impl Goroutines {
     pub fn park(&mut self, m: MNo, g: GNo)
         requires runs { IsRunning self.old.table g m }
         requires few { self.old.table.arrivals < 2 ^ 63 }
-        requires there { m.0 < self.old.machines }
-        ensures table { self.new.table ≡ made_wait self.old.table g Kind.Parked [] None }
-        ensures shelf { self.new.shelf ≡ self.old.shelf }
-        ensures only { OnlyTable self.old self.new }
+        ensures parks { Goparks g Reply.Waits self.old.table self.new.table }
+        ensures rest { self.new ≡ record self.old { table = self.new.table } }
     {
         self.wait(m, g, Kind::Parked, Offers::new(), None);
     }
@@ -57,9 +34,49 @@ impl Goroutines {
     pub fn ready(&mut self, h: GNo) -> Reply
         requires young { epoch_at self.old.table h < 2 ^ 63 }
         ensures readies { Readies h result self.old.table self.new.table }
-        ensures shelf { self.new.shelf ≡ self.old.shelf }
-        ensures only { OnlyTable self.old self.new }
+        ensures rest { self.new ≡ record self.old { table = self.new.table } }
     {
-        ready(&mut self.table, h)
+        let Some(row) = self.table.get(h) else {
+            return Reply::Fault(Fault::NoSuchBody);
+        };
+        match &row.status {
+            Status::Waiting(wait) if wait.kind == Kind::Parked => {
+                Reply::Ticket(self.table.ready(h, Woke::Done))
+            }
+            _ => Reply::Fault(Fault::NotParked),
+        }
+    }
+
+    /// g, which m runs, goes into a blocking call, which m makes.
+    pub fn enter(&mut self, m: MNo, g: GNo)
+        requires runs { IsRunning self.old.table g m }
+        ensures table { self.new.table ≡ set_status self.old.table g (Status.Calling m) }
+        ensures rest { self.new ≡ record self.old { table = self.new.table } }
+    {
+        self.table.enter(m, g);
+        self.runners.set(m, None);
+    }
+
+    /// g comes back from the blocking call that m makes, and runs on.
+    pub fn run_on(&mut self, m: MNo, g: GNo)
+        requires calls { IsCalling self.old.table g m }
+        requires free { RunsNothing self.old.table m }
+        requires there { m.0 < self.old.machines }
+        ensures table { self.new.table ≡ set_status self.old.table g (Status.Running m) }
+        ensures rest { self.new ≡ record self.old { table = self.new.table } }
+    {
+        self.table.leave(m, g);
+        self.runners.set(m, Some(g));
+    }
+
+    /// g comes back from the blocking call that m makes, and goes onto the shelf, last, to be told the number.
+    pub fn come_back(&mut self, m: MNo, g: GNo, number: u64) -> Readiness
+        requires calls { IsCalling self.old.table g m }
+        requires young { epoch_at self.old.table g < 2 ^ 63 }
+        ensures resumes { Resumes g m number (Reply.Shelved result) self.old.table self.new.table }
+        ensures last { self.new.shelf ≡ self.old.shelf ++ g ∷ [] }
+        ensures rest { self.new ≡ record self.old { table = self.new.table; shelf = self.new.shelf } }
+    {
+        self.table.requeue(g, Woke::Number(number))
     }
 }

@@ -1,31 +1,22 @@
-//! A send or receive, by itself or as the case of a select: it proceeds and serves who waits for it, or waits itself.
-ghost use Rattle.std.specs.Prelude.{◌≡◌, ◌<◌, ◌^◌, ◌∷◌, [], ℕ, Some, None, IfNone, IfSome, is_some, true};
+//! Sends, receives and selects: a case proceeds and serves who waits for it, or the goroutine waits itself.
+ghost use Rattle.std.specs.Prelude.{◌≡◌, ◌<◌, ◌^◌, ◌≤◌, Some, None, IfNone, IfSome, is_some, true, false, length, slice_get};
+ghost use Rattle.gmp_base.specs.declared.cases.Case.{Case};
 ghost use Rattle.gmp_base.specs.declared.number.GNo.{GNo};
+ghost use Rattle.gmp_seq.specs.declared.status.Kind.{Kind};
 ghost use Rattle.gmp_seq.specs.declared.status.Waiter.{Waiter};
-ghost use Rattle.gmp_seq.specs.Step.{Communicates, Deals, served_by, told_of};
-ghost use Rattle.gmp_seq.specs.Table.{IsOffShelf, IsRunning, epoch_at};
+ghost use Rattle.gmp_seq.specs.Step.{Communicates, Deals, Selects, none_missing, served_by, some_can, told_of};
+ghost use Rattle.gmp_seq.specs.Table.{IsOffShelf, IsRunning, epoch_at, made_wait};
 ghost use Rattle.gmp_seq.specs.Waits.{can, channel_of, names_no_missing, offers_of, waiters};
-ghost use Rattle.gmp_chan.specs.Order.{rise};
 ghost use Rattle.gmp_chan.specs.Served.{served};
-ghost use Rattle.gmp_goroutines.specs.Present.{SameSizes, state_of};
+ghost use Rattle.gmp_goroutines.specs.Choice.{IsChoice, choice};
+ghost use Rattle.gmp_goroutines.specs.Present.{state_of};
 ghost use Rattle.gmp_goroutines.specs.Served.{IsWayOf, plain_reply};
 
 use crate::goroutines::Goroutines;
-use gmp_base::{Case, Fault, GNo, MNo};
-use gmp_seq::{Kind, Offer, Offers, Relay, Reply, Taken, Transfer, channel_of};
+use gmp_base::{Case, Cases, Fault, GNo, MNo};
+use gmp_select::{are_made, choose, ready_cases, register};
+use gmp_seq::{Kind, Offers, Relay, Reply, Taken, Transfer, channel_of};
 use gmp_table::StatusTable;
-
-/// The offer of one send or receive, if it isn't on nil.
-fn one_offer(case: Case) -> Offers
-    ensures offers { result ≡ offers_of (case ∷ []) }
-    ensures rising { rise result ≡ true }
-{
-    let mut offers = Offers::new();
-    if let Some(offer) = Offer::of(0, case) {
-        offers.push(offer);
-    }
-    offers
-}
 
 /// Makes ready who was served by a communication, and answers what it comes to.
 fn serve(table: &mut StatusTable, case: Case, how: Transfer) -> Taken
@@ -76,8 +67,7 @@ impl Goroutines {
         ensures exact { is_some result ≡ can self.old.channels (waiters self.old.table) case }
         ensures communicates { IfSome result (λ told. Communicates case told (state_of self.old) (state_of self.new)) }
         ensures none { IfNone result (self.new ≡ self.old) }
-        ensures shelf { self.new.shelf ≡ self.old.shelf }
-        ensures sizes { SameSizes self.old self.new }
+        ensures rest { self.new ≡ record self.old { table = self.new.table; channels = self.new.channels } }
     {
         let how = self.channels.proceed(case)?;
         Some(serve(&mut self.table, case, how))
@@ -88,10 +78,8 @@ impl Goroutines {
         requires runs { IsRunning self.old.table g m }
         requires young { (h : GNo) → epoch_at self.old.table h < 2 ^ 63 }
         requires few { self.old.table.arrivals < 2 ^ 63 }
-        requires there { m.0 < self.old.machines }
         ensures deals { Deals g case result (state_of self.old) (state_of self.new) }
-        ensures shelf { self.new.shelf ≡ self.old.shelf }
-        ensures sizes { SameSizes self.old self.new }
+        ensures rest { self.new ≡ record self.old { table = self.new.table; channels = self.new.channels } }
     {
         if !self.channels.has(channel_of(case)) {
             return Reply::Fault(Fault::NoSuchChannel);
@@ -99,7 +87,63 @@ impl Goroutines {
         match self.proceed(case) {
             Some(taken) => plain_reply(taken),
             None => {
-                self.wait(m, g, Kind::Plain, one_offer(case), None);
+                self.wait(m, g, Kind::Plain, Offers::of(&[case]), None);
+                Reply::Waits
+            }
+        }
+    }
+
+    /// Which case is taken: of the r that can proceed, in order, number `word mod r`.
+    fn chosen(&self, cases: &Cases, word: u64) -> Option<u8>
+        requires { length cases.now ≤ 8 }
+        ensures number { result ≡ choice (state_of self.now) cases.now word }
+        ensures able { IfSome result (λ i. (c : Case) × (slice_get cases.now i ≡ Some c) × (can self.now.channels (waiters self.now.table) c ≡ true)) }
+        ensures none { IfNone result (some_can (state_of self.now) cases.now ≡ false) }
+    {
+        choose(ready_cases(&self.channels, cases), word)
+    }
+
+    /// g, which m runs, begins to wait for any of these cases, until this moment.
+    fn wait_for_any(&mut self, m: MNo, g: GNo, cases: &Cases, until: Option<u64>)
+        requires runs { IsRunning self.old.table g m }
+        requires few { self.old.table.arrivals < 2 ^ 63 }
+        requires made { none_missing (state_of self.old) cases.now ≡ true }
+        ensures table { self.new.table ≡ made_wait self.old.table g Kind.Select (offers_of cases.now) until }
+        ensures rest { self.new ≡ record self.old { table = self.new.table } }
+    {
+        let arrival = self.table.arrivals();
+        let offers = register(&mut self.channels, g, arrival, cases);
+        self.table.wait(g, Kind::Select, offers, until);
+        self.runners.set(m, None);
+    }
+
+    /// g, which m runs, takes one of the cases that can proceed, or else the default, where it has one, or else waits for any of
+    /// them, until this moment.
+    pub fn select(
+        &mut self,
+        m: MNo,
+        g: GNo,
+        cases: &Cases,
+        has_default: bool,
+        until: Option<u64>,
+        word: u64,
+    ) -> Reply
+        requires runs { IsRunning self.old.table g m }
+        requires young { (h : GNo) → epoch_at self.old.table h < 2 ^ 63 }
+        requires few { self.old.table.arrivals < 2 ^ 63 }
+        ensures selects { Selects g cases.now has_default until result (state_of self.old) (state_of self.new) }
+        ensures choice { IsChoice (state_of self.old) cases.now word result }
+        ensures few { length cases.now ≤ 8 }
+        ensures rest { self.new ≡ record self.old { table = self.new.table; channels = self.new.channels } }
+    {
+        if !are_made(&self.channels, cases) {
+            return Reply::Fault(Fault::NoSuchChannel);
+        }
+        match self.chosen(cases, word) {
+            Some(i) => Reply::Chose(i, self.proceed(cases.as_slice()[i as usize]).unwrap()),
+            None if has_default => Reply::Default,
+            None => {
+                self.wait_for_any(m, g, cases, until);
                 Reply::Waits
             }
         }

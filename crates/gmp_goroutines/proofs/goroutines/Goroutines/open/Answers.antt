@@ -1,8 +1,6 @@
 use Rattle.std.proofs.Common.{◌≡◌, [], None, replicate, rules, ap}
-use Rattle.std.proofs.lemmas.List.{length-replicate}
 use Rattle.gmp_table.specs.Contents.{opening_contents}
-use Rattle.gmp_goroutines.proofs.Running.{opening_runners}
-use Rattle.gmp_goroutines.proofs.Ties.{opening_tied}
+use Rattle.gmp_goroutines.proofs.Ties.{opening_kept}
 use Rattle.gmp_goroutines.proofs.goroutines.Goroutines.open.Goals as goal
 
 pub invariant_of-result : goal.invariant_of-result
@@ -12,7 +10,4 @@ invariant_of-result c =
     let waiters : c.in_ok-channels.channels.waiters ≡ [] = search rules in
     let bodies : c.in_ok-channels.channels.bodies ≡ n = search rules in
     let runners : c.in_ok-runners.runners ≡ replicate c.args.machines None = search rules in
-    let rows = ap (λ v. v.table.goroutines) table in (
-      rw (waiters, bodies) (opening_tied n c.in_ok-table.table.table c.requires.some rows (ap (λ v. v.table.arrivals) table)),
-      rw (runners, length-replicate) (opening_runners n c.args.machines c.in_ok-table.table.table rows),
-    )
+    rw (waiters, bodies, runners) (opening_kept n c.args.machines c.in_ok-table.table.table c.requires.some (ap (λ v. v.table.goroutines) table) (ap (λ v. v.table.arrivals) table))

@@ -1,11 +1,12 @@
-use Rattle.gmp_goroutines.proofs.Running.{readies_runners}
-use Rattle.gmp_goroutines.proofs.Ties.{readies_tied}
-use Rattle.std.proofs.Common.{length}
+use Rattle.std.proofs.Common.{◌≡◌, Some, refl, rules}
+use Rattle.gmp_seq.specs.declared.status.Kind.TheVariants as kind
+use Rattle.gmp_seq.specs.declared.status.Status.TheVariants.{Waiting}
+use Rattle.gmp_seq.specs.Table.{status_at}
+use Rattle.gmp_goroutines.proofs.Ties.{readied_kept}
 use Rattle.gmp_goroutines.proofs.goroutines.Goroutines.ready.Goals as goal
 
 pub invariant_of-self : goal.invariant_of-self
 invariant_of-self c =
-    let i = c.self.inside in (
-      readies_tied i.table.table i.channels.waiters i.channels.bodies c.self.invariant.0 c.args.h c.ready.result c.ready.new.table.table c.ready.ensures.readies,
-      readies_runners i.table.table (length i.runners) i.runners c.self.invariant.1 c.args.h c.ready.result c.ready.new.table.table c.ready.ensures.readies,
-    )
+    let was : status_at c.self.inside.table.table c.args.h ≡ Some (Waiting c.in-Waiting.wait) = search rules in
+    let parked : c.in-Waiting.wait.kind ≡ kind.Parked = search rules in
+    readied_kept c.self.invariant.0 c.self.invariant.1 c.args.h c.in-Waiting.wait _ _ was parked refl c.ready.ensures.table

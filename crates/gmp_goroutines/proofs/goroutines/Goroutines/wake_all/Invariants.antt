@@ -1,4 +1,4 @@
-use Rattle.std.proofs.Common.{◌≡◌, List, length}
+use Rattle.std.proofs.Common.{◌≡◌, List}
 use Rattle.gmp_base.specs.declared.number.GNo.{GNo}
 use Rattle.gmp_seq.specs.Table.{how_many_woken}
 use Rattle.gmp_table.proofs.Waking.{IsPartWoken}
@@ -12,7 +12,7 @@ abbrev pub invariant-loop-next : goal.invariant-loop-next
 invariant-loop-next l = record {
   woken : (gs : List GNo) × IsPartWoken l.fn.wake l.initial.self-inside.table l.self-inside.table gs l.count;
   tied : IsTied l.self-inside.table.table l.self-inside.channels.waiters l.self-inside.channels.bodies;
-  runners : AreRunners l.self-inside.table.table (length l.self-inside.runners) l.self-inside.runners;
+  runners : AreRunners l.self-inside.table.table l.self-inside.runners;
   same : l.self-inside.runners ≡ l.initial.self-inside.runners;
   channels : l.self-inside.channels.channels ≡ l.initial.self-inside.channels.channels;
   limit : l.self-inside.channels.limit ≡ l.initial.self-inside.channels.limit;
