@@ -133,5 +133,9 @@ minds m reply.AllAsleep until old new (none, asleep, same) is =
 minds m reply.Parked until old new (none, astir, told, same, rest, machines) is = let both : None ≡ Some until = sym told ∙ is in cc
 minds m _ until old new h is = absurd h
 
+-- a park tells a deadline exactly where that is minded
+pub parks_mind : (m : MNo) (answer : Reply) (until : ℕ) (old new : State) → Parks m answer old new → answer ≡ reply.Mind until ↔ (minded old.table ≡ Some until)
+parks_mind m answer until old new done = (says m answer until old new done, minds m answer until old new done)
+
 pub park_minds : (until : ℕ) → Does call.Park (λ m g p answer old new. answer ≡ reply.Mind until ↔ (minded old.table ≡ Some until))
-park_minds until limits m g p answer old new order grants (ongoing, (bare, done), counted, ended) = (says m answer until old new done, minds m answer until old new done)
+park_minds until limits m g p answer old new order grants (ongoing, (bare, done), counted, ended) = parks_mind m answer until old new done
