@@ -1,12 +1,13 @@
 //! The rows of the table, with counts, so that a question about all of them needs no scan.
-ghost use Rattle.std.specs.Prelude.{◌≡◌, ◌+◌, ◌<◌, ◌^◌, replicate, length, slice_get, slice_set, option_copied, nat_lt, false, None, IfOk};
+ghost use Rattle.std.specs.Prelude.{◌≡◌, ◌+◌, ◌<◌, ◌^◌, replicate, length, slice_get, slice_set, option_copied, nat_lt, IfOk};
 ghost use Rattle.gmp_seq.specs.State.{dormant};
-ghost use Rattle.gmp_seq.specs.Table.{is_ready_or_running, deadline_of, earlier, least_of};
+ghost use Rattle.gmp_seq.specs.Table.{is_ready_or_running, earlier, least_of};
 ghost use Rattle.gmp_table.specs.Contents.{epoch_in, answer_in, turned, risen, is_calling, has_deadline};
 ghost use Rattle.gmp_table.specs.Kept.{count_status};
+ghost use Rattle.gmp_table.specs.declared.wake.Wake.{Wake};
 ghost use Rattle.gmp_table.specs.Waking.{IsFirst};
 
-use crate::wake::{Candidate, Wake};
+use crate::wake::Candidate;
 use gmp_base::{GNo, Woke};
 use gmp_seq::{Goroutine, Place, Status};
 use std::alloc::{AllocError, Global};
@@ -184,28 +185,18 @@ impl Rows {
         self.timed > 0
     }
 
-    /// Where it answers no, nobody is woken.
-    fn may_wake(&self, wake: Wake) -> bool
-        ensures { result ≡ false → IsFirst wake self.now (length self.now) None }
-    {
-        match wake {
-            Wake::Closed(_) => true,
-            Wake::Due(_) => self.timed > 0,
-        }
-    }
-
-    /// Who is woken next, and what it is told.
-    pub(crate) fn next_to_wake(&self, wake: Wake) -> Option<Candidate>
-        ensures first { IsFirst wake self.now (length self.now) result }
+    /// Who is woken next by a tick, and what it is told.
+    pub(crate) fn due(&self, now: u64) -> Option<Candidate>
+        ensures first { IsFirst (Wake.Due now) self.now (length self.now) result }
         ensures few { length self.now < 2 ^ 16 }
     {
         let bodies = self.bodies;
-        if !self.may_wake(wake) {
+        if !self.any_timed() {
             return None;
         }
         let mut best = None;
         for i in 0..bodies {
-            let next = Candidate::of(wake, GNo(i), &self.list[i as usize].status);
+            let next = Candidate::due(now, GNo(i), &self.list[i as usize].status);
             best = Candidate::earlier(best, next);
         }
         best

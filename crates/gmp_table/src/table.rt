@@ -10,7 +10,7 @@ ghost use Rattle.gmp_table.specs.declared.wake.Wake.{Wake};
 ghost use Rattle.gmp_table.specs.Waking.{IsFirst};
 
 use crate::rows::Rows;
-use crate::wake::{Candidate, Wake};
+use crate::wake::Candidate;
 use circular_buffer::HeapCircularBuffer;
 use gmp_base::{GNo, MNo, Readiness, Woke};
 use gmp_seq::{Goroutine, Kind, Offers, Place, Status, Wait};
@@ -156,7 +156,7 @@ impl StatusTable {
         // So few can be woken.
         ensures few { length self.now.table.goroutines < 2 ^ 16 }
     {
-        self.rows.next_to_wake(Wake::Due(now))
+        self.rows.due(now)
     }
 
     /// Gives out the ticket of the goroutine that is on the shelf for longest.

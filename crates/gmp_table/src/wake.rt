@@ -1,10 +1,10 @@
 //! Whom a close or a tick wakes.
 ghost use Rattle.std.specs.Prelude.{◌≡◌};
-ghost use Rattle.gmp_seq.specs.declared.status.Status.{Status};
-ghost use Rattle.gmp_table.specs.Waking.{is_before, candidate_of, earlier_of, rank_of, answer_of};
+ghost use Rattle.gmp_table.specs.declared.wake.Wake.{Wake};
+ghost use Rattle.gmp_table.specs.Waking.{is_before, candidate_of, earlier_of};
 
 use gmp_base::{CNo, GNo, Woke};
-use gmp_seq::{Status, Wait};
+use gmp_seq::Status;
 
 /// Why goroutines are woken.
 #[derive(Clone, Copy, Debug, PartialEq, Eq)]
@@ -25,19 +25,6 @@ pub struct Rank {
 }
 
 impl Rank {
-    fn of(wake: Wake, wait: &Wait) -> Rank
-        ensures { result ≡ rank_of wake (Status.Waiting wait.now) }
-    {
-        let moment = match wake {
-            Wake::Closed(_) => 0,
-            Wake::Due(_) => wait.until.unwrap_or(0),
-        };
-        Rank {
-            moment,
-            arrival: wait.arrival,
-        }
-    }
-
     fn is_before(self, other: Rank) -> bool
         ensures { result ≡ is_before self other }
     {
@@ -54,18 +41,24 @@ pub struct Candidate {
 }
 
 impl Candidate {
-    /// The goroutine, if it is to be woken.
-    pub(crate) fn of(wake: Wake, g: GNo, status: &Status) -> Option<Candidate>
-        ensures { result ≡ candidate_of wake g status.now }
+    /// The goroutine, if its deadline is at this moment or before.
+    pub(crate) fn due(now: u64, g: GNo, status: &Status) -> Option<Candidate>
+        ensures { result ≡ candidate_of (Wake.Due now) g status.now }
     {
         let Status::Waiting(wait) = status else {
             return None;
         };
-        let woke = answer(wake, wait)?;
+        let moment = wait.until?;
+        if moment > now {
+            return None;
+        }
         Some(Candidate {
             g,
-            rank: Rank::of(wake, wait),
-            woke,
+            rank: Rank {
+                moment,
+                arrival: wait.arrival,
+            },
+            woke: wait.kind.late_answer(),
         })
     }
 
@@ -82,26 +75,6 @@ impl Candidate {
                 } else {
                     Some(b)
                 }
-            }
-        }
-    }
-}
-
-/// What one that waits is told, if it is woken.
-fn answer(wake: Wake, wait: &Wait) -> Option<Woke>
-    ensures { result ≡ answer_of wake (Status.Waiting wait.now) }
-{
-    match wake {
-        Wake::Closed(c) => {
-            let offer = wait.offers.first_on(c)?;
-            Some(offer.closed_answer(wait.kind))
-        }
-        Wake::Due(now) => {
-            let until = wait.until?;
-            if until <= now {
-                Some(wait.kind.late_answer())
-            } else {
-                None
             }
         }
     }
