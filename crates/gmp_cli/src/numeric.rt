@@ -14,6 +14,7 @@ pub struct Numeric {
     pub id: &'static str,
     /// The option as it is written.
     pub option: &'static str,
+    /// What `--help` says of it, with its range and its default.
     pub help: &'static str,
     pub least: u64,
     pub most: u64,

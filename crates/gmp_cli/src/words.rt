@@ -16,7 +16,7 @@ use std::alloc::{AllocError, Global};
 const PROCS: Numeric = Numeric {
     id: "procs",
     option: "--procs",
-    help: "Processors",
+    help: "Processors, 1 to 32 [default: 1]",
     least: 1,
     most: 32,
     default: 1,
@@ -25,7 +25,7 @@ const PROCS: Numeric = Numeric {
 const MACHINES: Numeric = Numeric {
     id: "machines",
     option: "--machines",
-    help: "Machines",
+    help: "Machines, 1 to 64 [default: 1]",
     least: 1,
     most: 64,
     default: 1,
@@ -34,7 +34,7 @@ const MACHINES: Numeric = Numeric {
 const CHANNELS: Numeric = Numeric {
     id: "channels",
     option: "--channels",
-    help: "The most channels",
+    help: "The most channels, 0 to 1024 [default: 16]",
     least: 0,
     most: 1024,
     default: 16,
@@ -43,7 +43,7 @@ const CHANNELS: Numeric = Numeric {
 const ENTRIES: Numeric = Numeric {
     id: "entries",
     option: "--entries",
-    help: "The most entries",
+    help: "The most entries, 16 to 1000000 [default: 10000]",
     least: 16,
     most: 1_000_000,
     default: 10_000,
@@ -52,7 +52,7 @@ const ENTRIES: Numeric = Numeric {
 const WORD: Numeric = Numeric {
     id: "word",
     option: "--word",
-    help: "The word that every choice draws",
+    help: "The word that every choice draws, 0 to 18446744073709551615 [default: 0]",
     least: 0,
     most: u64::MAX,
     default: 0,
