@@ -21,7 +21,6 @@ ghost use Rattle.gmp_goroutines.specs.Tied.{IsEarly};
 
 mod communicating;
 mod pausing;
-mod serving;
 
 use crate::runners::Runners;
 use gmp_base::{Fault, GNo, MNo, Readiness, Woke};
@@ -87,13 +86,10 @@ impl Goroutines {
         requires few { length capacities.now ≤ limit }
         ensures { IfOk result (λ g. g ≡ opening_present machines limit bodies capacities.now) }
     {
-        let table = StatusTable::open(alloc, bodies)?;
-        let channels = Channels::open(alloc, limit, bodies, capacities)?;
-        let runners = Runners::none(alloc, machines)?;
         Ok(Goroutines {
-            table,
-            channels,
-            runners,
+            table: StatusTable::open(alloc, bodies)?,
+            channels: Channels::open(alloc, limit, bodies, capacities)?,
+            runners: Runners::none(alloc, machines)?,
         })
     }
 

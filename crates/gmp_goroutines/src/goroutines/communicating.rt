@@ -1,21 +1,71 @@
-//! What a running goroutine does with channels.
-ghost use Rattle.std.specs.Prelude.{◌≡◌, ◌<◌, ◌≤◌, ◌^◌, Some, IfOk, OnOk, OnErr, length};
+//! What a running goroutine does with channels. A send, a receive or a case of a select proceeds and serves who waits for it, or the
+//! goroutine waits itself.
+ghost use Rattle.std.specs.Prelude.{◌≡◌, ◌<◌, ◌≤◌, ◌^◌, Some, None, IfNone, IfOk, IfSome, OnErr, OnOk, is_some, true, false, length, slice_get};
+ghost use Rattle.gmp_base.specs.declared.cases.Case.{Case};
 ghost use Rattle.gmp_base.specs.declared.number.GNo.{GNo};
 ghost use Rattle.gmp_base.specs.declared.number.CNo.{CNo};
+ghost use Rattle.gmp_seq.specs.declared.call.Call.{Call};
 ghost use Rattle.gmp_seq.specs.declared.call.Limits.{Limits};
 ghost use Rattle.gmp_seq.specs.declared.call.Reply.{Reply};
+ghost use Rattle.gmp_seq.specs.declared.status.Kind.{Kind};
+ghost use Rattle.gmp_seq.specs.declared.status.Waiter.{Waiter};
 ghost use Rattle.gmp_seq.specs.Channels.{capacity_at, items_at};
-ghost use Rattle.gmp_seq.specs.Step.{Closes, Makes, Tells};
-ghost use Rattle.gmp_seq.specs.Table.{epoch_at};
-ghost use Rattle.gmp_seq.specs.declared.call.Call.{Call};
-ghost use Rattle.gmp_goroutines.specs.Shelf.{Shelves};
+ghost use Rattle.gmp_seq.specs.Step.{Closes, Communicates, Deals, Makes, Selects, Tells, none_missing, served_by, some_can, told_of};
+ghost use Rattle.gmp_seq.specs.Table.{IsOffShelf, IsRunning, epoch_at, made_wait};
+ghost use Rattle.gmp_seq.specs.Waits.{can, channel_of, names_no_missing, offers_of, waiters};
+ghost use Rattle.gmp_chan.specs.Served.{served};
+ghost use Rattle.gmp_goroutines.specs.Choice.{IsChoice, choice};
 ghost use Rattle.gmp_goroutines.specs.Present.{state_of};
+ghost use Rattle.gmp_goroutines.specs.Served.{IsWayOf, plain_reply};
+ghost use Rattle.gmp_goroutines.specs.Shelf.{Shelves};
 
 use crate::goroutines::Goroutines;
-use gmp_base::{CNo, Fault};
-use gmp_seq::{MOST_CAPACITY, Reply};
-use gmp_table::Wake;
+use gmp_base::{CNo, Case, Cases, Fault, GNo, MNo};
+use gmp_select::{are_made, choose, ready_cases, register};
+use gmp_seq::{Kind, MOST_CAPACITY, Offers, Relay, Reply, Taken, Transfer, channel_of};
+use gmp_table::{StatusTable, Wake};
 use std::alloc::{AllocError, Global};
+
+/// Makes ready who was served by a communication, and answers what it comes to.
+fn serve(table: &mut StatusTable, case: Case, how: Transfer) -> Taken
+    requires way { IsWayOf case how }
+    requires off { (w : Waiter) → served how ≡ Some w → IsOffShelf table.old.table w.g }
+    requires young { (h : GNo) → epoch_at table.old.table h < 2 ^ 63 }
+    ensures told { result ≡ told_of table.old.table how }
+    ensures table { table.new.table ≡ served_by table.old.table case how }
+    ensures shelf { table.new.shelf ≡ table.old.shelf }
+{
+    match how {
+        Transfer::Failed => Taken::Failed,
+        Transfer::Handed(w) => {
+            let Case::Send(_, v) = case else {
+                unreachable!()
+            };
+            let receiver = table.ready(w.g, w.offer.receiver_answer(w.kind, v, true));
+            Taken::Sent(Some(receiver))
+        }
+        Transfer::Stored => Taken::Sent(None),
+        Transfer::First(v) => Taken::Got(v, true, None),
+        Transfer::Relayed(v, w) => {
+            let Case::Recv(_) = case else { unreachable!() };
+            let sender = table.ready(w.g, w.sender_answer());
+            let value = w.offered();
+            Taken::Got(v, true, Some(Relay { sender, value }))
+        }
+        Transfer::Drained => Taken::Got(0, false, None),
+    }
+}
+
+/// What a plain send or receive is answered that came to this.
+fn plain_reply(taken: Taken) -> Reply
+    ensures { result ≡ plain_reply taken }
+{
+    match taken {
+        Taken::Sent(to) => Reply::Sent(to),
+        Taken::Got(v, sent, from) => Reply::Got(v, sent, from),
+        Taken::Failed => Reply::Fault(Fault::SendOnClosed),
+    }
+}
 
 impl Goroutines {
     /// Makes an open, empty channel with this capacity, by the next number, or answers the fault. Only a channel takes memory.
@@ -78,6 +128,95 @@ impl Goroutines {
         match c {
             Some(c) => Reply::Number(self.channels.cap(c)),
             None => Reply::Number(0),
+        }
+    }
+
+    /// A case does its send or receive, if it can proceed. Who is served is made ready.
+    pub(super) fn proceed(&mut self, case: Case) -> Option<Taken>
+        requires made { names_no_missing self.old.channels (channel_of case) ≡ true }
+        requires young { (h : GNo) → epoch_at self.old.table h < 2 ^ 63 }
+        ensures exact { is_some result ≡ can self.old.channels (waiters self.old.table) case }
+        ensures communicates { IfSome result (λ told. Communicates case told (state_of self.old) (state_of self.new)) }
+        ensures none { IfNone result (self.new ≡ self.old) }
+        ensures rest { self.new ≡ record self.old { table = self.new.table; channels = self.new.channels } }
+    {
+        let how = self.channels.proceed(case)?;
+        Some(serve(&mut self.table, case, how))
+    }
+
+    /// g, which m runs, sends or receives, or waits until it can.
+    pub fn deal(&mut self, m: MNo, g: GNo, case: Case) -> Reply
+        requires runs { IsRunning self.old.table g m }
+        requires young { (h : GNo) → epoch_at self.old.table h < 2 ^ 63 }
+        requires few { self.old.table.arrivals < 2 ^ 63 }
+        ensures deals { Deals g case result (state_of self.old) (state_of self.new) }
+        ensures rest { self.new ≡ record self.old { table = self.new.table; channels = self.new.channels } }
+    {
+        if !self.channels.has(channel_of(case)) {
+            return Reply::Fault(Fault::NoSuchChannel);
+        }
+        match self.proceed(case) {
+            Some(taken) => plain_reply(taken),
+            None => {
+                self.wait(m, g, Kind::Plain, Offers::of(&[case]), None);
+                Reply::Waits
+            }
+        }
+    }
+
+    /// Which case is taken: of the r that can proceed, in order, number `word mod r`.
+    fn chosen(&self, cases: &Cases, word: u64) -> Option<u8>
+        requires { length cases.now ≤ 8 }
+        ensures number { result ≡ choice (state_of self.now) cases.now word }
+        ensures able { IfSome result (λ i. (c : Case) × (slice_get cases.now i ≡ Some c) × (can self.now.channels (waiters self.now.table) c ≡ true)) }
+        ensures none { IfNone result (some_can (state_of self.now) cases.now ≡ false) }
+    {
+        choose(ready_cases(&self.channels, cases), word)
+    }
+
+    /// g, which m runs, begins to wait for any of these cases, until this moment.
+    fn wait_for_any(&mut self, m: MNo, g: GNo, cases: &Cases, until: Option<u64>)
+        requires runs { IsRunning self.old.table g m }
+        requires few { self.old.table.arrivals < 2 ^ 63 }
+        requires made { none_missing (state_of self.old) cases.now ≡ true }
+        ensures table { self.new.table ≡ made_wait self.old.table g Kind.Select (offers_of cases.now) until }
+        ensures rest { self.new ≡ record self.old { table = self.new.table } }
+    {
+        let arrival = self.table.arrivals();
+        let offers = register(&mut self.channels, g, arrival, cases);
+        self.table.wait(g, Kind::Select, offers, until);
+        self.runners.set(m, None);
+    }
+
+    /// g, which m runs, takes one of the cases that can proceed, or else the default, where it has one, or else waits for any of
+    /// them, until this moment.
+    pub fn select(
+        &mut self,
+        m: MNo,
+        g: GNo,
+        cases: &Cases,
+        has_default: bool,
+        until: Option<u64>,
+        word: u64,
+    ) -> Reply
+        requires runs { IsRunning self.old.table g m }
+        requires young { (h : GNo) → epoch_at self.old.table h < 2 ^ 63 }
+        requires few { self.old.table.arrivals < 2 ^ 63 }
+        ensures selects { Selects g cases.now has_default until result (state_of self.old) (state_of self.new) }
+        ensures choice { IsChoice (state_of self.old) cases.now word result }
+        ensures few { length cases.now ≤ 8 }
+        ensures rest { self.new ≡ record self.old { table = self.new.table; channels = self.new.channels } }
+    {
+        if !are_made(&self.channels, cases) {
+            return Reply::Fault(Fault::NoSuchChannel);
+        }
+        match self.chosen(cases, word) {
+            Some(i) => Reply::Chose(i, self.proceed(cases.as_slice()[i as usize]).unwrap()),
+            None if has_default => Reply::Default,
+            None => {
+                self.wait_for_any(m, g, cases, until);
+                Reply::Waits
+            }
         }
     }
 }

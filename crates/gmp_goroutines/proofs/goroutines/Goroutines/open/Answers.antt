@@ -6,8 +6,8 @@ use Rattle.gmp_goroutines.proofs.goroutines.Goroutines.open.Goals as goal
 pub invariant_of-result : goal.invariant_of-result
 invariant_of-result c =
     let n = c.args.bodies in
-    let table : c.in_ok-table.table ≡ opening_contents n = search rules in
-    let waiters : c.in_ok-channels.channels.waiters ≡ [] = search rules in
-    let bodies : c.in_ok-channels.channels.bodies ≡ n = search rules in
-    let runners : c.in_ok-runners.runners ≡ replicate c.args.machines None = search rules in
-    rw (waiters, bodies, runners) (opening_kept n c.args.machines c.in_ok-table.table.table c.requires.some (ap (λ v. v.table.goroutines) table) (ap (λ v. v.table.arrivals) table))
+    let table : c.in_ok-open.field-0 ≡ opening_contents n = search rules in
+    let waiters : c.in_ok-open-2.field-0.waiters ≡ [] = search rules in
+    let bodies : c.in_ok-open-2.field-0.bodies ≡ n = search rules in
+    let runners : c.in_ok-none.field-0 ≡ replicate c.args.machines None = search rules in
+    rw (waiters, bodies, runners) (opening_kept n c.args.machines c.in_ok-open.field-0.table c.requires.some (ap (λ v. v.table.goroutines) table) (ap (λ v. v.table.arrivals) table))
