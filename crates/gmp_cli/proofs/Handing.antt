@@ -36,7 +36,7 @@ use Rattle.gmp_idle.specs.Replies.{acquired, poked}
 use Rattle.gmp_goroutines.specs.Replies.{taken}
 use Rattle.gmp_book.specs.Replies.{left, parking}
 use Rattle.gmp_book.specs.Went as by
-use Rattle.gmp_book.specs.Went.{is_wait, ticket_in}
+use Rattle.gmp_book.specs.Went.{ticket_in}
 use Rattle.gmp_seq.specs.declared.call.Call.{Call}
 use Rattle.gmp_seq.specs.declared.call.Call.TheVariants as call
 use Rattle.gmp_seq.specs.declared.call.Limits.{Limits}

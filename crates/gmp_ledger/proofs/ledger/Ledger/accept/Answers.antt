@@ -1,4 +1,4 @@
-use Rattle.std.proofs.Common.{◌≡◌, length, arith, rules, subst, sym}
+use Rattle.std.proofs.Common.{arith, subst, sym}
 use Rattle.gmp_seq.specs.Laws.{IsInOrder}
 use Rattle.gmp_ledger.specs.Grants.{Grants}
 use Rattle.gmp_ledger.specs.Handed.{goroutine_in, processor_in}
