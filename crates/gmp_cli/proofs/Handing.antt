@@ -49,7 +49,7 @@ use Rattle.gmp_seq.specs.declared.status.Place.TheVariants.{Shelf}
 use Rattle.gmp_seq.specs.declared.status.Status.TheVariants as status
 use Rattle.gmp_seq.specs.Machines.{Holds, spins}
 use Rattle.gmp_seq.specs.Needs.{Needs}
-use Rattle.gmp_seq.specs.Run.{Run}
+use Rattle.gmp_seq.specs.Run as runs
 use Rattle.gmp_seq.specs.State.{State}
 use Rattle.gmp_seq.specs.Step.{Step}
 use Rattle.gmp_seq.specs.Table.{RunsNothing, is_outstanding, made_ready, made_wait, minded, set_status}
@@ -117,7 +117,7 @@ latest_on old new before after asked answer records latest =
 -- the report of a book tells the run that the book was opened for
 pub reported : {T Q : Type 0} (log : Log) (book : BookContents T Q) (report : Report T Q) → book.log ≡ log → IsReport book report → IsReportOf log report
 reported log book report same told =
-    let begun = subst (λ (s : State). Run book.log.limits s book.log.history book.log.state) told.start told.legal in
+    let begun = subst (λ (s : State). runs.Run book.log.limits s book.log.history book.log.state) told.start told.legal in
     subst (λ (l : Log). IsReportOf l report) same (record {
       limits = told.limits;
       bodies = told.stock;
