@@ -13,6 +13,7 @@ use Rattle.gmp_base.specs.declared.number.CNo.{CNo}
 use Rattle.gmp_base.specs.declared.number.GNo.{GNo}
 use Rattle.gmp_base.specs.declared.number.MNo.{MNo}
 use Rattle.gmp_base.specs.declared.number.Readiness.{Readiness}
+use Rattle.gmp_base.specs.Fits.{FitsCase, IsWord}
 use Rattle.gmp_seq.proofs.Epochs.{epoch_of}
 use Rattle.gmp_seq.proofs.InOrder.{legal_in_order}
 use Rattle.gmp_seq.proofs.Legal.{legal_sound}
@@ -38,7 +39,7 @@ use Rattle.gmp_seq.specs.declared.status.Status.TheVariants as status
 use Rattle.gmp_seq.specs.declared.status.Transfer.{Transfer}
 use Rattle.gmp_seq.specs.declared.status.Transfer.TheVariants.{Failed, Handed, Stored, First, Relayed, Drained}
 use Rattle.gmp_seq.specs.declared.status.Waiter.{Waiter}
-use Rattle.gmp_seq.specs.Fits.{Fits, FitsCall, FitsCase, FitsReply, FitsTaken, FitsReadiness, IsWord, AreLimits}
+use Rattle.gmp_seq.specs.Fits.{Fits, FitsCall, FitsReply, FitsTaken, FitsReadiness, AreLimits}
 use Rattle.gmp_seq.specs.Machines
 use Rattle.gmp_seq.specs.Run.{Run, IsStep, IsLegal}
 use Rattle.gmp_seq.specs.State.{State, opening}

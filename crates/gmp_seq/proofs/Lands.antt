@@ -12,6 +12,7 @@ use Rattle.gmp_base.specs.declared.number.CNo.{CNo}
 use Rattle.gmp_base.specs.declared.number.GNo.{GNo}
 use Rattle.gmp_base.specs.declared.number.MNo.{MNo}
 use Rattle.gmp_base.specs.declared.number.Readiness.{Readiness}
+use Rattle.gmp_base.specs.Fits.{FitsCase, IsWord}
 use Rattle.gmp_seq.proofs.Epochs.{at_set}
 use Rattle.gmp_seq.proofs.Manned.{status_of}
 use Rattle.gmp_seq.proofs.Waiting.{In, first_waits}
@@ -33,7 +34,7 @@ use Rattle.gmp_seq.specs.declared.status.Status.{Status}
 use Rattle.gmp_seq.specs.declared.status.Status.TheVariants as status
 use Rattle.gmp_seq.specs.declared.status.Transfer.TheVariants.{Handed, Relayed}
 use Rattle.gmp_seq.specs.declared.status.Wait.{Wait}
-use Rattle.gmp_seq.specs.Fits.{IsWord, FitsCase, FitsCall}
+use Rattle.gmp_seq.specs.Fits.{FitsCall}
 use Rattle.gmp_seq.specs.State.{State}
 use Rattle.gmp_seq.specs.Step
 use Rattle.gmp_seq.specs.Laws.{is_ready}

@@ -8,6 +8,7 @@ use Rattle.gmp_base.specs.declared.cases.Case.TheVariants as case
 use Rattle.gmp_base.specs.declared.number.CNo.{CNo}
 use Rattle.gmp_base.specs.declared.number.GNo.{GNo}
 use Rattle.gmp_base.specs.declared.number.MNo.{MNo}
+use Rattle.gmp_base.specs.Fits.{FitsCase, IsWord}
 use Rattle.gmp_seq.proofs.Epochs.{at_set}
 use Rattle.gmp_seq.proofs.Lands.{IsWordyDeal, IsWordyWait, effect_lands}
 use Rattle.gmp_seq.proofs.Legal.{nobody_waits}
@@ -31,7 +32,7 @@ use Rattle.gmp_seq.specs.declared.status.Transfer.{Transfer}
 use Rattle.gmp_seq.specs.declared.status.Transfer.TheVariants.{Failed, Handed, Stored, First, Relayed, Drained}
 use Rattle.gmp_seq.specs.declared.status.Wait.{Wait}
 use Rattle.gmp_seq.specs.declared.status.Waiter.{Waiter}
-use Rattle.gmp_seq.specs.Fits.{IsWord, FitsCase, FitsCall, AreLimits}
+use Rattle.gmp_seq.specs.Fits.{FitsCall, AreLimits}
 use Rattle.gmp_seq.specs.State.{State, opening}
 use Rattle.gmp_seq.specs.Step
 use Rattle.gmp_seq.specs.Table.{Table, earlier, deadline_of, least_of}
