@@ -62,9 +62,8 @@ impl Hand {
         ensures { IfSome result (λ v. Suits call.now (handed_of v)) }
     {
         match call {
-            Call::Put(r) | Call::Claim(r) => {
-                Some(Values::by_ticket(Ticket::of(run, r.g, r.epoch)))
-            }
+            Call::Put(r) => Some(Values::by_ticket(Ticket::of(run, r.g, r.epoch))),
+            Call::Claim(r) => Some(Values::by_ticket(Ticket::of(run, r.g, r.epoch))),
             Call::Enter => match (self.held(), self.proc()) {
                 (Some(held), Some(proc)) => Some(Values::by_held_and_proc(held, proc)),
                 (held, proc) => {

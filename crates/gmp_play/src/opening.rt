@@ -27,16 +27,27 @@ pub fn numbers(alloc: Global, count: u32) -> Result<Vec<u32>, AllocError> {
     Ok(list)
 }
 
+/// Lets a vector go whose passes came out.
+fn close(passes: Vec<Pass>) {
+    let mut passes = passes;
+    while let Some(pass) = passes.pop() {
+        pass.open();
+    }
+    passes.destroy_empty();
+}
+
 /// What each machine has in its hands at the opening: its pass.
 fn hands(alloc: Global, passes: Vec<Pass>) -> Result<Vec<Hand>, Short> {
     let mut passes = passes;
     let mut hands = Vec::new(alloc);
     let mut refused = false;
-    while let Some(pass) = passes.pop() {
-        let hand = Hand::of(pass);
-        refused = refused || hands.push(hand).is_err();
+    for _ in 0..passes.len() {
+        if let Some(pass) = passes.pop() {
+            let hand = Hand::of(pass);
+            refused = hands.push(hand).is_err() || refused;
+        }
     }
-    passes.destroy_empty();
+    close(passes);
     if refused {
         return Err(Short::OutOfMemory);
     }
