@@ -1,4 +1,4 @@
-//! Tests of the book: how it is opened, whole runs, each refusal, and want of memory. It has no code of its own.
+//! Tests of the book where memory is wanted. It has no code of its own.
 #![tactic(auto)]
 
 #[cfg(test)]

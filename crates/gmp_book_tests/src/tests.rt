@@ -1,36 +1,31 @@
-//! Openings, refusals, want of memory, values of a second book, what bodies are told, the order on the shelf, and what is taken back. Bodies
-//! are 70 and up, owners 80 and up.
-use gmp_base::Refusal;
-use gmp_book_trials::{Desk, Judge, same};
-use std::fmt::Display;
+//! Want of memory. Run with each allocation refused in turn. Bodies are 70 and up, owners 80 and up.
+use gmp_base::Pass;
+use gmp_book::Book;
+use gmp_seq::Limits;
 use std::process::Abort;
 
-mod ending;
-mod memory;
+mod making;
 mod opening;
-mod other_books;
-mod refusals;
-mod shelf;
-mod told;
 
-/// What is wrong ends the test.
-#[derive(Drop)]
-struct Strict<R: Abort>(R);
+type Desk = Book<u32, u32>;
 
-impl<R: Abort> Judge for Strict<R> {
-    fn wrong<D: Display + Drop>(&self, what: D) {
-        panic!(self.0; "{what}");
-    }
-}
+/// One processor and one machine.
+const LONE: Limits = Limits {
+    procs: 1,
+    machines: 1,
+    channels: 16,
+    entries: 10000,
+};
 
-/// A report is refused so, and the book comes back.
-fn unreported(judge: &Strict<impl Abort>, book: Desk, want: Refusal) -> Desk {
-    match book.into_report() {
-        Ok(_) => panic!(judge.0; "reported"),
-        Err(refused) => {
-            let (why, book) = refused.open();
-            same(judge, why, want);
-            book
+/// The pass of the one machine.
+fn only_pass(rt: &impl Abort, passes: Vec<Pass>) -> Pass {
+    let mut passes = passes;
+    match passes.pop() {
+        Some(pass) => {
+            assert_eq!(rt; passes.len(), 0);
+            passes.destroy_empty();
+            pass
         }
+        None => panic!(rt; "no pass"),
     }
 }

@@ -1,4 +1,5 @@
-//! Tests of the program's functions: the command line, input and scripts, and the whole traces of runs. It has no code of its own.
+//! Tests of the program's functions: the command line, input and scripts, readers and writers that fail, and limits. It has no code of its
+//! own. Whole traces are compared by `gmp_play`.
 #![tactic(auto)]
 
 #[cfg(test)]
@@ -7,5 +8,3 @@ mod script_tests;
 mod step_tests;
 #[cfg(test)]
 mod tests;
-#[cfg(test)]
-mod trace_tests;

@@ -9,13 +9,19 @@
 #![tactic(auto)]
 
 mod call;
+mod guess;
 pub mod laws;
 mod line;
 mod put;
+mod reading;
 mod reply;
 mod trace;
+mod words;
 mod writing;
 
+pub use line::put_end;
+pub use reading::{read_call, read_capacities, read_limits};
+pub use reply::put_reply;
 pub use trace::{End, Trace};
 pub use writing::{WriteError, write};
 

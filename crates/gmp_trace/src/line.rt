@@ -17,8 +17,9 @@ fn put_limit(out: &mut Vec<u8>, name: &[u8], n: u64) -> Result<(), AllocError>
     put_named(out, name, n)
 }
 
+/// The second line.
 #[tactic(auto, unfolding(crate::specs::Text::limits_text))]
-fn put_limits(out: &mut Vec<u8>, limits: &Limits, bodies: u16) -> Result<(), AllocError>
+pub fn put_limits(out: &mut Vec<u8>, limits: &Limits, bodies: u16) -> Result<(), AllocError>
     ensures { OnOk result (out.new.items ≡ out.old.items ++ limits_text limits.now bodies) }
 {
     put(out, b"limits")?;
@@ -31,8 +32,9 @@ fn put_limits(out: &mut Vec<u8>, limits: &Limits, bodies: u16) -> Result<(), All
     Ok(())
 }
 
+/// The third line.
 #[tactic(auto, unfolding(crate::specs::Text::capacities_text))]
-fn put_capacities(out: &mut Vec<u8>, capacities: &[u32]) -> Result<(), AllocError>
+pub fn put_capacities(out: &mut Vec<u8>, capacities: &[u32]) -> Result<(), AllocError>
     ensures { OnOk result (out.new.items ≡ out.old.items ++ capacities_text capacities.now) }
 {
     put(out, b"caps")?;
