@@ -22,8 +22,7 @@ use Rattle.gmp_book.specs.declared.answers.Parking.TheVariants as parks
 use Rattle.gmp_book.specs.declared.went.Moved.{Moved}
 use Rattle.gmp_book.specs.declared.went.Moved.TheVariants.{On, Waits}
 use Rattle.gmp_book.proofs.Bodies.{all_filled-map}
-use Rattle.gmp_book.specs.declared.report.Report.{Report}
-use Rattle.gmp_book.specs.Book.{BookContents, IsReport, MayOpen, opening_book, SameValues, HandsOut, HandsOutOwner, TakesBack, TakesBackOwner}
+use Rattle.gmp_book.specs.Book.{BookContents, MayOpen, opening_book, SameValues, HandsOut, HandsOutOwner, TakesBack, TakesBackOwner}
 use Rattle.gmp_ledger.specs.Log.{Log, Records, calls_of, entries_made}
 use Rattle.gmp_ledger.specs.Handed.{by_proc, by_ticket, nothing_handed}
 use Rattle.gmp_ledger.specs.Refusals.{IsCurrent, refusal_of}
@@ -49,14 +48,12 @@ use Rattle.gmp_seq.specs.declared.status.Place.TheVariants.{Shelf}
 use Rattle.gmp_seq.specs.declared.status.Status.TheVariants as status
 use Rattle.gmp_seq.specs.Machines.{Holds, spins}
 use Rattle.gmp_seq.specs.Needs.{Needs}
-use Rattle.gmp_seq.specs.Run as runs
-use Rattle.gmp_seq.specs.State.{State}
 use Rattle.gmp_seq.specs.Step.{Step}
 use Rattle.gmp_seq.specs.Table.{RunsNothing, is_outstanding, made_ready, made_wait, minded, set_status}
 use Rattle.gmp_slots.specs.Slots.{is_vacant, all_filled}
 use Rattle.gmp_cli.specs.declared.machine.Hand.{Hand}
 use Rattle.gmp_cli.specs.declared.machine.Hand.TheVariants.{Start, Look, Claim, Drop, Park, Mind, Poke, Run}
-use Rattle.gmp_cli.specs.Driven.{Drives, AddsEntry, IsDriven, IsLatest, IsReportOf, LacksOne, machine, looking, pushed, running_one, starting}
+use Rattle.gmp_cli.specs.Driven.{Drives, AddsEntry, IsDriven, IsLatest, LacksOne, machine, looking, pushed, running_one, starting}
 use Rattle.gmp_script.specs.Script.{Commands}
 use Rattle.gmp_cli.proofs.Driving.{opening_driven, started_driven, taken_driven, none_driven, claimed_driven, poked_driven, poked_on, declared_driven, declare_needs, park_idle, park_stirs, ticked_driven, gone_driven, ready_driven, made_driven, dealt_driven, closed_driven, selected_driven, len_driven, cap_driven, waited_driven, yielded_driven, exited_driven, claim_needs}
 use Rattle.gmp_cli.proofs.Tickets.{first_out}
@@ -113,21 +110,6 @@ latest_on old new before after asked answer records latest =
       turn = calls ∙ (ap (λ (n : ℕ). n + 1) latest.turn ∙ sym (ap (λ (l : List ℕ). slice_index l machine.0) counts ∙ get_or-set_same old.state.counts machine.0 (slice_index old.state.counts machine.0 + 1) 0 latest.counted));
       seen = omega (arith, seen);
     }
-
--- the report of a book tells the run that the book was opened for
-pub reported : {T Q : Type 0} (log : Log) (book : BookContents T Q) (report : Report T Q) → book.log ≡ log → IsReport book report → IsReportOf log report
-reported log book report same told =
-    let begun = subst (λ (s : State). runs.Run book.log.limits s book.log.history book.log.state) told.start told.legal in
-    subst (λ (l : Log). IsReportOf l report) same (record {
-      limits = told.limits;
-      bodies = told.stock;
-      capacities = told.capacities;
-      last = book.log.state;
-      legal = rw told.history begun;
-      outcome = told.outcome;
-      fits = rw told.history told.fits;
-      within = told.within;
-    })
 
 -- a pass that is the latest may call while the run lasts
 pub may_call : (log : Log) (pass : Pass) → IsLatest log pass → log.state.outcome ≡ None → IsCurrent log pass
