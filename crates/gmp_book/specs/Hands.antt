@@ -202,8 +202,8 @@ FitsBody Returns g held called bodies = held ≡ None
 -- Owners
 
 -- the processor's owner comes out of its place
-abbrev pub HandsOutOwner : {Q : Type 0} → PNo → ℕ → Option (Proc Q) → List (Option Q) → List (Option Q) → Type 0
-HandsOutOwner {Q} p run back old new =
+abbrev pub OwnerOut : {Q : Type 0} → PNo → ℕ → Option (Proc Q) → List (Option Q) → List (Option Q) → Type 0
+OwnerOut {Q} p run back old new =
     (owner : Q) × (back ≡ Some (record { run = run; p = p; owner = owner })) × (slice_get old p.0 ≡ Some (Some owner)) × (new ≡ slice_set old p.0 None)
 
 -- the owners once the one that is handed in is in its place
@@ -213,8 +213,8 @@ with_owner None owners = owners
 
 -- the owner goes as the reply says
 abbrev pub HandsOwner : {Q : Type 0} → Reply → ℕ → Option (Proc Q) → Option (Proc Q) → List (Option Q) → List (Option Q) → Type 0
-HandsOwner (reply.Proc p) run given back old new = HandsOutOwner p run back old new
-HandsOwner (reply.Runs p) run given back old new = HandsOutOwner p run back old new
+HandsOwner (reply.Proc p) run given back old new = OwnerOut p run back old new
+HandsOwner (reply.Runs p) run given back old new = OwnerOut p run back old new
 HandsOwner (reply.Entered p woken) run given back old new = (back ≡ None) × (new ≡ with_owner given old)
 HandsOwner (reply.Idle p) run given back old new = (back ≡ None) × (new ≡ with_owner given old)
 HandsOwner _ run given back old new = (back ≡ given) × (new ≡ old)

@@ -43,7 +43,7 @@ entries_made log = sum log.state.counts
 abbrev pub calls_of : Log → MNo → ℕ
 calls_of log m = slice_index log.state.counts m.0
 
--- The call was accepted: its entry goes last, behind as many of its machine's as the pass counts, and it is a step of the scheduler.
+-- The call was accepted: its entry goes last, with the pass's count for its number, and is a step of the scheduler.
 -- The shelf is first in, first out. The pass has made one call more from then on, and has seen all.
 pub record Records (old : Log) (before : Pass) (call : Call) (reply : Reply) (now : Log) (after : Pass) : Type 0 where
   pub entry : now.history ≡ old.history ++ record { m = before.m; k = before.calls; call = call; reply = reply } ∷ []

@@ -1,8 +1,9 @@
 //! The run so far, and the call that goes on with it.
-ghost use Rattle.std.specs.Prelude.{◌≡◌, ◌<◌, All, None, false, slice_get, IfNone, IfOk, OnErr, OnOk};
+ghost use Rattle.std.specs.Prelude.{◌≡◌, ◌<◌, All, List, None, false, slice_get, IfNone, IfOk, OnErr, OnOk};
+ghost use Rattle.gmp_seq.specs.declared.call.Entry.{Entry};
 ghost use Rattle.gmp_seq.specs.Fits.{AreLimits, Fits};
 ghost use Rattle.gmp_seq.specs.Machines.{is_parked};
-ghost use Rattle.gmp_seq.specs.Run.{Run};
+ghost use Rattle.gmp_seq.specs.Run.{IsLegal, Run};
 ghost use Rattle.gmp_seq.specs.State.{opening};
 ghost use Rattle.gmp_seq.specs.Table.{is_outstanding, is_shelved};
 ghost use Rattle.gmp_table.specs.Kept.{IsListing};
@@ -91,12 +92,16 @@ impl Ledger {
     pub fn history(&self) -> &[Entry]
         ensures entries { result.now ≡ self.now.history }
         ensures legal { Run self.now.limits self.now.start self.now.history self.now.state }
+        // A legal run leads to the start.
+        ensures before { (h : List Entry) × IsLegal self.now.limits self.now.bodies self.now.capacities h self.now.start }
+        // Today that is the opening.
         ensures start { self.now.start ≡ opening self.now.limits self.now.bodies self.now.capacities }
         ensures fits { All Fits self.now.history }
         ensures within { AreLimits self.now.limits self.now.bodies self.now.capacities }
         // The shelf has each goroutine on it once, and no other.
         ensures listing { IsListing is_shelved self.now.state.table.goroutines self.now.shelf }
     {
+        // It tells that the shelf lists those on it.
         let _ = self.scheduler.has_shelved();
         self.entries.as_slice()
     }

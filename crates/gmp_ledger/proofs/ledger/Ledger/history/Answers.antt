@@ -1,0 +1,10 @@
+use Rattle.std.proofs.Common.{List, subst}
+use Rattle.gmp_seq.specs.declared.call.Entry.{Entry}
+use Rattle.gmp_seq.specs.Run.{IsLegal}
+use Rattle.gmp_ledger.specs.Log.{Log}
+use Rattle.gmp_ledger.proofs.ledger.Ledger.history.Goals as goal
+
+pub returns-clause-before : goal.returns-clause-before
+returns-clause-before c =
+    let kept = c.self.invariant.0 in
+    subst (λ (l : Log). (h : List Entry) × IsLegal l.limits l.bodies l.capacities h l.start) c.self.view_is (kept.before, kept.start)
