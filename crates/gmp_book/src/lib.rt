@@ -1,6 +1,6 @@
 //! The book: every call of the scheduler, made whole by a pass or refused. What it keeps is always a legal run.
 //!
-//! What the calls cost, where g is the number of goroutines and h the length of the history:
+//! What the calls cost:
 //!
 //! - `take`, `put`, `claim`, `go`, `yield_to`, `exit`, `make`, `len`, `cap`, `sleep`, `park_g`, `ready`, `enter`, `leave` are constant: a
 //!   row of the status table, an end of the shelf, a place of bodies, one entry.

@@ -24,7 +24,8 @@ use std::marker::Model;
 
 /// A run of the scheduler. A contract sees what it was opened with, its history, and its present state.
 ///
-/// The history is a run from a state of a legal run, today the opening, to the present state, whatever is called. Only the opening and a make take memory.
+/// The history is a run from a state of a legal run, today the opening, to the present state, whatever is called. Only the opening and a
+/// make take memory.
 #[derive(Drop)]
 pub struct Ledger {
     run: u64,
