@@ -45,7 +45,10 @@ fn unchanged(
 ) -> Held<u32> {
     let (why, held) = refused.open();
     assert_eq!(rt; why, Refusal::OutOfMemory);
-    assert_eq!(rt; (held.run, held.g, held.woke, held.body), (7, GNo(0), Woke::NoMemory, 70));
+    assert_eq!(rt;
+        (held.run, held.g, held.woke, held.body),
+        (7, GNo(0), Woke::NoMemory, 70)
+    );
     assert_eq!(rt; (pass.calls, pass.seen), before);
     assert_eq!(rt; book.history().len() as u64, before.1);
     held
