@@ -75,16 +75,24 @@ fn taken(book: &mut Desk, hand: Hand) -> Result<(), Refusal> {
     held.and(called).and(proc)
 }
 
-/// The report of a run that is over has all bodies and owners, in order.
+/// The report of a run that is over has what the run was opened with, as many entries as the book had, how it ended, and all bodies and
+/// owners, in order.
 fn reported(alloc: Global, opening: &Opening, book: Desk) -> Result<(), Short> {
     let bodies = numbers(alloc, u32::from(opening.bodies))?;
     let owners = numbers(alloc, u32::from(opening.limits.procs))?;
+    let entries = book.history().len();
+    let outcome = book.outcome();
     match book.into_report() {
         Ok(report) => {
-            if report.bodies != bodies || report.owners != owners {
-                return Err(Short::Astray);
+            let is_opened = report.limits == opening.limits
+                && report.capacities == opening.capacities;
+            let is_said = report.history.len() == entries && Some(report.outcome) == outcome;
+            let has_all = report.bodies == bodies && report.owners == owners;
+            if is_opened && is_said && has_all {
+                Ok(())
+            } else {
+                Err(Short::Astray)
             }
-            Ok(())
         }
         Err(refused) => {
             let (why, _) = refused.open();

@@ -5,6 +5,7 @@ ghost use Rattle.std.specs.Prelude.{IfSome};
 ghost use Rattle.gmp_ledger.specs.Grants.{Suits};
 ghost use Rattle.gmp_book.specs.Hands.{handed_of};
 
+use crate::leaves::{InHand, TicketParts};
 use gmp_base::{Called, GNo, Held, MNo, PNo, Pass, Proc, Ticket, Woke};
 use gmp_book::Values;
 use gmp_seq::Call;
@@ -120,7 +121,7 @@ impl Hand {
     }
 
     /// Keeps the pass and what a call handed out or back. A ticket is let go: its parts.
-    pub fn keeps(&mut self, pass: Pass, values: Values<u32, u32>) -> Option<(u64, GNo, u64)> {
+    pub fn keeps(&mut self, pass: Pass, values: Values<u32, u32>) -> Option<TicketParts> {
         let (run, _, calls, seen) = pass.open();
         self.pass = (run, calls, seen);
         let Values {
@@ -153,6 +154,23 @@ impl Hand {
             None => true,
         };
         held && called && proc && self.pass.0 == RUN
+    }
+
+    /// What it has, by its numbers.
+    pub fn in_hand(&self) -> InHand {
+        let held = match self.held {
+            Some((_, g, _, _)) => Some(g),
+            None => None,
+        };
+        let called = match self.called {
+            Some((_, g, _)) => Some(g),
+            None => None,
+        };
+        let proc = match self.proc {
+            Some((_, p, _)) => Some(p),
+            None => None,
+        };
+        InHand { held, called, proc }
     }
 
     /// What the goroutine that it runs is told.

@@ -6,6 +6,7 @@
 mod ending;
 mod files;
 mod hand;
+mod leaves;
 mod opening;
 mod run;
 mod short;

@@ -1,6 +1,7 @@
 //! A run that is played line by line.
 
 use crate::hand::{Hand, RUN};
+use crate::leaves::{TicketParts, given_out, handed_in};
 use crate::opening::{Desk, Opening, opened};
 use crate::short::Short;
 use crate::told::says;
@@ -9,6 +10,9 @@ use gmp_base::{GNo, PNo, Refusal, Woke};
 use gmp_seq::{Call, Reply};
 use gmp_trace::{End, put_end, put_reply, read_call};
 use std::alloc::Global;
+
+/// What a call is answered, and the ticket that it hands out or back.
+type Answer = (Result<Reply, Refusal>, Option<TicketParts>);
 
 /// A run that is played.
 #[derive(Drop)]
@@ -53,8 +57,8 @@ impl Run {
         }
     }
 
-    /// The machine makes the call.
-    fn calls(&mut self, m: u8, call: Call) -> Result<Result<Reply, Refusal>, Short> {
+    /// The machine makes the call: its answer, and the ticket that it hands out or back.
+    fn calls(&mut self, m: u8, call: Call) -> Result<Answer, Short> {
         let mut hand = self.hand(m)?;
         let Some(values) = hand.values(&call, self.run) else {
             return Err(Short::EmptyHanded);
@@ -65,36 +69,71 @@ impl Run {
         let ticket = hand.keeps(pass, values);
         self.put_hand(m, hand);
         self.calls = self.calls.wrapping_add(1);
-        match (answer, ticket) {
-            (Ok(_), Some((run, _, _))) if run != RUN => Err(Short::Astray),
-            _ => Ok(answer),
-        }
+        Ok((answer, ticket))
     }
 
-    /// The text of the call is made, and accepted, and answered as the line says.
+    /// The call is accepted, and answered as the line says; history, pass and values are as the call and its reply leave them.
     fn accepted(&mut self, m: u8, call: Call, line: &str) -> Result<(), Short> {
-        let before = self.book.history().len();
-        let reply = match self.calls(m, call)? {
+        let before = self.hand(m)?;
+        let length = self.book.history().len();
+        let asked = format!(in self.alloc; "{call:?}")?;
+        let (answer, ticket) = self.calls(m, call)?;
+        let reply = match answer {
             Ok(reply) => reply,
             Err(why) => return Err(Short::Refused(why, why.number())),
         };
-        let (answer, told) = match line.split_once(" = ") {
-            Some((answer, told)) => (answer, Some(told)),
+        let (text, told) = match line.split_once(" = ") {
+            Some((text, told)) => (text, Some(told)),
             None => (line, None),
         };
-        let mut text = Vec::new(self.alloc);
-        put_reply(&mut text, &reply)?;
-        if text.strip_prefix(b" ") != Some(answer.as_bytes()) {
-            return Err(Short::Answered(reply));
-        }
-        let hand = self.hand(m)?;
-        if !hand.is_own() {
-            return Err(Short::Astray);
-        }
-        if self.book.history().len() != before.wrapping_add(1) {
+        self.is_answer(reply, text)?;
+        if self.book.history().len() != length.wrapping_add(1) {
             return Err(Short::Miscounted);
         }
-        self.is_told(told, hand.told())
+        self.is_entered(before, asked.as_str(), reply)?;
+        if ticket != given_out(reply, RUN) {
+            return Err(Short::Astray);
+        }
+        self.is_told(told, self.hand(m)?.told())
+    }
+
+    /// The line writes this reply.
+    fn is_answer(&self, reply: Reply, line: &str) -> Result<(), Short> {
+        let mut text = Vec::new(self.alloc);
+        put_reply(&mut text, &reply)?;
+        if text.strip_prefix(b" ") == Some(line.as_bytes()) {
+            Ok(())
+        } else {
+            Err(Short::Answered(reply))
+        }
+    }
+
+    /// The last entry is of this machine, which had made as many calls before, and has this call and this reply.
+    fn is_entered(&self, before: Hand, asked: &str, reply: Reply) -> Result<(), Short> {
+        let Some(entry) = self.book.history().last() else {
+            return Err(Short::Miscounted);
+        };
+        let call = &entry.call;
+        let text = format!(in self.alloc; "{call:?}")?;
+        let (_, calls, _) = before.pass;
+        let is_asked = entry.m == before.m && entry.k == calls && text.as_str() == asked;
+        if !is_asked || entry.reply != reply {
+            return Err(Short::Miscounted);
+        }
+        self.is_left(before, call, reply)
+    }
+
+    /// The machine's pass counts the call, and its values are the run's own, and those that the call and its reply leave it.
+    fn is_left(&self, before: Hand, call: &Call, reply: Reply) -> Result<(), Short> {
+        let hand = self.hand(before.m.0)?;
+        let (_, calls, _) = before.pass;
+        let pass = (RUN, calls.wrapping_add(1), self.book.history().len() as u64);
+        let in_hand = before.in_hand().after(call, reply);
+        if hand.pass == pass && hand.is_own() && hand.in_hand() == in_hand {
+            Ok(())
+        } else {
+            Err(Short::Astray)
+        }
     }
 
     /// Where the line says what the goroutine is told, it is.
@@ -116,7 +155,9 @@ impl Run {
         let before = self.book.history().len();
         let hand = self.hand(m)?;
         let want = small(line)?;
-        match self.calls(m, call)? {
+        let handed = handed_in(&call, self.run);
+        let (answer, ticket) = self.calls(m, call)?;
+        match answer {
             Ok(reply) => return Err(Short::Answered(reply)),
             Err(why) => {
                 if why.number() != want {
@@ -124,7 +165,8 @@ impl Run {
                 }
             }
         }
-        if self.hand(m)? != hand || self.book.history().len() != before {
+        let is_kept = self.hand(m)? == hand && ticket == handed;
+        if !is_kept || self.book.history().len() != before {
             return Err(Short::Changed);
         }
         Ok(())

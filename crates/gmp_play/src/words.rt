@@ -2,25 +2,30 @@
 
 use crate::short::Short;
 
-/// The number that a word writes.
+/// Whether a number has no sign and no leading zero.
+fn is_plain(word: &str) -> bool {
+    word == "0" || !(word.starts_with('0') || word.starts_with('+'))
+}
+
+/// The number that a word writes, spelled as a trace spells it.
 pub fn number(word: &str) -> Result<u64, Short> {
     match word.parse() {
-        Ok(n) => Ok(n),
-        Err(_) => Err(Short::Unreadable),
+        Ok(n) if is_plain(word) => Ok(n),
+        _ => Err(Short::Unreadable),
     }
 }
 
 pub fn small(word: &str) -> Result<u8, Short> {
     match word.parse() {
-        Ok(n) => Ok(n),
-        Err(_) => Err(Short::Unreadable),
+        Ok(n) if is_plain(word) => Ok(n),
+        _ => Err(Short::Unreadable),
     }
 }
 
 pub fn short(word: &str) -> Result<u16, Short> {
     match word.parse() {
-        Ok(n) => Ok(n),
-        Err(_) => Err(Short::Unreadable),
+        Ok(n) if is_plain(word) => Ok(n),
+        _ => Err(Short::Unreadable),
     }
 }
 
