@@ -10,7 +10,7 @@ pub struct Pass {
     pub m: MNo,
     /// How many calls of the machine were accepted.
     pub calls: u64,
-    /// How many entries the history had after the last of them.
+    /// How many entries all machines had made after the last of them.
     pub seen: u64,
 }
 

@@ -16,7 +16,8 @@ use Rattle.gmp_ledger.specs.declared.handed.Handed.{Handed}
 use Rattle.gmp_book.specs.declared.values.Values.{Values}
 use Rattle.gmp_ledger.specs.Grants.{Grants, Suits}
 use Rattle.gmp_ledger.specs.Handed.{goroutine_in, held_handed, nothing_handed, processor_in, ticket_handed}
-use Rattle.gmp_book.specs.Hands.{handed_of, hands_called, hands_held, hands_proc}
+use Rattle.gmp_book.specs.Hands.{handed_of}
+use Rattle.gmp_book.specs.Kinds.{hands_called, hands_held, hands_proc}
 use Rattle.gmp_base.specs.declared.number.Readiness.{Readiness}
 
 -- there is one where it is to be handed in, and then m runs it, calls for it, or holds it

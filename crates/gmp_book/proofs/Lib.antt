@@ -4,5 +4,3 @@ pub mod Moves
 pub mod Handing
 pub mod Settled
 pub mod Asking
-pub mod Telling
-pub mod Resting

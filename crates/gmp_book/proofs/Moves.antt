@@ -34,7 +34,8 @@ use Rattle.gmp_seq.proofs.Waiting.{first_waits}
 use Rattle.gmp_book.specs.declared.values.Way.{Way}
 use Rattle.gmp_book.specs.declared.values.Way.TheVariants as way
 use Rattle.gmp_book.specs.Book.{is_held}
-use Rattle.gmp_book.specs.Hands.{claimed, gives_body, gives_proc, goes_on, hands_called, hands_held, hands_proc, way_of}
+use Rattle.gmp_book.specs.Hands.{claimed, way_of}
+use Rattle.gmp_book.specs.Kinds.{gives_body, gives_proc, goes_on, hands_called, hands_held, hands_proc}
 use Rattle.gmp_book.proofs.Bodies.{is_in, set_map, set_same}
 
 -- What changes
@@ -64,7 +65,7 @@ BodyMoves way.Returns c m old new = (hands_called c ≡ true) × (hands_held c �
 
 -- the owner of p comes out
 abbrev pub GivesOwner : PNo → Call → Machines → Machines → Type 0
-GivesOwner p c old new = (gives_proc c ≡ true) × (hands_proc c ≡ false) × IsIdle old p × (idles new ≡ set (idles old) p.0 false)
+GivesOwner p c old new = (gives_proc c ≡ true) × (hands_held c ≡ false) × (hands_proc c ≡ false) × IsIdle old p × (idles new ≡ set (idles old) p.0 false)
 
 -- the owner of p, which m holds, comes in
 abbrev pub TakesOwner : PNo → Call → MNo → Machines → Machines → Type 0
@@ -195,7 +196,7 @@ parks asked m _ old new h = absurd h
 
 pub moves : (limits : Limits) (m : MNo) (c : Call) (answer : Reply) (old new : State) → Effect limits m c answer old new → Moves c answer m old new
 moves limits m call.Acquire (reply.Proc p) old new (h, is, rest) =
-    (same_ins old.table new.table is, (refl, refl, h.2, one_idle old.machines new.machines p (Some m) (holders new.machines _ h.3)))
+    (same_ins old.table new.table is, (refl, refl, refl, h.2, one_idle old.machines new.machines p (Some m) (holders new.machines _ h.3)))
 moves limits m call.Acquire reply.Nothing old new (h, is, rest) = (same_ins old.table new.table is, same_idles old.machines new.machines h.3)
 moves limits m call.Acquire _ old new (h, is, rest) = absurd h
 moves limits m call.Take (reply.Ticket r) old new (awake, ((told, ready, is), rest, machines)) =
@@ -251,7 +252,7 @@ moves limits m call.Enter (reply.Entered p (Some n)) old new (g, runs, (is, h, r
     ((refl, refl, turns old.table new.table g _ _ runs refl (rows new.table _ is)), (refl, h.0, one_idle old.machines new.machines p None (holders new.machines _ h.2)))
 moves limits m call.Enter _ old new (g, runs, (is, h, rest)) = absurd h
 moves limits m (call.Leave number) (reply.Runs p) old new (g, calls, is, h, rest) =
-    ((refl, refl, turns old.table new.table g _ _ calls refl (rows new.table _ is)), (refl, refl, h.0, one_idle old.machines new.machines p (Some m) (holders new.machines _ h.1)))
+    ((refl, refl, turns old.table new.table g _ _ calls refl (rows new.table _ is)), (refl, refl, refl, h.0, one_idle old.machines new.machines p (Some m) (holders new.machines _ h.1)))
 moves limits m (call.Leave number) (reply.Shelved r) old new (g, calls, (ticket, is), h, rest) =
     ((refl, refl, g, inr calls, one_in old.table new.table g _ (rows new.table _ is)), ap idles h.1)
 moves limits m (call.Leave number) _ old new (g, calls, h, returns, rest) = absurd h

@@ -28,7 +28,8 @@ use Rattle.gmp_book.specs.declared.values.Values.{Values}
 use Rattle.gmp_book.specs.declared.values.Way.{Way}
 use Rattle.gmp_book.specs.declared.values.Way.TheVariants as way
 use Rattle.gmp_book.specs.Book.{BodiesIn, IsBook, OwnersIn, is_held}
-use Rattle.gmp_book.specs.Hands.{FitsBody, FitsHome, FitsOwner, FitsPlace, HandsBody, HandsOwner, claimed, handed_of, hands_called, hands_held, hands_proc, way_of, with_home, with_owner}
+use Rattle.gmp_book.specs.Hands.{FitsBody, FitsHome, FitsOwner, FitsPlace, HandsBody, HandsOwner, claimed, handed_of, way_of, with_home, with_owner}
+use Rattle.gmp_book.specs.Kinds.{hands_called, hands_held, hands_proc}
 use Rattle.gmp_book.proofs.Bodies.{filled_at, is_in, set_map, vacant_at}
 use Rattle.gmp_book.proofs.Handing.{CalledBy, HandedBy, HeldBy, ProcBy, handed_by}
 use Rattle.gmp_book.proofs.Moves.{BodyMoves, Moves, OwnerMoves, idles, ins, moves}
@@ -128,8 +129,8 @@ module _ {Q : Type 0} (limits : Limits) (old : State) (m : MNo) (order : IsInOrd
 
   module _ {T : Type 0} (asked : Call) (new : Machines) (held called : Bool) (v : Values T Q) (by : HandedBy held called (hands_proc asked) m old v) where
     pub fits_owner : (answer : Reply) → OwnerMoves answer asked m old.machines new → FitsOwner answer v.proc owners
-    fits_owner (reply.Proc p) moves = out_fits (hands_proc asked) v.proc p moves.1 by.proc_by moves.2
-    fits_owner (reply.Runs p) moves = out_fits (hands_proc asked) v.proc p moves.1 by.proc_by moves.2
+    fits_owner (reply.Proc p) moves = out_fits (hands_proc asked) v.proc p moves.2 by.proc_by moves.3
+    fits_owner (reply.Runs p) moves = out_fits (hands_proc asked) v.proc p moves.2 by.proc_by moves.3
     fits_owner (reply.Entered p woken) moves = place_fits (hands_proc asked) v.proc moves.0 by.proc_by
     fits_owner (reply.Idle p) moves = place_fits (hands_proc asked) v.proc moves.0 by.proc_by
     fits_owner _ moves = tt
@@ -137,9 +138,9 @@ module _ {Q : Type 0} (limits : Limits) (old : State) (m : MNo) (order : IsInOrd
     pub owners_in : (answer : Reply) (run : ℕ) (proc' : Option (Proc Q)) (owners' : List (Option Q)) → OwnerMoves answer asked m old.machines new
         → HandsOwner answer run v.proc proc' owners owners' → OwnersIn new owners' × (length owners' ≡ length owners)
     owners_in (reply.Proc p) run proc' owners' moves hands =
-        rw hands.3 (place_set owners (idles old.machines) (idles new) p.0 p.0 None kept refl moves.3, length-set owners p.0 None)
+        rw hands.3 (place_set owners (idles old.machines) (idles new) p.0 p.0 None kept refl moves.4, length-set owners p.0 None)
     owners_in (reply.Runs p) run proc' owners' moves hands =
-        rw hands.3 (place_set owners (idles old.machines) (idles new) p.0 p.0 None kept refl moves.3, length-set owners p.0 None)
+        rw hands.3 (place_set owners (idles old.machines) (idles new) p.0 p.0 None kept refl moves.4, length-set owners p.0 None)
     owners_in (reply.Entered p woken) run proc' owners' moves hands = rw hands.1 (place_in (hands_proc asked) v.proc new p moves.0 by.proc_by moves.1 moves.2)
     owners_in (reply.Idle p) run proc' owners' moves hands = rw hands.1 (place_in (hands_proc asked) v.proc new p moves.0 by.proc_by moves.1 moves.2)
     owners_in _ run proc' owners' moves hands = rw hands.1 (kept ∙ sym moves, refl)

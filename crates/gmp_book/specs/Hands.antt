@@ -1,5 +1,5 @@
 -- What a call does with the values that it is handed: one relation for all calls.
-use Rattle.std.specs.Prelude.{◌≡◌, ℕ, Bool, true, false, not, ◌&&◌, Option, None, Some, List, slice_get, slice_set, unwrap_or}
+use Rattle.std.specs.Prelude.{◌≡◌, ℕ, Bool, true, false, Option, None, Some, List, slice_get, slice_set, unwrap_or}
 use Rattle.std.specs.Option.{option_map}
 use Rattle.gmp_base.specs.declared.ask.Woke.{Woke}
 use Rattle.gmp_base.specs.declared.ask.Woke.TheVariants as woke
@@ -15,12 +15,9 @@ use Rattle.gmp_base.specs.declared.value.Ticket.{Ticket}
 use Rattle.gmp_base.specs.Values.{readiness_of}
 use Rattle.gmp_seq.specs.declared.call.Call.{Call}
 use Rattle.gmp_seq.specs.declared.call.Call.TheVariants as call
-use Rattle.gmp_seq.specs.declared.call.Relay.{Relay}
 use Rattle.gmp_seq.specs.declared.call.Reply.{Reply}
 use Rattle.gmp_seq.specs.declared.call.Reply.TheVariants as reply
-use Rattle.gmp_seq.specs.declared.call.Taken.{Taken}
-use Rattle.gmp_seq.specs.declared.call.Taken.TheVariants as taken
-use Rattle.gmp_seq.specs.Step.{woke_after}
+use Rattle.gmp_seq.specs.Step.{ticket_in, woke_after}
 use Rattle.gmp_slots.specs.Slots.{is_filled, is_vacant}
 use Rattle.gmp_ledger.specs.declared.handed.Handed.{Handed}
 use Rattle.gmp_ledger.specs.Known.{known_by}
@@ -28,89 +25,6 @@ use Rattle.gmp_book.specs.declared.values.Values.{Values}
 use Rattle.gmp_book.specs.declared.values.Way.{Way}
 use Rattle.gmp_book.specs.declared.values.Way.TheVariants.{Stays, Home, Out, Calls, Returns}
 use Rattle.gmp_book.specs.Book.{BookContents}
-
--- What a call is handed and may give, by the call alone
-
--- it is handed a goroutine that runs
-abbrev pub hands_held : Call → Bool
-hands_held call.Acquire = false
-hands_held call.Take = false
-hands_held (call.Put r) = false
-hands_held (call.Claim r) = false
-hands_held (call.Leave number) = false
-hands_held call.Spin = false
-hands_held call.Woken = false
-hands_held call.Unspin = false
-hands_held call.Poke = false
-hands_held call.Declare = false
-hands_held call.Bare = false
-hands_held call.Park = false
-hands_held (call.Tick moment) = false
-hands_held _ = true
-
--- it is handed a goroutine that makes a blocking call
-abbrev pub hands_called : Call → Bool
-hands_called (call.Leave number) = true
-hands_called _ = false
-
--- it is handed a processor
-abbrev pub hands_proc : Call → Bool
-hands_proc call.Enter = true
-hands_proc call.Declare = true
-hands_proc _ = false
-
--- it is handed a goroutine that runs, and nothing else
-abbrev pub is_own : Call → Bool
-is_own c = hands_held c && not (hands_proc c)
-
--- it may give out a processor
-abbrev pub gives_proc : Call → Bool
-gives_proc call.Acquire = true
-gives_proc (call.Leave number) = true
-gives_proc _ = false
-
--- it gives out a body
-abbrev pub gives_body : Call → Bool
-gives_body (call.Claim r) = true
-gives_body _ = false
-
--- its goroutine always goes back into the book
-abbrev pub rests : Call → Bool
-rests call.Yield = true
-rests call.Exit = true
-rests (call.Sleep until) = true
-rests call.Gopark = true
-rests _ = false
-
--- its goroutine goes on, or waits
-abbrev pub may_wait : Call → Bool
-may_wait (call.Send c v) = true
-may_wait (call.Recv c) = true
-may_wait (call.Select cases has_default until) = true
-may_wait _ = false
-
--- its goroutine goes on
-abbrev pub goes_on : Call → Bool
-goes_on (call.Go body) = true
-goes_on (call.Make capacity) = true
-goes_on (call.Close c) = true
-goes_on (call.Len c) = true
-goes_on (call.Cap c) = true
-goes_on (call.Ready g) = true
-goes_on _ = false
-
--- no body and no owner moves
-abbrev pub moves_nothing : Call → Bool
-moves_nothing call.Take = true
-moves_nothing (call.Put r) = true
-moves_nothing call.Spin = true
-moves_nothing call.Woken = true
-moves_nothing call.Unspin = true
-moves_nothing call.Poke = true
-moves_nothing call.Bare = true
-moves_nothing call.Park = true
-moves_nothing (call.Tick moment) = true
-moves_nothing _ = false
 
 -- What the values are of
 
@@ -123,24 +37,6 @@ handed_of {T} {Q} v = record {
 }
 
 -- What is handed out
-
--- the sender that a receive served
-abbrev pub sender_in : Option Relay → Option Readiness
-sender_in from = option_map (λ (x : Relay). x.sender) from
-
--- the ticket that a communication of a select gives out
-abbrev pub ticket_of : Taken → Option Readiness
-ticket_of (taken.Sent to) = to
-ticket_of (taken.Got v sent from) = sender_in from
-ticket_of taken.Failed = None
-
--- the ticket that a reply gives out
-abbrev pub ticket_in : Reply → Option Readiness
-ticket_in (reply.Ticket r) = Some r
-ticket_in (reply.Sent to) = to
-ticket_in (reply.Got v sent from) = sender_in from
-ticket_in (reply.Chose i how) = ticket_of how
-ticket_in _ = None
 
 abbrev pub ticket_by : ℕ → Readiness → Ticket
 ticket_by run r = record { run = run; g = r.g; epoch = r.epoch }
@@ -241,6 +137,11 @@ handed_back _ held = held
 abbrev pub is_make : Call → Bool
 is_make (call.Make capacity) = true
 is_make _ = false
+
+-- the goroutine of such a call
+abbrev pub back_of : {T : Type 0} → Call → Refusal → Held T → Held T
+back_of (call.Make capacity) why held = handed_back why held
+back_of _ why held = held
 
 abbrev pub back_where : {T Q : Type 0} → Bool → Refusal → Values T Q → Values T Q
 back_where true why v = record v { held = option_map (handed_back why) v.held }

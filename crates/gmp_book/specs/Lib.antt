@@ -1,5 +1,6 @@
 pub mod Replies
 pub mod Book
+pub mod Kinds
 pub mod Hands
 pub mod Went
 pub mod Returns

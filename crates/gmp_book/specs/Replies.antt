@@ -1,7 +1,7 @@
 -- The reply that each answer stands for.
 use Rattle.gmp_seq.specs.declared.call.Reply.{Reply}
 use Rattle.gmp_seq.specs.declared.call.Reply.TheVariants as reply
-pub use Rattle.gmp_goroutines.specs.Replies.{taken, started}
+pub use Rattle.gmp_goroutines.specs.Replies.{taken}
 use Rattle.gmp_book.specs.declared.answers.Exited.{Exited}
 use Rattle.gmp_book.specs.declared.answers.Exited.TheVariants as exited
 use Rattle.gmp_book.specs.declared.answers.Parking.{Parking}

@@ -1,15 +1,12 @@
 -- What becomes of a goroutine that comes back from a blocking call, and of its machine's processor.
-use Rattle.std.specs.Prelude.{◌≡◌, ℕ, Option, None, Some, false, is_none, position, slice_set}
+use Rattle.std.specs.Prelude.{◌≡◌, ℕ, Some, false, is_none, position, slice_set}
 use Rattle.gmp_base.specs.declared.ask.Woke.TheVariants as woke
 use Rattle.gmp_base.specs.declared.number.GNo.{GNo}
-use Rattle.gmp_base.specs.declared.number.MNo.{MNo}
 use Rattle.gmp_base.specs.declared.value.Called.{Called}
 use Rattle.gmp_seq.specs.declared.call.Reply.{Reply}
 use Rattle.gmp_seq.specs.declared.call.Reply.TheVariants as reply
-use Rattle.gmp_seq.specs.declared.status.Place.TheVariants.{Shelf}
-use Rattle.gmp_seq.specs.declared.status.Status.TheVariants.{Running}
 use Rattle.gmp_seq.specs.Machines.{Machines, some_idle}
-use Rattle.gmp_seq.specs.Table.{Table, made_ready, next_of, set_status}
+use Rattle.gmp_seq.specs.Table.{Table, next_of}
 use Rattle.gmp_book.specs.declared.returned.Returned.{Returned}
 use Rattle.gmp_book.specs.declared.returned.Returned.TheVariants.{Runs, Shelved}
 use Rattle.gmp_book.specs.Book.{BookContents, HandsOutOwner}
@@ -20,11 +17,6 @@ use Rattle.gmp_book.specs.Book.{BookContents, HandsOutOwner}
 abbrev pub returned : {T Q : Type 0} → Table → GNo → Returned T Q → Reply
 returned t g (Runs held proc) = reply.Runs proc.p
 returned t g Shelved = reply.Shelved (next_of t g)
-
--- the table once g came back with this number: it runs on m, or is on the shelf
-abbrev pub table_by : {T Q : Type 0} → Table → GNo → MNo → ℕ → Returned T Q → Table
-table_by t g m number (Runs held proc) = set_status t g (Running m)
-table_by t g m number Shelved = made_ready t g Shelf (woke.Number number)
 
 -- the body of called is back in its place
 pub record TakesBackCalled {T Q : Type 0} (old now : BookContents T Q) (called : Called T) : Type 0 where
@@ -42,8 +34,3 @@ ComesBack old now called number Shelved = TakesBackCalled old now called
 abbrev pub ByLeast : {T Q : Type 0} → Machines → Returned T Q → Type 0
 ByLeast w (Runs held proc) = position is_none w.holders ≡ Some proc.p.0
 ByLeast w Shelved = some_idle w ≡ false
-
--- the machine that an entry into a blocking call woke
-abbrev pub woken_in : Reply → Option MNo
-woken_in (reply.Entered p woken) = woken
-woken_in _ = None

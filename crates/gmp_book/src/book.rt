@@ -11,19 +11,17 @@ ghost use Rattle.gmp_seq.specs.Table.{is_shelved};
 ghost use Rattle.gmp_table.specs.Kept.{IsListing};
 ghost use Rattle.std.specs.Option.{option_map_or};
 ghost use Rattle.gmp_ledger.specs.Grants.{Chooses, Grants, NeedsMemory, Suits, WantsMemory};
-ghost use Rattle.gmp_ledger.specs.Handed.{goroutine_in, processor_in};
+ghost use Rattle.gmp_ledger.specs.Done.{Done};
+ghost use Rattle.gmp_ledger.specs.Handed.{goroutine_in, names_other, processor_in};
 ghost use Rattle.gmp_ledger.specs.Log.{Records, entries_made};
 ghost use Rattle.gmp_ledger.specs.Refusals.{Says, refusal_in, refusal_of};
 ghost use Rattle.gmp_book.specs.Hands.{handed_of};
 
 mod asking;
-mod calling;
-mod communicating;
+mod channels;
 mod ending;
-mod pausing;
-mod resting;
-mod spinning;
-mod taking;
+mod goroutines;
+mod machines;
 
 use crate::opening::{Unopened, first_passes, may_open};
 use crate::settling::{settle_body, settle_owner};
@@ -156,6 +154,7 @@ impl<T, Q> Book<T, Q> {
 
     /// The machine of the pass makes the call, with these values, or it is refused and hands them back. A make is given memory: where
     /// that is refused, its goroutine is to be told `NoMemory`. `word` chooses among the cases of a select.
+    #[inline(always)]
     pub fn call(
         &mut self,
         memory: Option<Global>,
@@ -174,6 +173,8 @@ impl<T, Q> Book<T, Q> {
         ensures hands { IfOk result.1 (λ reply. Hands call reply values result.0 self.old self.new) }
         ensures grants { OnOk result.1 (Grants pass.old.m (goroutine_in (handed_of values)) (processor_in (handed_of values)) call self.old.log.state) }
         ensures order { OnOk result.1 (IsInOrder self.old.log.limits self.old.log.state) }
+        ensures ours { OnOk result.1 (names_other self.old.log.run (handed_of values) ≡ false) }
+        ensures done { IfOk result.1 (λ reply. Done call pass.old.m (goroutine_in (handed_of values)) (processor_in (handed_of values)) reply self.old.log.state self.new.log.state) }
     {
         let given = handed(&values);
         let g = claimed(&call);
@@ -182,12 +183,7 @@ impl<T, Q> Book<T, Q> {
         match self.ledger.call(memory, pass, call, &given, word) {
             Err(why) => (values.refused(makes, why), Err(why)),
             Ok(reply) => {
-                let Values {
-                    held,
-                    called,
-                    ticket,
-                    proc,
-                } = values;
+                let (held, called, ticket, proc) = values.parts();
                 if let Some(ticket) = ticket {
                     ticket.open();
                 }
@@ -197,13 +193,7 @@ impl<T, Q> Book<T, Q> {
                 let (held, called) = settle_body(&mut self.bodies, way, run, g, told, held, called);
                 let proc = settle_owner(&mut self.owners, run, reply, proc);
                 let ticket = ticket_out(run, reply);
-                let back = Values {
-                    held,
-                    called,
-                    ticket,
-                    proc,
-                };
-                (back, Ok(reply))
+                (Values::of(held, called, ticket, proc), Ok(reply))
             }
         }
     }

@@ -1,12 +1,13 @@
 //! Where bodies and owners go by a reply.
 ghost use Rattle.gmp_book.specs.Hands.{FitsBody, FitsOwner, HandsBody, HandsOwner};
 
-use crate::values::Way;
+use crate::values::{Way, spent};
 use gmp_base::{Called, GNo, Held, Proc, Woke};
 use gmp_seq::Reply;
 use gmp_slots::Slots;
 
 /// The body goes so: the goroutine that asked is told this, or g comes out.
+#[inline(always)]
 pub(crate) fn settle_body<T>(
     bodies: &mut Slots<T>,
     way: Way,
@@ -42,37 +43,36 @@ pub(crate) fn settle_body<T>(
                 None => (None, None),
             },
         },
-        Way::Out => match held {
-            Some(held) => (Some(held), called),
-            None => {
-                let body = bodies.take(g.0 as usize);
-                (Some(Held::of(run, g, told, body)), called)
-            }
-        },
-        Way::Calls => match held {
-            Some(held) => match called {
-                Some(called) => (Some(held), Some(called)),
-                None => {
+        Way::Out => {
+            spent(held);
+            let body = bodies.take(g.0 as usize);
+            (Some(Held::of(run, g, told, body)), called)
+        }
+        Way::Calls => {
+            spent(called);
+            match held {
+                Some(held) => {
                     let (run, g, _, body) = held.open();
                     (None, Some(Called::of(run, g, body)))
                 }
-            },
-            None => (None, called),
-        },
-        Way::Returns => match called {
-            Some(called) => match held {
-                Some(held) => (Some(held), Some(called)),
-                None => {
+                None => (None, None),
+            }
+        }
+        Way::Returns => {
+            spent(held);
+            match called {
+                Some(called) => {
                     let (run, g, body) = called.open();
                     (Some(Held::of(run, g, told, body)), None)
                 }
-            },
-            None => (held, None),
-        },
+                None => (None, None),
+            }
+        }
     }
 }
 
 /// The owner of a processor goes as the reply says.
+#[inline(always)]
 pub(crate) fn settle_owner<Q>(
     owners: &mut Slots<Q>,
     run: u64,
@@ -83,13 +83,11 @@ pub(crate) fn settle_owner<Q>(
     ensures { HandsOwner reply run proc result owners.old owners.new }
 {
     match reply {
-        Reply::Proc(p) | Reply::Runs(p) => match proc {
-            Some(proc) => Some(proc),
-            None => {
-                let owner = owners.take(p.0 as usize);
-                Some(Proc::of(run, p, owner))
-            }
-        },
+        Reply::Proc(p) | Reply::Runs(p) => {
+            spent(proc);
+            let owner = owners.take(p.0 as usize);
+            Some(Proc::of(run, p, owner))
+        }
         Reply::Entered(_, _) | Reply::Idle(_) => match proc {
             Some(proc) => {
                 let (_, p, owner) = proc.open();

@@ -1,14 +1,13 @@
 //! The values that a call is handed, and those that it hands out.
-ghost use Rattle.std.specs.Prelude.{◌≡◌, None, Some};
+ghost use Rattle.std.specs.Prelude.{◌≡◌, None};
 ghost use Rattle.std.specs.Option.{option_map};
-ghost use Rattle.gmp_seq.specs.Step.{woke_after};
+ghost use Rattle.gmp_seq.specs.Step.{ticket_in};
 ghost use Rattle.gmp_book.specs.Hands as hands;
-ghost use Rattle.gmp_book.specs.Hands.{back_where, claimed, handed_of, is_make, ticket_in, way_of};
+ghost use Rattle.gmp_book.specs.Hands.{back_where, claimed, handed_back, handed_of, is_make, way_of};
 
-use crate::went::handed_back;
-use gmp_base::{Called, Fault, GNo, Held, Proc, Readiness, Refusal, Ticket, Woke};
+use gmp_base::{Called, GNo, Held, Proc, Refusal, Ticket, Woke};
 use gmp_ledger::Handed;
-use gmp_seq::{Call, Relay, Reply, Taken};
+use gmp_seq::{Call, Reply};
 
 /// What a call is handed or hands out: each kind of value once at most. None can be let go.
 pub struct Values<T, Q> {
@@ -18,7 +17,8 @@ pub struct Values<T, Q> {
     pub proc: Option<Proc<Q>>,
 }
 
-fn spent<X>(value: Option<X>)
+/// There is nothing.
+pub(crate) fn spent<X>(value: Option<X>)
     requires { value ≡ None }
 {
     match value {
@@ -28,67 +28,33 @@ fn spent<X>(value: Option<X>)
 }
 
 impl<T, Q> Values<T, Q> {
-    pub fn none() -> Self
-        ensures { result ≡ record { held = None; called = None; ticket = None; proc = None } }
+    /// These values.
+    pub fn of(
+        held: Option<Held<T>>,
+        called: Option<Called<T>>,
+        ticket: Option<Ticket>,
+        proc: Option<Proc<Q>>,
+    ) -> Self
+        ensures { result ≡ record { held = held; called = called; ticket = ticket; proc = proc } }
     {
         Values {
-            held: None,
-            called: None,
-            ticket: None,
-            proc: None,
+            held,
+            called,
+            ticket,
+            proc,
         }
     }
 
-    pub fn by_ticket(ticket: Ticket) -> Self
-        ensures { result ≡ record { held = None; called = None; ticket = Some ticket; proc = None } }
-    {
-        Values {
-            held: None,
-            called: None,
-            ticket: Some(ticket),
-            proc: None,
-        }
-    }
-
-    pub fn by_called(called: Called<T>) -> Self
-        ensures { result ≡ record { held = None; called = Some called; ticket = None; proc = None } }
-    {
-        Values {
-            held: None,
-            called: Some(called),
-            ticket: None,
-            proc: None,
-        }
-    }
-
-    pub fn by_proc(proc: Proc<Q>) -> Self
-        ensures { result ≡ record { held = None; called = None; ticket = None; proc = Some proc } }
-    {
-        Values {
-            held: None,
-            called: None,
-            ticket: None,
-            proc: Some(proc),
-        }
-    }
-
-    pub fn by_held_and_proc(held: Held<T>, proc: Proc<Q>) -> Self
-        ensures { result ≡ record { held = Some held; called = None; ticket = None; proc = Some proc } }
-    {
-        Values {
-            held: Some(held),
-            called: None,
-            ticket: None,
-            proc: Some(proc),
-        }
-    }
-
-    /// The ticket, where there is nothing else.
-    pub fn into_ticket(self) -> Option<Ticket>
-        requires held { self.held ≡ None }
-        requires called { self.called ≡ None }
-        requires proc { self.proc ≡ None }
-        ensures { result ≡ self.ticket }
+    /// What there is, in the order of the fields.
+    pub fn parts(
+        self,
+    ) -> (
+        Option<Held<T>>,
+        Option<Called<T>>,
+        Option<Ticket>,
+        Option<Proc<Q>>,
+    )
+        ensures { result ≡ record { 0 = self.held; 1 = self.called; 2 = self.ticket; 3 = self.proc } }
     {
         let Values {
             held,
@@ -96,81 +62,7 @@ impl<T, Q> Values<T, Q> {
             ticket,
             proc,
         } = self;
-        spent(held);
-        spent(called);
-        spent(proc);
-        ticket
-    }
-
-    /// The goroutine in a blocking call, where there is nothing else.
-    pub fn into_called(self) -> Option<Called<T>>
-        requires held { self.held ≡ None }
-        requires ticket { self.ticket ≡ None }
-        requires proc { self.proc ≡ None }
-        ensures { result ≡ self.called }
-    {
-        let Values {
-            held,
-            called,
-            ticket,
-            proc,
-        } = self;
-        spent(held);
-        spent(ticket);
-        spent(proc);
-        called
-    }
-
-    /// The goroutine that runs and the processor, where there is nothing else.
-    pub fn into_held_and_proc(self) -> (Option<Held<T>>, Option<Proc<Q>>)
-        requires called { self.called ≡ None }
-        requires ticket { self.ticket ≡ None }
-        ensures held { result.0 ≡ self.held }
-        ensures proc { result.1 ≡ self.proc }
-    {
-        let Values {
-            held,
-            called,
-            ticket,
-            proc,
-        } = self;
-        spent(called);
-        spent(ticket);
-        (held, proc)
-    }
-
-    /// The goroutine that runs, where there is nothing else.
-    pub fn into_held(self) -> Option<Held<T>>
-        requires called { self.called ≡ None }
-        requires ticket { self.ticket ≡ None }
-        requires proc { self.proc ≡ None }
-        ensures { result ≡ self.held }
-    {
-        let (held, proc) = self.into_held_and_proc();
-        spent(proc);
-        held
-    }
-
-    /// The processor, where there is nothing else.
-    pub fn into_proc(self) -> Option<Proc<Q>>
-        requires held { self.held ≡ None }
-        requires called { self.called ≡ None }
-        requires ticket { self.ticket ≡ None }
-        ensures { result ≡ self.proc }
-    {
-        let (held, proc) = self.into_held_and_proc();
-        spent(held);
-        proc
-    }
-
-    /// There is nothing.
-    pub fn into_nothing(self)
-        requires held { self.held ≡ None }
-        requires called { self.called ≡ None }
-        requires ticket { self.ticket ≡ None }
-        requires proc { self.proc ≡ None }
-    {
-        spent(self.into_proc());
+        (held, called, ticket, proc)
     }
 
     /// The values of a call that was refused.
@@ -180,22 +72,25 @@ impl<T, Q> Values<T, Q> {
         if !makes {
             return self;
         }
-        let Values {
-            held,
-            called,
-            ticket,
-            proc,
-        } = self;
+        let (held, called, ticket, proc) = self.parts();
         let held = match held {
             Some(held) => Some(handed_back(why, held)),
             None => None,
         };
-        Values {
-            held,
-            called,
-            ticket,
-            proc,
+        Values::of(held, called, ticket, proc)
+    }
+}
+
+/// What comes back of a make that was refused: where it wanted memory, its goroutine is told so.
+fn handed_back<T>(why: Refusal, held: Held<T>) -> Held<T>
+    ensures { result ≡ handed_back why held }
+{
+    match why {
+        Refusal::OutOfMemory => {
+            let (run, g, _, body) = held.open();
+            Held::of(run, g, Woke::NoMemory, body)
         }
+        _ => held,
     }
 }
 
@@ -243,75 +138,18 @@ pub(crate) fn is_make(call: &Call) -> bool
     matches!(call, Call::Make(_))
 }
 
-/// The sender that a receive served.
-fn sender(from: Option<Relay>) -> Option<Readiness>
-    ensures { result ≡ hands.sender_in from }
-{
-    from.map(|relay| relay.sender)
-}
-
-/// The ticket that a communication of a select gave out.
-fn ticket_of(taken: Taken) -> Option<Readiness>
-    ensures { result ≡ hands.ticket_of taken }
-{
-    match taken {
-        Taken::Sent(to) => to,
-        Taken::Got(_, _, from) => sender(from),
-        Taken::Failed => None,
-    }
-}
-
-/// The ticket that a call gave out.
-pub(crate) fn ticket_in(reply: Reply) -> Option<Readiness>
-    ensures { result ≡ ticket_in reply }
-{
-    match reply {
-        Reply::Ticket(r) => Some(r),
-        Reply::Sent(to) => to,
-        Reply::Got(_, _, from) => sender(from),
-        Reply::Chose(_, taken) => ticket_of(taken),
-        _ => None,
-    }
-}
-
-/// What a communication that proceeded is told as.
-fn woke_of(case: u8, taken: Taken) -> Woke
-    ensures { result ≡ woke_after (Reply.Chose case taken) }
-{
-    match taken {
-        Taken::Sent(_) => Woke::Chose(case, None),
-        Taken::Got(v, sent, _) => Woke::Chose(case, Some((v, sent))),
-        Taken::Failed => Woke::Fault(Fault::SendOnClosed),
-    }
-}
-
-/// What the goroutine that asked is told.
-pub(crate) fn woke_after(reply: Reply) -> Woke
-    ensures { result ≡ woke_after reply }
-{
-    match reply {
-        Reply::Fault(fault) => Woke::Fault(fault),
-        Reply::Got(v, sent, _) => Woke::Got(v, sent),
-        Reply::Chose(case, taken) => woke_of(case, taken),
-        Reply::Default => Woke::Default,
-        Reply::Number(n) => Woke::Number(n),
-        Reply::Channel(c) => Woke::Made(c),
-        _ => Woke::Done,
-    }
-}
-
 /// What the goroutine is told that goes on by the reply.
 pub(crate) fn told_by(known: Option<Woke>, reply: Reply) -> Woke
     ensures { result ≡ hands.told_by known reply }
 {
-    known.unwrap_or(woke_after(reply))
+    known.unwrap_or(reply.woke())
 }
 
 /// The ticket that a call of the run gave out.
 pub(crate) fn ticket_out(run: u64, reply: Reply) -> Option<Ticket>
     ensures { result ≡ option_map (hands.ticket_by run) (ticket_in reply) }
 {
-    match ticket_in(reply) {
+    match reply.ticket() {
         Some(r) => Some(Ticket::of(run, r.g, r.epoch)),
         None => None,
     }

@@ -35,16 +35,7 @@ fn remove_all(list: &mut Vec<Waiter>, g: GNo)
     ensures items { list.new.items ≡ without g list.old.items }
     ensures capacity { vec_capacity list.new ≡ vec_capacity list.old }
 {
-    let n = list.len();
-    let mut kept = 0;
-    for i in 0..n {
-        let w = list[i];
-        if w.g.0 != g.0 {
-            list[kept] = w;
-            kept += 1;
-        }
-    }
-    list.truncate(kept);
+    list.retain(|w| w.g != g);
 }
 
 fn first_on(list: &[Waiter], c: CNo, direction: Direction) -> Option<Waiter>

@@ -1,5 +1,5 @@
 -- What the machine keeps where its goroutine makes a blocking call, and comes back from it.
-use Rattle.std.proofs.Common.{◌≡◌, ℕ, true, false, List, [], ◌∷◌, Option, Some, None, length, set, slice_get, refl, sym, ◌∙◌, ap, subst, arith}
+use Rattle.std.proofs.Common.{◌≡◌, ℕ, Bool, true, false, ◌||◌, List, [], ◌∷◌, Option, Some, None, length, set, slice_get, refl, sym, ◌∙◌, ap, subst, arith}
 use Rattle.std.proofs.lemmas.Bool.Decides.{nat_tests}
 use Rattle.std.proofs.lemmas.Option.{slice_get_within}
 use Rattle.std.specs.Option.{option_map}
@@ -17,10 +17,10 @@ use Rattle.gmp_book.specs.declared.returned.Returned.TheVariants.{Runs}
 use Rattle.gmp_book.specs.Book.{BookContents, HandsOutOwner, TakesBackOwner}
 use Rattle.gmp_ledger.specs.Log.{Log, Records}
 use Rattle.gmp_seq.specs.Table.{is_calling_on}
-use Rattle.gmp_ledger.specs.Handed.{by_called}
+use Rattle.gmp_ledger.specs.Handed.{by_called, called_handed}
 use Rattle.gmp_ledger.specs.Refusals.{refusal_of}
-use Rattle.gmp_book.specs.Returns.{ComesBack, returned, table_by}
-use Rattle.gmp_ledger.proofs.Needed as needed
+use Rattle.gmp_book.specs.Returns.{ComesBack, returned}
+use Rattle.gmp_ledger.proofs.Needed.{granted_where, own_run}
 use Rattle.gmp_seq.specs.declared.call.Call.TheVariants as call
 use Rattle.gmp_seq.specs.declared.call.Reply.TheVariants as reply
 use Rattle.gmp_seq.specs.declared.status.Goroutine.{Goroutine}
@@ -28,7 +28,7 @@ use Rattle.gmp_seq.specs.declared.status.Mode.TheVariants.{Awake, Parked, Callin
 use Rattle.gmp_seq.specs.declared.status.Status.{Status}
 use Rattle.gmp_seq.specs.declared.status.Status.TheVariants as status
 use Rattle.gmp_seq.specs.Machines.{Machines, Enters, Returns}
-use Rattle.gmp_seq.specs.Step.{Step}
+use Rattle.gmp_seq.specs.Step.{Resumes, Step}
 use Rattle.gmp_seq.specs.Table.{Table, IsCalling, IsRunning, epoch_at, is_out, is_running_on, set_status}
 use Rattle.gmp_table.proofs.Listing.{slice_get-set_same, slice_get-set_other, pushed, popped, passed_by, first_passes, row_of}
 use Rattle.gmp_cli.specs.declared.machine.Hand.TheVariants.{Run, Block}
@@ -134,7 +134,8 @@ pub leave_allowed : {T Q : Type 0} (book : BookContents T Q) (pass : Pass) (queu
     → Drives book pass queue capacity (Block called) → refusal_of book.log pass (call.Leave number) (by_called called) ≡ None
 leave_allowed book pass queue capacity called number lasts kept =
     let calls = calls_at book.log called.g queue capacity (length book.bodies) kept.driven in
-    rw kept.run ((needed.leave called.g number book.log pass kept.latest.run (may_call book.log pass kept.latest lasts)).1
+    rw kept.run ((granted_where book.log pass (call.Leave number) (called_handed book.log.run called.g) kept.latest.run (may_call book.log pass kept.latest lasts)
+    (book.log.run, called.g, refl) (ap (λ (b : Bool). b || false) (own_run book.log.run))).1
     (subst (λ (m : MNo). IsCalling book.log.state.table called.g m) (sym kept.latest.m) calls))
 
 module _ (old new : BookContents Commands Unit) (before after : Pass) (queue : List Readiness) (capacity : ℕ) where
@@ -171,10 +172,10 @@ module _ (old new : BookContents Commands Unit) (before after : Pass) (queue : L
       }
 
   pub leave_drives : (called : Called Commands) (how : Returned Commands Unit) (held : Held Commands) (proc : Proc Unit) (number : ℕ) → how ≡ Runs held proc
-      → Records old.log before (call.Leave number) (returned old.log.state.table called.g how) new.log after → new.log.state.table ≡ table_by old.log.state.table called.g before.m number how
+      → Records old.log before (call.Leave number) (returned old.log.state.table called.g how) new.log after → Resumes called.g before.m number (returned old.log.state.table called.g how) old.log.state.table new.log.state.table
       → ComesBack old new called number how → Drives old before queue capacity (Block called) → Drives new after queue capacity (Run proc held)
   leave_drives called how held proc number is records table resumes kept =
       let runs = subst (λ (x : Returned Commands Unit). Records old.log before (call.Leave number) (returned old.log.state.table called.g x) new.log after) is records in
-      let at = subst (λ (x : Returned Commands Unit). new.log.state.table ≡ table_by old.log.state.table called.g before.m number x) is table in
+      let at = subst (λ (x : Returned Commands Unit). Resumes called.g before.m number (returned old.log.state.table called.g x) old.log.state.table new.log.state.table) is table in
       let on = subst (λ (x : Returned Commands Unit). ComesBack old new called number x) is resumes in
       runs_drives called held proc number runs at on.0 on.1 kept

@@ -22,7 +22,7 @@ use Rattle.gmp_ledger.specs.Log.{Log, opening_log}
 use Rattle.gmp_idle.specs.Replies.{acquired, poked}
 use Rattle.gmp_seq.specs.Table.{is_calling_on}
 use Rattle.gmp_book.specs.Replies.{left}
-use Rattle.gmp_book.specs.Went.{is_wait, ticket_in}
+use Rattle.gmp_seq.specs.Step.{is_wait, ticket_in}
 use Rattle.gmp_seq.specs.declared.call.Call.TheVariants as call
 use Rattle.gmp_seq.specs.declared.call.Limits.{Limits}
 use Rattle.gmp_seq.specs.declared.call.Reply.{Reply}

@@ -1,5 +1,5 @@
 -- What the machine holds is the book's, call by call.
-use Rattle.std.proofs.Common.{◌≡◌, ℕ, zero, suc, ◌+◌, ◌<◌, ◌≤◌, Bool, true, false, List, [], ◌∷◌, Option, Some, None, length, length-set, map, replicate, set, slice_get, slice_index, is_some, inl, inr, refl, sym, ◌∙◌, ap, subst, arith}
+use Rattle.std.proofs.Common.{◌≡◌, ℕ, zero, suc, ◌+◌, ◌<◌, ◌≤◌, Bool, true, false, ◌||◌, List, [], ◌∷◌, Option, Some, None, length, length-set, map, replicate, set, slice_get, slice_index, is_some, inl, inr, refl, sym, ◌∙◌, ap, subst, arith}
 use Rattle.std.proofs.lemmas.Bool.{and_parts, false≢true}
 use Rattle.std.proofs.lemmas.List.{get_or-set_same, length-map, length-replicate}
 use Rattle.std.specs.Option.{option_map}
@@ -24,18 +24,16 @@ use Rattle.gmp_book.specs.declared.went.Moved.TheVariants.{On, Waits}
 use Rattle.gmp_book.proofs.Bodies.{all_filled-map}
 use Rattle.gmp_book.specs.Book.{BookContents, MayOpen, opening_book, SameValues, HandsOut, HandsOutOwner, TakesBack, TakesBackOwner}
 use Rattle.gmp_ledger.specs.Log.{Log, Records, calls_of, entries_made}
-use Rattle.gmp_ledger.specs.Handed.{by_proc, by_ticket, nothing_handed}
+use Rattle.gmp_ledger.specs.Handed.{by_proc, by_ticket, nothing_handed, proc_handed, ticket_handed}
 use Rattle.gmp_ledger.specs.Refusals.{IsCurrent, refusal_of}
-use Rattle.gmp_ledger.proofs.Granted.{not_false}
-use Rattle.gmp_ledger.proofs.Needed.{out_test}
-use Rattle.gmp_ledger.proofs.Needed as needed
+use Rattle.gmp_ledger.proofs.Needed.{granted_where, not_false, out_test, own_run}
 use Rattle.gmp_cli.proofs.Resting.{waits_machines}
 use Rattle.gmp_book.specs.declared.went.Went.{Went}
 use Rattle.gmp_idle.specs.Replies.{acquired, poked}
 use Rattle.gmp_goroutines.specs.Replies.{taken}
 use Rattle.gmp_book.specs.Replies.{left, parking}
 use Rattle.gmp_book.specs.Went as by
-use Rattle.gmp_book.specs.Went.{ticket_in}
+use Rattle.gmp_seq.specs.Step.{ticket_in}
 use Rattle.gmp_seq.specs.declared.call.Call.{Call}
 use Rattle.gmp_seq.specs.declared.call.Call.TheVariants as call
 use Rattle.gmp_seq.specs.declared.call.Limits.{Limits}
@@ -126,20 +124,22 @@ pub claim_allowed : {T Q : Type 0} (book : BookContents T Q) (pass : Pass) (queu
     → Drives book pass queue capacity (Claim proc ticket) → refusal_of book.log pass (call.Claim (readiness_of ticket)) (by_ticket ticket) ≡ None
 claim_allowed book pass queue capacity proc ticket lasts kept =
     let needs = claim_needs book.log proc.p (readiness_of ticket) queue capacity (length book.bodies) kept.driven in
-    rw kept.run.1 ((needed.claim (readiness_of ticket) book.log pass kept.latest.run (may_call book.log pass kept.latest lasts)).1
+    rw kept.run.1 ((granted_where book.log pass (call.Claim (readiness_of ticket)) (ticket_handed book.log.run (readiness_of ticket)) kept.latest.run
+    (may_call book.log pass kept.latest lasts) (book.log.run, refl) (ap (λ (b : Bool). b || false || false || false) (own_run book.log.run))).1
     (subst (λ (m : MNo). Needs m (call.Claim (readiness_of ticket)) book.log.state) (sym kept.latest.m) needs))
 
 pub declare_allowed : {T Q : Type 0} (book : BookContents T Q) (pass : Pass) (queue : List Readiness) (capacity : ℕ) (proc : Proc Unit) → book.log.state.outcome ≡ None
     → Drives book pass queue capacity (Drop proc) → refusal_of book.log pass call.Declare (by_proc proc) ≡ None
 declare_allowed book pass queue capacity proc lasts kept =
     let needs = declare_needs book.log proc.p queue capacity (length book.bodies) kept.driven in
-    rw kept.run ((needed.declare proc.p book.log pass kept.latest.run (may_call book.log pass kept.latest lasts)).1
+    rw kept.run ((granted_where book.log pass call.Declare (proc_handed book.log.run proc.p) kept.latest.run (may_call book.log pass kept.latest lasts)
+    (book.log.run, proc.p, refl) (own_run book.log.run)).1
     (subst (λ (m : MNo). RunsNothing book.log.state.table m × (spins book.log.state.machines m ≡ false) × Holds book.log.state.machines m proc.p) (sym kept.latest.m) needs))
 
 pub take_allowed : {T Q : Type 0} (book : BookContents T Q) (pass : Pass) (queue : List Readiness) (capacity : ℕ) (proc : Proc Unit) → book.log.state.outcome ≡ None
     → Drives book pass queue capacity (Look proc) → refusal_of book.log pass call.Take nothing_handed ≡ None
 take_allowed book pass queue capacity proc lasts kept =
-    (needed.take book.log pass kept.latest.run (may_call book.log pass kept.latest lasts)).1
+    (granted_where book.log pass call.Take nothing_handed kept.latest.run (may_call book.log pass kept.latest lasts) refl refl).1
     (subst (λ (m : MNo). Needs m call.Take book.log.state) (sym kept.latest.m) kept.driven.holds.0)
 
 -- the ticket in hand is out

@@ -1,5 +1,5 @@
 //! Tests of the program's functions: the command line, input and scripts, readers and writers that fail, and limits. It has no code of its
-//! own. Whole traces are compared by `gmp_play`.
+//! own. Whole traces are compared by `gmp_scripts`.
 #![tactic(auto)]
 
 #[cfg(test)]

@@ -1,25 +1,14 @@
 -- How the list of all who wait changes with the table.
-use Rattle.std.proofs.Common.{◌≡◌, ℕ, zero, suc, ◌+◌, ◌<◌, ◌==◌, Bool, true, false, not, cond, inl, inr, Option, Some, List, [], ◌∷◌, ◌++◌, length, set, slice_get, count_by, nat_lt, refl, sym, ap, subst, ◌∙◌, add-zero, add-one, zero-add, append-nil, arith}
-use Rattle.std.proofs.lemmas.Bool.{false≢true, eqb-true, eq-eqb}
-use Rattle.std.proofs.lemmas.Bool.Decides.{nat_tests}
+use Rattle.gmp_goroutines.proofs.Common.{◌≡◌, ℕ, zero, suc, ◌+◌, ◌<◌, ◌==◌, Bool, true, false, not, cond, inl, inr, Option, Some, List, [], ◌∷◌, ◌++◌, length, set, slice_get, nat_lt, refl, sym, ap, subst, ◌∙◌, arith, false≢true, eqb-true, eq-eqb, nat_tests, GNo, Goroutine, Kind, Offer, Status, Waiting, Wait, Waiter, Table, status_at, as_waiters, arrived, arrived_among, first_waiters, waiters, row_at}
+use Rattle.std.proofs.Common.{count_by, add-zero, add-one, zero-add, append-nil}
 use Rattle.std.proofs.lemmas.List.Elements.{filter-append}
 use Rattle.std.proofs.lemmas.List.Sums.{sum_by-cons}
 use Rattle.std.proofs.lemmas.Option.{slice_get_within}
 use Rattle.std.specs.List.{list_all}
-use Rattle.gmp_base.specs.declared.number.GNo.{GNo}
 use Rattle.gmp_chan.specs.Contents.{is_of, without}
 use Rattle.gmp_chan.specs.Order.{is_later}
 use Rattle.gmp_seq.proofs.Waiting.{In, waiter_waits}
-use Rattle.gmp_seq.proofs.OneEach.{row_at}
-use Rattle.gmp_seq.specs.declared.status.Goroutine.{Goroutine}
-use Rattle.gmp_seq.specs.declared.status.Kind.{Kind}
-use Rattle.gmp_seq.specs.declared.status.Offer.{Offer}
-use Rattle.gmp_seq.specs.declared.status.Status.{Status}
-use Rattle.gmp_seq.specs.declared.status.Status.TheVariants.{Waiting}
-use Rattle.gmp_seq.specs.declared.status.Wait.{Wait}
-use Rattle.gmp_seq.specs.declared.status.Waiter.{Waiter}
-use Rattle.gmp_seq.specs.Table.{Table, status_at, epoch_at, is_waiting, made_wait}
-use Rattle.gmp_seq.specs.Waits.{as_waiters, arrived, arrived_among, first_waiters, waiters}
+use Rattle.gmp_seq.specs.Table.{epoch_at, is_waiting, made_wait}
 use Rattle.gmp_goroutines.specs.Tied.{IsEarly}
 
 -- The offers of goroutine g are taken out
@@ -88,7 +77,9 @@ OffersNone t g = (v : Wait) (o : Offer) → status_at t g ≡ Some (Waiting v) �
 pub unwaiting_none : (t : Table) (g : GNo) (s : Status) → status_at t g ≡ Some s → is_waiting s ≡ false → OffersNone t g
 unwaiting_none t g s was unwaiting v o at within = let it : s ≡ Waiting v = cc in false≢true (sym unwaiting ∙ ap is_waiting it)
 
-module _ (t : Table) (g : GNo) (none : OffersNone t g) where
+-- so none counts and none is taken out
+pub none_listed : (t : Table) (g : GNo) → OffersNone t g → (count_by (is_of g) (waiters t) ≡ 0) × (without g (waiters t) ≡ waiters t)
+none_listed t g none = along (waiters t) (λ w h. unlisted w h (is_of g w) refl) where
   unlisted : (w : Waiter) → In w (waiters t) → (b : Bool) → is_of g w ≡ b → is_of g w ≡ false
   unlisted w h false e = e
   unlisted w h true e =
@@ -96,19 +87,12 @@ module _ (t : Table) (g : GNo) (none : OffersNone t g) where
       let same : w.g ≡ g = ap (λ (n : ℕ). let x : GNo = record { 0 = n } in x) (eqb-true _ _ e) in
       absurd (none is.wait w.offer (subst (λ (k : GNo). status_at t k ≡ Some (Waiting is.wait)) same is.status) is.offer)
 
-  pub none_counted : count_by (is_of g) (waiters t) ≡ 0
-  none_counted = count (waiters t) (λ w h. unlisted w h (is_of g w) refl)
-    where
-      count : (xs : List Waiter) → ((w : Waiter) → In w xs → is_of g w ≡ false) → count_by (is_of g) xs ≡ 0
-      count [] h = refl
-      count (x ∷ xs) h = let e = h x (inl refl) in sum_by-cons (λ (z : Waiter). cond (is_of g z) 1 0) x xs ∙ rw (e, zero-add) (count xs (λ w k. h w (inr k)))
-
-  pub none_goes : without g (waiters t) ≡ waiters t
-  none_goes = keep (waiters t) (λ w h. unlisted w h (is_of g w) refl)
-    where
-      keep : (xs : List Waiter) → ((w : Waiter) → In w xs → is_of g w ≡ false) → without g xs ≡ xs
-      keep [] h = refl
-      keep (x ∷ xs) h = rw (h x (inl refl)) (ap (λ (l : List Waiter). x ∷ l) (keep xs (λ w k. h w (inr k))))
+  along : (xs : List Waiter) → ((w : Waiter) → In w xs → is_of g w ≡ false) → (count_by (is_of g) xs ≡ 0) × (without g xs ≡ xs)
+  along [] h = (refl, refl)
+  along (x ∷ xs) h =
+      let e = h x (inl refl) in
+      let rest = along xs (λ w k. h w (inr k)) in
+      (sum_by-cons (λ (z : Waiter). cond (is_of g z) 1 0) x xs ∙ rw (e, zero-add) rest.0, rw e (ap (λ (l : List Waiter). x ∷ l) rest.1))
 
 -- Goroutine g begins to wait
 
@@ -136,7 +120,7 @@ wait_waiters t g s why offers until early was unwaiting =
     let y : Goroutine = record { status = Waiting w; epoch = epoch_at t g } in
     let before : first_waiters t.arrivals (set t.goroutines g.0 y) ≡ waiters t =
     first_set g t.arrivals y t.goroutines (λ a less h. let apart : (t.arrivals == a) ≡ false = grind (arith, nat_tests) in rw apart refl)
-    ∙ none_goes t g (unwaiting_none t g s was unwaiting) in
+    ∙ (none_listed t g (unwaiting_none t g s was unwaiting)).1 in
     let last : arrived_among t.arrivals 0 (set t.goroutines g.0 y) ≡ as_waiters g t.arrivals why offers =
     among_one g t.arrivals 0 g.0 y t.goroutines (omega arith) (slice_get_within t.goroutines g.0 found.0 found.1)
     (λ j x at h. unarrived t.arrivals h x.status (λ v is e. let less = early (record { 0 = j }) v (rw at (ap Some is)) in omega arith))

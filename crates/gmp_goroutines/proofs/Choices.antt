@@ -1,9 +1,7 @@
 -- The case that a select takes.
-use Rattle.std.proofs.Common.{◌≡◌, ℕ, ◌≤◌, true, false, Option, None, Some, List, length, slice_get, sym}
+use Rattle.gmp_goroutines.proofs.Common.{◌≡◌, ℕ, ◌≤◌, true, false, Option, Some, None, List, length, slice_get, sym, Case, Waiter}
 use Rattle.std.specs.List.{list_any}
 use Rattle.std.specs.Prelude.{IfNone, IfSome}
-use Rattle.gmp_base.specs.declared.cases.Case.{Case}
-use Rattle.gmp_seq.specs.declared.status.Waiter.{Waiter}
 use Rattle.gmp_seq.specs.Channels.{Channel}
 use Rattle.gmp_seq.specs.Waits.{can}
 use Rattle.gmp_select.specs.Choosing.{case_can, pick}

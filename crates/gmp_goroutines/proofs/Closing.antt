@@ -1,22 +1,10 @@
 -- Who waits first on a channel is the first that its close wakes.
-use Rattle.std.proofs.Common.{◌≡◌, ℕ, zero, suc, ◌+◌, ◌<◌, ◌==◌, Bool, true, false, cond, inl, inr, Option, Some, None, List, [], ◌∷◌, length, slice_get, is_some, nat_lt, refl, sym, ap, subst, ◌∙◌, arith}
-use Rattle.std.proofs.lemmas.Bool.{false≢true, eqb-true, eq-eqb, cases_eq}
-use Rattle.std.proofs.lemmas.Bool.Decides.{nat_tests}
+use Rattle.gmp_goroutines.proofs.Common.{◌≡◌, ℕ, zero, suc, ◌+◌, ◌<◌, ◌==◌, Bool, true, false, cond, inl, inr, Option, Some, None, List, [], ◌∷◌, length, slice_get, is_some, nat_lt, refl, sym, ap, subst, ◌∙◌, arith, false≢true, eqb-true, eq-eqb, cases_eq, nat_tests, CNo, GNo, Goroutine, Kind, Offer, Status, Waiting, Wait, Waiter, Table, as_waiters, arrived, arrived_among, first_waiters, waiters}
 use Rattle.std.proofs.lemmas.List.Folds.{find-append}
 use Rattle.std.specs.List.{find}
 use Rattle.std.specs.Option.{option_map, option_or}
-use Rattle.gmp_base.specs.declared.number.CNo.{CNo}
-use Rattle.gmp_base.specs.declared.number.GNo.{GNo}
 use Rattle.gmp_chan.specs.Order.{is_at}
-use Rattle.gmp_seq.specs.declared.status.Goroutine.{Goroutine}
-use Rattle.gmp_seq.specs.declared.status.Kind.{Kind}
-use Rattle.gmp_seq.specs.declared.status.Offer.{Offer}
-use Rattle.gmp_seq.specs.declared.status.Status.{Status}
-use Rattle.gmp_seq.specs.declared.status.Status.TheVariants.{Waiting}
-use Rattle.gmp_seq.specs.declared.status.Wait.{Wait}
-use Rattle.gmp_seq.specs.declared.status.Waiter.{Waiter}
-use Rattle.gmp_seq.specs.Table.{Table}
-use Rattle.gmp_seq.specs.Waits.{as_waiters, arrived, arrived_among, close_answer, closed_answer, first_waiters, waiters}
+use Rattle.gmp_seq.specs.Waits.{close_answer, closed_answer}
 use Rattle.gmp_table.specs.declared.wake.Candidate.{Candidate}
 use Rattle.gmp_table.specs.declared.wake.Wake.TheVariants.{Closed}
 use Rattle.gmp_table.specs.Waking.{IsFirst, is_before, rank_of}

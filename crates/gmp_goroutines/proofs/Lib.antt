@@ -1,5 +1,5 @@
+pub mod Common
 pub mod Arrivals
 pub mod Closing
 pub mod Ties
-pub mod Running
 pub mod Choices

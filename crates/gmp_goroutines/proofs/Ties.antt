@@ -1,140 +1,118 @@
--- The channels' records stay those of the waiters of the table, and the list who runs on each machine, by each change of the table.
-use Rattle.std.proofs.Common.{◌≡◌, ℕ, zero, suc, ◌+◌, ◌-◌, ◌<◌, ◌≤◌, Bool, true, false, Option, Some, None, List, [], ◌∷◌, ◌++◌, length, set, slice_get, replicate, refl, sym, ap, subst, ◌∙◌, arith, length-set}
-use Rattle.std.proofs.lemmas.Bool.{false≢true}
+-- The channels' records stay those of the waiters of the table, and the list says who runs on each machine, by each change of the table.
+use Rattle.gmp_goroutines.proofs.Common.{◌≡◌, ℕ, zero, suc, ◌+◌, ◌-◌, ◌<◌, ◌≤◌, Bool, true, false, inl, inr, Option, Some, None, List, [], ◌∷◌, ◌++◌, length, set, slice_get, refl, sym, ap, subst, ◌∙◌, arith, false≢true, eqb-true, cases_eq, Case, GNo, MNo, Goroutine, Kind, Offer, Status, Running, Waiting, Wait, Waiter, Table, IsRunning, status_at, status_of, as_waiters, first_waiters, waiters}
+use Rattle.std.proofs.Common.{replicate, length-set}
 use Rattle.std.proofs.lemmas.List.{length-replicate}
 use Rattle.std.specs.Prelude.{IfNone, IfSome}
-use Rattle.gmp_base.specs.declared.cases.Case.{Case}
 use Rattle.gmp_base.specs.declared.cases.Case.TheVariants as case
-use Rattle.gmp_base.specs.declared.number.GNo.{GNo}
-use Rattle.gmp_base.specs.declared.number.MNo.{MNo}
-use Rattle.gmp_base.specs.declared.number.Readiness.{Readiness}
 use Rattle.gmp_chan.specs.Contents.{without, without_served}
 use Rattle.gmp_chan.specs.Served.{served}
 use Rattle.gmp_seq.proofs.Epochs.{at_set}
-use Rattle.gmp_seq.proofs.Manned.{status_of}
-use Rattle.gmp_seq.proofs.OneEach.{row_at}
+use Rattle.gmp_seq.proofs.Manned.{free_runs_none}
+use Rattle.gmp_seq.proofs.Needed.{some_place}
 use Rattle.gmp_seq.proofs.Waiting.{IsWaiter, first_waits}
-use Rattle.gmp_seq.specs.declared.call.Reply.TheVariants as reply
 use Rattle.gmp_seq.specs.declared.status.Direction.TheVariants.{Sending, Receiving}
-use Rattle.gmp_seq.specs.declared.status.Goroutine.{Goroutine}
-use Rattle.gmp_seq.specs.declared.status.Kind.{Kind}
 use Rattle.gmp_seq.specs.declared.status.Kind.TheVariants as kind
-use Rattle.gmp_seq.specs.declared.status.Offer.{Offer}
-use Rattle.gmp_seq.specs.declared.status.Status.{Status}
-use Rattle.gmp_seq.specs.declared.status.Status.TheVariants.{Running, Waiting}
 use Rattle.gmp_seq.specs.declared.status.Transfer.{Transfer}
 use Rattle.gmp_seq.specs.declared.status.Transfer.TheVariants.{Failed, Handed, Stored, First, Relayed, Drained}
-use Rattle.gmp_seq.specs.declared.status.Wait.{Wait}
-use Rattle.gmp_seq.specs.declared.status.Waiter.{Waiter}
 use Rattle.gmp_seq.specs.State.{dormant, first_goroutine}
-use Rattle.gmp_seq.specs.Step.{Takes, served_by}
-use Rattle.gmp_seq.specs.Table.{Table, IsOffShelf, IsRunning, RunsNothing, status_at, epoch_at, is_waiting, made_wait}
-use Rattle.gmp_seq.specs.Waits.{Channel, Proceeds, as_waiters, first_waiters, waiters}
-use Rattle.gmp_goroutines.specs.Runners.{AreRunners}
+use Rattle.gmp_seq.specs.Step.{served_by}
+use Rattle.gmp_seq.specs.Table.{IsOffShelf, RunsNothing, epoch_at, is_running_on, is_waiting, made_wait, some_status}
+use Rattle.gmp_seq.specs.Waits.{Channel, Proceeds}
+use Rattle.gmp_table.proofs.Listing.{slice_get-set_same, slice_get-set_other}
 use Rattle.gmp_goroutines.specs.Served.{IsWayOf}
 use Rattle.gmp_goroutines.specs.Tied.{IsTied}
-use Rattle.gmp_goroutines.proofs.Arrivals.{none_goes, unwaiting_none, wait_waiters, written_waiters}
-use Rattle.gmp_goroutines.proofs.Running.{aside_runners, claimed_runners, freed_runners, is_running, replicated}
-
--- after a write of a row, who waits waited, or is of that row
-set_waits : (t : Table) (g h : GNo) (y : Goroutine) (w : Wait) → is_waiting y.status ≡ false → status_of (slice_get (set t.goroutines g.0 y) h.0) ≡ Some (Waiting w) → status_at t h ≡ Some (Waiting w)
-set_waits t g h y w quiet =
-    at_set (λ (o : Option Goroutine). status_of o ≡ Some (Waiting w) → status_at t h ≡ Some (Waiting w)) t.goroutines g.0 h.0 y
-    (λ same e. let is : y.status ≡ Waiting w = cc in absurd (false≢true (sym quiet ∙ ap is_waiting is))) (λ e. e)
+use Rattle.gmp_goroutines.proofs.Arrivals.{OffersNone, none_listed, unwaiting_none, wait_waiters, written_waiters}
 
 abbrev pub is_idle : Status → Bool
 is_idle (Running m) = false
 is_idle (Waiting w) = false
 is_idle _ = true
 
-idle_rests : (s : Status) → is_idle s ≡ true → (is_waiting s ≡ false) × (is_running s ≡ false)
-idle_rests (Running m) e = absurd (false≢true e)
-idle_rests (Waiting w) e = absurd (false≢true e)
-idle_rests _ e = (refl, refl)
+not_idle : (s u : Status) → is_idle s ≡ true → is_idle u ≡ false → s ≡ u → ⊥
+not_idle s u idle busy e = false≢true (sym busy ∙ ap is_idle (sym e) ∙ idle)
 
-module _ {t : Table} {records : List Waiter} {bodies : ℕ} {runners : List (Option GNo)} (tied : IsTied t records bodies) (are : AreRunners t runners) where
-  written_tied : (g : GNo) (y : Goroutine) → is_waiting y.status ≡ false → IsTied (record t { goroutines = set t.goroutines g.0 y }) (without g records) bodies
-  written_tied g y quiet = record {
-    same = ap (without g) tied.same ∙ sym (written_waiters t g y quiet);
-    size = length-set t.goroutines g.0 y ∙ tied.size;
-    early = λ h w e. tied.early h w (set_waits t g h y w quiet e);
-    bare = λ h w e. tied.bare h w (set_waits t g h y w quiet e);
-  }
+unwaiting : (s : Status) → is_idle s ≡ true → is_waiting s ≡ false
+unwaiting (Waiting w) e = absurd (false≢true e)
+unwaiting _ e = refl
 
-  stays_tied : (g : GNo) (s : Status) (y : Goroutine) → status_at t g ≡ Some s → is_waiting s ≡ false → is_waiting y.status ≡ false
-      → IsTied (record t { goroutines = set t.goroutines g.0 y }) records bodies
-  stays_tied g s y was unwaiting quiet =
-      subst (λ (l : List Waiter). IsTied (record t { goroutines = set t.goroutines g.0 y }) l bodies)
-      (ap (without g) tied.same ∙ (none_goes t g (unwaiting_none t g s was unwaiting) ∙ sym tied.same)) (written_tied g y quiet)
+-- after a write of a row, what a status is that isn't the row's it was
+stood : (t : Table) (g h : GNo) (y : Goroutine) (s : Status) → (y.status ≡ s → ⊥) → status_of (slice_get (set t.goroutines g.0 y) h.0) ≡ Some s → status_at t h ≡ Some s
+stood t g h y s other =
+    at_set (λ (o : Option Goroutine). status_of o ≡ Some s → status_at t h ≡ Some s) t.goroutines g.0 h.0 y (λ same e. let is : y.status ≡ s = cc in absurd (other is)) (λ e. e)
 
-  -- one that waited or was idle is idle, and has no record
-  pub served_kept : (g : GNo) (s : Status) (y : Goroutine) (new : Table) → status_at t g ≡ Some s → is_running s ≡ false → is_idle y.status ≡ true
-      → new ≡ record t { goroutines = set t.goroutines g.0 y } → IsTied new (without g records) bodies × AreRunners new runners
-  served_kept g s y new was stands idle is =
-      let row = row_at t g s was in
-      let rests = idle_rests y.status idle in
-      rw is (written_tied g y rests.0, aside_runners are g row.0 y row.1 t.arrivals (ap is_running row.2 ∙ stands) rests.1)
+module _ {t : Table} {records : List Waiter} {bodies : ℕ} {runners : List GNo} (tied : IsTied t records bodies runners) where
+  -- one that waited is idle, and has no record
+  pub served_kept : (g : GNo) (y : Goroutine) (new : Table) → is_idle y.status ≡ true → new ≡ record t { goroutines = set t.goroutines g.0 y }
+      → IsTied new (without g records) bodies runners
+  served_kept g y new idle is =
+      let was = λ (h : GNo) (w : Wait). stood t g h y (Waiting w) (not_idle y.status (Waiting w) idle refl) in
+      rw is (record {
+        same = ap (without g) tied.same ∙ sym (written_waiters t g y (unwaiting y.status idle));
+        size = length-set t.goroutines g.0 y ∙ tied.size;
+        early = λ h w e. tied.early h w (was h w e);
+        bare = λ h w e. tied.bare h w (was h w e);
+        ran = λ m h runs. tied.ran m h (stood t g h y (Running m) (not_idle y.status (Running m) idle refl) runs);
+      })
 
-  -- one that was idle is idle
-  pub aside_kept : (g : GNo) (s : Status) (y : Goroutine) (new : Table) → status_at t g ≡ Some s → is_idle s ≡ true → is_idle y.status ≡ true
-      → new ≡ record t { goroutines = set t.goroutines g.0 y } → IsTied new records bodies × AreRunners new runners
-  aside_kept g s y new was idle quiet is =
-      let rests = idle_rests s idle in
-      (rw is (stays_tied g s y was rests.0 (idle_rests y.status quiet).0), (served_kept g s y new was rests.1 quiet is).1)
+  -- one that offered nothing is idle
+  offered_kept : (g : GNo) (y : Goroutine) (new : Table) → OffersNone t g → is_idle y.status ≡ true → new ≡ record t { goroutines = set t.goroutines g.0 y }
+      → IsTied new records bodies runners
+  offered_kept g y new none idle is =
+      subst (λ (l : List Waiter). IsTied new l bodies runners) (ap (without g) tied.same ∙ ((none_listed t g none).1 ∙ sym tied.same)) (served_kept g y new idle is)
 
-  -- machine m ran it, and runs none from now on
-  pub freed_kept : (m : MNo) (g : GNo) (y : Goroutine) (new : Table) → IsRunning t g m → is_idle y.status ≡ true → new ≡ record t { goroutines = set t.goroutines g.0 y }
-      → IsTied new records bodies × AreRunners new (set runners m.0 None)
-  freed_kept m g y new runs idle is =
-      let row = row_at t g (Running m) runs in
-      let rests = idle_rests y.status idle in
-      rw is (stays_tied g (Running m) y runs refl rests.0, freed_runners are g row.0 y row.1 t.arrivals m runs rests.1)
+  -- one that didn't wait is idle
+  pub kept : (g : GNo) (s : Status) (y : Goroutine) (new : Table) → status_at t g ≡ Some s → is_waiting s ≡ false → is_idle y.status ≡ true
+      → new ≡ record t { goroutines = set t.goroutines g.0 y } → IsTied new records bodies runners
+  kept g s y new was free idle is = offered_kept g y new (unwaiting_none t g s was free) idle is
+
+  -- one that is parked is made ready
+  pub readied_kept : (g : GNo) (w : Wait) (y : Goroutine) (new : Table) → status_at t g ≡ Some (Waiting w) → w.kind ≡ kind.Parked → is_idle y.status ≡ true
+      → new ≡ record t { goroutines = set t.goroutines g.0 y } → IsTied new records bodies runners
+  readied_kept g w y new was parked idle is =
+      offered_kept g y new (λ v o at within. let it : w ≡ v = cc in rw (ap (λ (u : Wait). u.offers) (sym it) ∙ tied.bare g w was parked) at within) idle is
 
   -- machine m ran none, and runs it from now on
-  pub claimed_kept : (m : MNo) (g : GNo) (s : Status) (e : ℕ) (new : Table) → status_at t g ≡ Some s → is_idle s ≡ true → RunsNothing t m → m.0 < length runners
-      → new ≡ record t { goroutines = set t.goroutines g.0 (record { status = Running m; epoch = e }) } → IsTied new records bodies × AreRunners new (set runners m.0 (Some g))
-  claimed_kept m g s e new was idle free within is =
-      let row = row_at t g s was in
-      let rests = idle_rests s idle in
+  pub claimed_kept : (m : MNo) (g : GNo) (s : Status) (e : ℕ) (new : Table) → status_at t g ≡ Some s → is_waiting s ≡ false → RunsNothing t m → m.0 < length runners
+      → new ≡ record t { goroutines = set t.goroutines g.0 (record { status = Running m; epoch = e }) } → IsTied new records bodies (set runners m.0 g)
+  claimed_kept m g s e new was free none within is =
       let y : Goroutine = record { status = Running m; epoch = e } in
-      rw is (stays_tied g s y was rests.0 refl, claimed_runners are g row.0 y row.1 t.arrivals m (ap is_running row.2 ∙ rests.1) refl free within)
+      let waited = λ (h : GNo) (w : Wait). stood t g h y (Waiting w) (λ it. absurd cc) in
+      rw is (record {
+        same = tied.same ∙ (sym (none_listed t g (unwaiting_none t g s was free)).1 ∙ sym (written_waiters t g y refl));
+        size = length-set t.goroutines g.0 y ∙ tied.size;
+        early = λ h w e. tied.early h w (waited h w e);
+        bare = λ h w e. tied.bare h w (waited h w e);
+        ran = λ n h runs. elim (cases_eq n.0 m.0) [
+          | inl same ↦ rw same (slice_get-set_same runners m.0 g within ∙ ap (λ (k : ℕ). let x : GNo = record { 0 = k } in Some x) (mine n h same runs))
+          | inr other ↦ slice_get-set_other runners m.0 n.0 g other ∙ tied.ran n h (stood t g h y (Running n) (λ it. other (ap machine (sym it))) runs)
+        ];
+      })
+    where
+      machine : Status → ℕ
+      machine (Running n) = n.0
+      machine _ = 0
 
-  -- machine m ran it, and it waits from now on
+      mine : (n : MNo) (h : GNo) → n.0 ≡ m.0 → status_of (slice_get (set t.goroutines g.0 (record { status = Running m; epoch = e })) h.0) ≡ Some (Running n) → g.0 ≡ h.0
+      mine n h same = at_set (λ (o : Option Goroutine). status_of o ≡ Some (Running n) → g.0 ≡ h.0) t.goroutines g.0 h.0 _ (λ here e. here)
+          (λ e. absurd (free_runs_none t m n h.0 none e same))
+
+  -- it ran, and waits from now on
   pub waits_kept : (m : MNo) (g : GNo) (why : Kind) (offers : List Offer) (until : Option ℕ) (new : Table) → IsRunning t g m → (why ≡ kind.Parked → offers ≡ [])
-      → new ≡ made_wait t g why offers until → IsTied new (records ++ as_waiters g t.arrivals why offers) bodies × AreRunners new (set runners m.0 None)
+      → new ≡ made_wait t g why offers until → IsTied new (records ++ as_waiters g t.arrivals why offers) bodies runners
   waits_kept m g why offers until new runs none is =
       let w : Wait = record { arrival = t.arrivals; kind = why; offers = offers; until = until } in
       let y : Goroutine = record { status = Waiting w; epoch = epoch_at t g } in
-      let row = row_at t g (Running m) runs in
-      rw is (
-        record {
-          same = ap (λ (l : List Waiter). l ++ as_waiters g t.arrivals why offers) tied.same ∙ sym (wait_waiters t g (Running m) why offers until tied.early runs refl);
-          size = length-set t.goroutines g.0 y ∙ tied.size;
-          early = λ h v. at_set (λ (o : Option Goroutine). status_of o ≡ Some (Waiting v) → v.arrival < t.arrivals + 1) t.goroutines g.0 h.0 y
-              (λ same e. let is : w ≡ v = cc in let n : v.arrival ≡ t.arrivals = ap (λ (u : Wait). u.arrival) (sym is) in omega arith)
-              (λ e. let less = tied.early h v e in omega arith);
-          bare = λ h v. at_set (λ (o : Option Goroutine). status_of o ≡ Some (Waiting v) → v.kind ≡ kind.Parked → v.offers ≡ []) t.goroutines g.0 h.0 y
-              (λ same e. let is : w ≡ v = cc in subst (λ (u : Wait). u.kind ≡ kind.Parked → u.offers ≡ []) is none)
-              (tied.bare h v);
-        },
-        freed_runners are g row.0 y row.1 (t.arrivals + 1) m runs refl,
-      )
-
-  pub same_kept : (new : Table) → new ≡ t → IsTied new records bodies × AreRunners new runners
-  same_kept new is = rw is (tied, are)
-
-  pub takes_kept : (r : Option Readiness) (new : Table) → IfNone r (Takes reply.Nothing t new) → IfSome r (λ r. Takes (reply.Ticket r) t new) → IsTied new records bodies × AreRunners new runners
-  takes_kept None new none some = same_kept new none.1
-  takes_kept (Some r) new none some = aside_kept r.g _ _ new (ap status_of some.1) refl refl some.2
-
-  -- one that is parked is made ready: it had no record
-  pub readied_kept : (g : GNo) (w : Wait) (y : Goroutine) (new : Table) → status_at t g ≡ Some (Waiting w) → w.kind ≡ kind.Parked → is_idle y.status ≡ true
-      → new ≡ record t { goroutines = set t.goroutines g.0 y } → IsTied new records bodies × AreRunners new runners
-  readied_kept g w y new was parked idle is =
-      let none = tied.bare g w was parked in
-      let same = ap (without g) tied.same ∙ (none_goes t g (λ v o at within. let it : w ≡ v = cc in rw (ap (λ (u : Wait). u.offers) (sym it) ∙ none) at within) ∙ sym tied.same) in
-      let kept = served_kept g (Waiting w) y new was refl idle is in
-      (subst (λ (l : List Waiter). IsTied new l bodies) same kept.0, kept.1)
+      rw is (record {
+        same = ap (λ (l : List Waiter). l ++ as_waiters g t.arrivals why offers) tied.same ∙ sym (wait_waiters t g (Running m) why offers until tied.early runs refl);
+        size = length-set t.goroutines g.0 y ∙ tied.size;
+        early = λ h v. at_set (λ (o : Option Goroutine). status_of o ≡ Some (Waiting v) → v.arrival < t.arrivals + 1) t.goroutines g.0 h.0 y
+            (λ same e. let is : w ≡ v = cc in let n : v.arrival ≡ t.arrivals = ap (λ (u : Wait). u.arrival) (sym is) in omega arith)
+            (λ e. let less = tied.early h v e in omega arith);
+        bare = λ h v. at_set (λ (o : Option Goroutine). status_of o ≡ Some (Waiting v) → v.kind ≡ kind.Parked → v.offers ≡ []) t.goroutines g.0 h.0 y
+            (λ same e. let is : w ≡ v = cc in subst (λ (u : Wait). u.kind ≡ kind.Parked → u.offers ≡ []) is none)
+            (tied.bare h v);
+        ran = λ n h runs. tied.ran n h (stood t g h y (Running n) (λ it. absurd cc) runs);
+      })
 
 -- Who is served waits
 
@@ -158,45 +136,64 @@ way_is old new records (case.Recv (Some c)) (Handed w) h = absurd h
 way_is old new records (case.Send (Some c) v) (Relayed x w) h = absurd h
 way_is old new records _ how h = tt
 
-module _ {t : Table} {bodies : ℕ} {runners : List (Option GNo)} (tied : IsTied t (waiters t) bodies) (are : AreRunners t runners) where
+module _ {t : Table} {bodies : ℕ} {runners : List GNo} (tied : IsTied t (waiters t) bodies runners) where
   -- a communication proceeds
   pub proceeds_kept : (old channels : List Channel) (c : Case) (how : Transfer) (new : Table) → Proceeds old (waiters t) c how channels → new ≡ served_by t c how
-      → IsTied new (without_served how (waiters t)) bodies × AreRunners new runners
-  proceeds_kept old channels (case.Send (Some c) v) (Handed w) new proceeds is =
-      let waits = served_waits t old channels (case.Send (Some c) v) (Handed w) w proceeds refl in served_kept tied are w.g (Waiting waits.wait) _ new waits.status refl refl is
-  proceeds_kept old channels (case.Recv (Some c)) (Relayed v w) new proceeds is =
-      let waits = served_waits t old channels (case.Recv (Some c)) (Relayed v w) w proceeds refl in served_kept tied are w.g (Waiting waits.wait) _ new waits.status refl refl is
-  proceeds_kept old channels (case.Send (Some c) v) Failed new proceeds is = same_kept tied are new is
-  proceeds_kept old channels (case.Send (Some c) v) Stored new proceeds is = same_kept tied are new is
-  proceeds_kept old channels (case.Recv (Some c)) (First v) new proceeds is = same_kept tied are new is
-  proceeds_kept old channels (case.Recv (Some c)) Drained new proceeds is = same_kept tied are new is
+      → IsTied new (without_served how (waiters t)) bodies runners
+  proceeds_kept old channels (case.Send (Some c) v) (Handed w) new proceeds is = served_kept tied w.g _ new refl is
+  proceeds_kept old channels (case.Recv (Some c)) (Relayed v w) new proceeds is = served_kept tied w.g _ new refl is
+  proceeds_kept old channels (case.Send (Some c) v) Failed new proceeds is = rw is tied
+  proceeds_kept old channels (case.Send (Some c) v) Stored new proceeds is = rw is tied
+  proceeds_kept old channels (case.Recv (Some c)) (First v) new proceeds is = rw is tied
+  proceeds_kept old channels (case.Recv (Some c)) Drained new proceeds is = rw is tied
   proceeds_kept old channels _ how new proceeds is = absurd proceeds
 
--- At the opening all are idle
-
-dormant_idle : (k i : ℕ) (s : Status) → status_of (slice_get (replicate k dormant) i) ≡ Some s → is_idle s ≡ true
-dormant_idle zero i s h = absurd cc
-dormant_idle (suc k) zero s h = let is : dormant.status ≡ s = cc in sym (ap is_idle is)
-dormant_idle (suc k) (suc i) s h = dormant_idle k i s h
+-- At the opening nobody waits or runs
 
 opening_idle : (k i : ℕ) (s : Status) → status_of (slice_get (first_goroutine ∷ replicate k dormant) i) ≡ Some s → is_idle s ≡ true
 opening_idle k zero s h = let is : first_goroutine.status ≡ s = cc in sym (ap is_idle is)
-opening_idle k (suc i) s h = dormant_idle k i s h
+opening_idle zero (suc i) s h = absurd cc
+opening_idle (suc k) (suc zero) s h = let is : dormant.status ≡ s = cc in sym (ap is_idle is)
+opening_idle (suc k) (suc (suc i)) s h = opening_idle k (suc i) s h
 
-pub opening_kept : (bodies machines : ℕ) (t : Table) → 1 ≤ bodies → t.goroutines ≡ first_goroutine ∷ replicate (bodies - 1) dormant → t.arrivals ≡ 0
-    → IsTied t [] bodies × AreRunners t (replicate machines None)
-opening_kept bodies machines t some is none = (
-  record {
-    same = ap (λ (n : ℕ). first_waiters n t.goroutines) (sym none);
-    size = ap length is ∙ (let rest : length (replicate (bodies - 1) dormant) ≡ bodies - 1 = length-replicate (bodies - 1) dormant in omega (arith, rest, some));
-    early = λ g w waits. absurd (false≢true (idle g (Waiting w) waits));
-    bare = λ g w waits. absurd (false≢true (idle g (Waiting w) waits));
-  },
-  record {
-    told = λ m g found. absurd (let none : None ≡ Some g = replicated machines m.0 None (Some g) found in cc);
-    all = λ m g runs. absurd (false≢true (idle g (Running m) runs));
-  },
-)
+pub opening_kept : (bodies : ℕ) (runners : List GNo) (t : Table) → 1 ≤ bodies → t.goroutines ≡ first_goroutine ∷ replicate (bodies - 1) dormant → t.arrivals ≡ 0
+    → IsTied t [] bodies runners
+opening_kept bodies runners t some is none =
+    record {
+      same = ap (λ (n : ℕ). first_waiters n t.goroutines) (sym none);
+      size = ap length is ∙ (let rest : length (replicate (bodies - 1) dormant) ≡ bodies - 1 = length-replicate (bodies - 1) dormant in omega (arith, rest, some));
+      early = λ g w waits. absurd (false≢true (idle g (Waiting w) waits));
+      bare = λ g w waits. absurd (false≢true (idle g (Waiting w) waits));
+      ran = λ m g runs. absurd (false≢true (idle g (Running m) runs));
+    }
   where
     idle : (g : GNo) (s : Status) → status_at t g ≡ Some s → is_idle s ≡ true
     idle g s at = opening_idle (bodies - 1) g.0 s (subst (λ (gs : List Goroutine). status_of (slice_get gs g.0) ≡ Some s) is at)
+
+-- Whether a machine runs one
+
+pub running_on : (m : MNo) (s : Status) → is_running_on m s ≡ true → s ≡ Running m
+running_on m (Running n) h = ap (λ (k : ℕ). Running (record { 0 = k })) (sym (eqb-true m.0 n.0 h))
+running_on m _ h = absurd (false≢true h)
+
+-- it runs one where it runs the last that it ran
+pub runs_told : {t : Table} {records : List Waiter} {bodies : ℕ} {runners : List GNo} (m : MNo) (o : Option GNo) (b : Bool) → IsTied t records bodies runners
+    → slice_get runners m.0 ≡ o → IfNone o (b ≡ false) → IfSome o (λ g. (b ≡ true → IsRunning t g m) × (IsRunning t g m → b ≡ true)) → b ≡ some_status (is_running_on m) t
+runs_told {t = t} m o b tied at none some = by_test (some_status (is_running_on m) t) b refl refl where
+  runs_all : (p : Option GNo) (h : GNo) → IfSome p (λ g. (b ≡ true → IsRunning t g m) × (IsRunning t g m → b ≡ true)) → p ≡ Some h → IsRunning t h m → b ≡ true
+  runs_all None h some e runs = absurd cc
+  runs_all (Some g) h some e runs = let same : g ≡ h = cc in some.1 (subst (λ (k : GNo). IsRunning t k m) (sym same) runs)
+
+  free : (p : Option GNo) → IfNone p (b ≡ false) → IfSome p (λ g. (b ≡ true → IsRunning t g m) × (IsRunning t g m → b ≡ true)) → RunsNothing t m → b ≡ true → ⊥
+  free None none some nobody e = false≢true (sym none ∙ e)
+  free (Some g) none some nobody e = free_runs_none t m m g.0 nobody (some.0 e) refl
+
+  by_test : (c d : Bool) → some_status (is_running_on m) t ≡ c → b ≡ d → d ≡ c
+  by_test true true is e = refl
+  by_test false false is e = refl
+  by_test true false is e =
+      let place = some_place (λ (x : Goroutine). is_running_on m x.status) t.goroutines is in
+      let h : GNo = record { 0 = place.0 } in
+      let runs : IsRunning t h m = ap status_of place.2 ∙ ap Some (running_on m place.1.status place.3) in
+      absurd (false≢true (sym e ∙ runs_all o h some (sym at ∙ tied.ran m h runs) runs))
+  by_test false true is e = absurd (free o none some is e)

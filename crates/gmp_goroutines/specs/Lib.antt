@@ -1,6 +1,5 @@
 pub mod Present
 pub mod Tied
-pub mod Runners
 pub mod Served
 pub mod Stored
 pub mod Replies

@@ -1,12 +1,12 @@
 //! The goroutines, the channels on which they wait, and who runs on each machine.
 ghost use Rattle.std.specs.Prelude.{◌≡◌, ◌<◌, ◌≤◌, ◌^◌, ◌++◌, ◌∷◌, [], true, Some, IfOk, IsTrue, ◌↔◌, option_copied, length, slice_get};
 ghost use Rattle.gmp_base.specs.declared.number.GNo.{GNo};
+ghost use Rattle.gmp_base.specs.declared.number.MNo.{MNo};
 ghost use Rattle.gmp_seq.specs.declared.call.Reply.{Reply};
 ghost use Rattle.gmp_seq.specs.declared.status.Kind.{Kind};
-ghost use Rattle.gmp_seq.specs.declared.status.Place.TheVariants.{Out};
 ghost use Rattle.gmp_seq.specs.declared.status.Status.{Status};
-ghost use Rattle.gmp_seq.specs.Step.{Takes, Puts, Claims, Starts, Yields, Ticks};
-ghost use Rattle.gmp_seq.specs.Table.{IsReady, IsRunning, RunsNothing, all_woken, epoch_at, how_many_woken, is_astir, is_outstanding, is_running_on, is_shelved, made_wait, minded, set_status, some_status, status_at};
+ghost use Rattle.gmp_seq.specs.Step.{Claims, Goparks, Puts, Readies, Resumes, Sleeps, Starts, Takes, Ticks, Yields};
+ghost use Rattle.gmp_seq.specs.Table.{IsCalling, IsRunning, RunsNothing, all_woken, epoch_at, how_many_woken, is_astir, is_outstanding, is_running_on, is_shelved, made_wait, minded, set_status, some_status, status_at};
 ghost use Rattle.gmp_seq.specs.declared.call.Call.{Call};
 ghost use Rattle.gmp_seq.specs.Waits.{waiters};
 ghost use Rattle.gmp_table.specs.declared.wake.Wake.{Wake};
@@ -16,16 +16,13 @@ ghost use Rattle.gmp_chan.specs.Order.{are_made, rise};
 ghost use Rattle.gmp_goroutines.specs.Shelf.{Shelves, Wakes};
 ghost use Rattle.gmp_goroutines.specs.Present.{opening_present};
 ghost use Rattle.gmp_goroutines.specs.Stored.{stored_at};
-ghost use Rattle.gmp_goroutines.specs.Replies.{taken, started};
 ghost use Rattle.gmp_goroutines.specs.Tied.{IsEarly};
 
 mod communicating;
-mod pausing;
 
-use crate::runners::Runners;
 use gmp_base::{Fault, GNo, MNo, Readiness, Woke};
 use gmp_chan::Channels;
-use gmp_seq::{Goroutine, Kind, Offers, Status};
+use gmp_seq::{Goroutine, Kind, Offers, Reply, Status};
 use gmp_table::{Candidate, Rank, StatusTable, Wake};
 use std::alloc::{AllocError, Global};
 use std::marker::Model;
@@ -35,20 +32,20 @@ use std::marker::Model;
 pub struct Goroutines {
     table: StatusTable,
     channels: Channels,
-    runners: Runners,
+    /// The goroutine that each machine ran last, or 0 where it ran none, so that nobody has to look for the one that it runs.
+    runners: Vec<GNo>,
 }
 
 impl Model for Goroutines {
     ghost use Rattle.std.specs.Prelude.{length};
-    ghost use Rattle.gmp_goroutines.specs.Runners.{AreRunners};
     ghost use Rattle.gmp_goroutines.specs.Present.{Present};
     ghost use Rattle.gmp_goroutines.specs.Tied.{IsTied};
 
     ghost Value = { Present };
 
-    ghost view = { λ g. record { table = g.table.table; shelf = g.table.shelf; channels = g.channels.channels; limit = g.channels.limit; machines = length g.runners } };
+    ghost view = { λ g. record { table = g.table.table; shelf = g.table.shelf; channels = g.channels.channels; limit = g.channels.limit; machines = length g.runners.items } };
 
-    ghost invariant = { λ g. IsTied g.table.table g.channels.waiters g.channels.bodies × AreRunners g.table.table g.runners };
+    ghost invariant = { λ g. IsTied g.table.table g.channels.waiters g.channels.bodies g.runners.items };
 }
 
 /// Who is woken next, and what it is told.
@@ -73,6 +70,13 @@ fn next_to_wake(table: &StatusTable, channels: &Channels, wake: Wake) -> Option<
     }
 }
 
+/// Whom m ran last, where there is such a machine.
+fn last_on(runners: &[GNo], m: MNo) -> Option<GNo>
+    ensures { result ≡ slice_get runners.now m.0 }
+{
+    runners.get(m.0 as usize).copied()
+}
+
 impl Goroutines {
     /// Goroutine 0 is on the shelf, all others are dormant, and the channels are open and empty.
     pub fn open(
@@ -89,7 +93,7 @@ impl Goroutines {
         Ok(Goroutines {
             table: StatusTable::open(alloc, bodies)?,
             channels: Channels::open(alloc, limit, bodies, capacities)?,
-            runners: Runners::none(alloc, machines)?,
+            runners: vec![in alloc; GNo(0); machines as usize]?,
         })
     }
 
@@ -130,7 +134,10 @@ impl Goroutines {
     pub fn runs_some(&self, m: MNo) -> bool
         ensures { result ≡ some_status (is_running_on m) self.now.table }
     {
-        self.runners.runs(m)
+        match last_on(&self.runners, m) {
+            Some(g) => self.table.runs(m, g),
+            None => false,
+        }
     }
 
     /// Whether somebody is on the shelf.
@@ -160,12 +167,15 @@ impl Goroutines {
     }
 
     /// Gives out the ticket of the goroutine that is on the shelf for longest.
-    pub fn take(&mut self) -> Option<Readiness>
-        ensures takes { Takes (taken result) self.old.table self.new.table }
-        ensures shelf { Shelves Call.Take (taken result) self.old.table self.new.table self.old.shelf self.new.shelf }
+    pub fn take(&mut self) -> Reply
+        ensures takes { Takes result self.old.table self.new.table }
+        ensures shelf { Shelves Call.Take result self.old.table self.new.table self.old.shelf self.new.shelf }
         ensures rest { self.new ≡ record self.old { table = self.new.table; shelf = self.new.shelf } }
     {
-        self.table.unshelve()
+        match self.table.unshelve() {
+            Some(r) => Reply::Ticket(r),
+            None => Reply::Nothing,
+        }
     }
 
     /// Puts a ticket that is out onto the shelf, last.
@@ -178,61 +188,56 @@ impl Goroutines {
         self.table.shelve(r);
     }
 
-    /// Spends a ticket that is out: m, which runs nothing, runs its goroutine, which is to be told the answer.
-    pub fn claim(&mut self, m: MNo, r: Readiness) -> Woke
+    /// Spends a ticket that is out: m, which runs nothing, runs its goroutine.
+    pub fn claim(&mut self, m: MNo, r: Readiness)
         requires out { is_outstanding self.old.table r ≡ true }
         requires free { RunsNothing self.old.table m }
         requires there { m.0 < self.old.machines }
         ensures claims { Claims m r Reply.Held self.old.table self.new.table }
-        ensures answer { IsReady self.old.table r Out result }
         ensures rest { self.new ≡ record self.old { table = self.new.table } }
     {
-        let woke = self.table.claim(m, r);
-        self.runners.set(m, Some(r.g));
-        woke
+        self.table.claim(m, r);
+        self.runners[m.0 as usize] = r.g;
     }
 
     /// Starts a body, whose ticket is given out.
-    pub fn go(&mut self, body: GNo) -> Result<Readiness, Fault>
+    pub fn go(&mut self, body: GNo) -> Reply
         requires young { epoch_at self.old.table body < 2 ^ 63 }
-        ensures starts { Starts body (started result) self.old.table self.new.table }
+        ensures starts { Starts body result self.old.table self.new.table }
         ensures rest { self.new ≡ record self.old { table = self.new.table } }
     {
         match self.table.get(body) {
-            None => Err(Fault::NoSuchBody),
+            None => Reply::Fault(Fault::NoSuchBody),
             Some(row) => match row.status {
-                Status::Dormant => Ok(self.table.start(body)),
-                _ => Err(Fault::AlreadyStarted),
+                Status::Dormant => Reply::Ticket(self.table.start(body)),
+                _ => Reply::Fault(Fault::AlreadyStarted),
             },
         }
     }
 
-    /// g, which m runs, goes onto the shelf, last.
-    pub fn yield_to(&mut self, m: MNo, g: GNo) -> Readiness
-        requires runs { IsRunning self.old.table g m }
+    /// g, which runs, goes onto the shelf, last.
+    pub fn yield_to(&mut self, g: GNo) -> Readiness
+        requires runs { (m : MNo) × IsRunning self.old.table g m }
         requires young { epoch_at self.old.table g < 2 ^ 63 }
         ensures yields { Yields g (Reply.Shelved result) self.old.table self.new.table }
         ensures last { self.new.shelf ≡ self.old.shelf ++ g ∷ [] }
         ensures rest { self.new ≡ record self.old { table = self.new.table; shelf = self.new.shelf } }
     {
-        let r = self.table.requeue(g, Woke::Done);
-        self.runners.set(m, None);
-        r
+        self.table.requeue(g, Woke::Done)
     }
 
-    /// g, which m runs, ends.
-    pub fn exit(&mut self, m: MNo, g: GNo)
-        requires runs { IsRunning self.old.table g m }
+    /// g, which runs, ends.
+    pub fn exit(&mut self, g: GNo)
+        requires runs { (m : MNo) × IsRunning self.old.table g m }
         ensures table { self.new.table ≡ set_status self.old.table g Status.Dead }
         ensures rest { self.new ≡ record self.old { table = self.new.table } }
     {
         self.table.dead(g);
-        self.runners.set(m, None);
     }
 
-    /// g, which m runs, begins to wait, with these offers, until this moment.
-    fn wait(&mut self, m: MNo, g: GNo, kind: Kind, offers: Offers, until: Option<u64>)
-        requires runs { IsRunning self.old.table g m }
+    /// g, which runs, begins to wait, with these offers, until this moment.
+    fn wait(&mut self, g: GNo, kind: Kind, offers: Offers, until: Option<u64>)
+        requires runs { (m : MNo) × IsRunning self.old.table g m }
         requires few { self.old.table.arrivals < 2 ^ 63 }
         // Who is parked offers nothing.
         requires bare { kind ≡ Kind.Parked → offers ≡ [] }
@@ -244,7 +249,75 @@ impl Goroutines {
         self.channels
             .wait_on(g, self.table.arrivals(), kind, &offers);
         self.table.wait(g, kind, offers, until);
-        self.runners.set(m, None);
+    }
+
+    /// g, which runs, waits until this moment, in nanoseconds.
+    pub fn sleep(&mut self, g: GNo, until: u64)
+        requires runs { (m : MNo) × IsRunning self.old.table g m }
+        requires few { self.old.table.arrivals < 2 ^ 63 }
+        ensures sleeps { Sleeps g until Reply.Waits self.old.table self.new.table }
+        ensures rest { self.new ≡ record self.old { table = self.new.table } }
+    {
+        self.wait(g, Kind::Sleep, Offers::new(), Some(until));
+    }
+
+    /// g, which runs, waits until it is made ready.
+    pub fn park(&mut self, g: GNo)
+        requires runs { (m : MNo) × IsRunning self.old.table g m }
+        requires few { self.old.table.arrivals < 2 ^ 63 }
+        ensures parks { Goparks g Reply.Waits self.old.table self.new.table }
+        ensures rest { self.new ≡ record self.old { table = self.new.table } }
+    {
+        self.wait(g, Kind::Parked, Offers::new(), None);
+    }
+
+    /// Makes a goroutine ready that is parked, to be told Done, or answers the fault. Its ticket is given out.
+    pub fn ready(&mut self, h: GNo) -> Reply
+        requires young { epoch_at self.old.table h < 2 ^ 63 }
+        ensures readies { Readies h result self.old.table self.new.table }
+        ensures rest { self.new ≡ record self.old { table = self.new.table } }
+    {
+        let Some(row) = self.table.get(h) else {
+            return Reply::Fault(Fault::NoSuchBody);
+        };
+        match &row.status {
+            Status::Waiting(wait) if wait.kind == Kind::Parked => {
+                Reply::Ticket(self.table.ready(h, Woke::Done))
+            }
+            _ => Reply::Fault(Fault::NotParked),
+        }
+    }
+
+    /// g, which m runs, goes into a blocking call, which m makes.
+    pub fn enter(&mut self, m: MNo, g: GNo)
+        requires runs { IsRunning self.old.table g m }
+        ensures table { self.new.table ≡ set_status self.old.table g (Status.Calling m) }
+        ensures rest { self.new ≡ record self.old { table = self.new.table } }
+    {
+        self.table.enter(m, g);
+    }
+
+    /// g comes back from the blocking call that m makes, and runs on.
+    pub fn run_on(&mut self, m: MNo, g: GNo)
+        requires calls { IsCalling self.old.table g m }
+        requires free { RunsNothing self.old.table m }
+        requires there { m.0 < self.old.machines }
+        ensures table { self.new.table ≡ set_status self.old.table g (Status.Running m) }
+        ensures rest { self.new ≡ record self.old { table = self.new.table } }
+    {
+        self.table.leave(m, g);
+        self.runners[m.0 as usize] = g;
+    }
+
+    /// g comes back from the blocking call that m makes, and goes onto the shelf, last, to be told the number.
+    pub fn come_back(&mut self, m: MNo, g: GNo, number: u64) -> Readiness
+        requires calls { IsCalling self.old.table g m }
+        requires young { epoch_at self.old.table g < 2 ^ 63 }
+        ensures resumes { Resumes g m number (Reply.Shelved result) self.old.table self.new.table }
+        ensures last { self.new.shelf ≡ self.old.shelf ++ g ∷ [] }
+        ensures rest { self.new ≡ record self.old { table = self.new.table; shelf = self.new.shelf } }
+    {
+        self.table.requeue(g, Woke::Number(number))
     }
 
     /// Wakes all these onto the shelf, one after another, and counts them.

@@ -4,6 +4,5 @@
 #![tactic(auto)]
 
 mod goroutines;
-mod runners;
 
 pub use goroutines::Goroutines;

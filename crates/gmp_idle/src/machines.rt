@@ -68,6 +68,13 @@ impl Machines {
         matches!(self.modes.of(m), Some(Mode::Calling))
     }
 
+    /// Whether m is parked.
+    pub fn is_parked(&self, m: MNo) -> bool
+        ensures { result ≡ option_map_or is_parked (slice_get self.now.modes m.0) false }
+    {
+        matches!(self.modes.of(m), Some(Mode::Parked))
+    }
+
     /// Whether m looks for work.
     pub fn spins(&self, m: MNo) -> bool
         ensures { result ≡ spins self.now m }

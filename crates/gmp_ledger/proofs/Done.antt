@@ -1,35 +1,26 @@
 -- A step is of the goroutine and the processor that its call was handed.
-use Rattle.std.proofs.Common.{◌≡◌, ◌↔◌, ◌∙◌, ℕ, Bool, true, false, Option, None, Some, List, ◌∷◌, [], if◌then◌else◌, is_some, refl, sym, ap, subst, inl, inr}
-use Rattle.std.proofs.lemmas.Bool.{and_parts, false≢true, or_parts}
+use Rattle.gmp_ledger.proofs.Common.{Call, ◌≡◌, ◌↔◌, ℕ, Bool, true, false, if◌then◌else◌, is_some, Option, None, Some, List, [], ◌∷◌, refl, sym, ap, subst, inl, inr, ◌∙◌, and_parts, false≢true, or_parts, option_map_or, Case, GNo, MNo, PNo, Readiness, Limits, Reply, Goroutine, Status, IsInOrder, Enters, Holds, State, Table, IsCalling, IsReady, IsRunning, some_status}
 use Rattle.std.specs.List.{list_any}
-use Rattle.std.specs.Option.{option_map_or}
 use Rattle.gmp_base.specs.declared.ask.Woke.{Woke}
 use Rattle.gmp_base.specs.declared.ask.Woke.TheVariants as woke
-use Rattle.gmp_base.specs.declared.cases.Case.{Case}
-use Rattle.gmp_base.specs.declared.number.GNo.{GNo}
-use Rattle.gmp_base.specs.declared.number.MNo.{MNo}
-use Rattle.gmp_base.specs.declared.number.PNo.{PNo}
-use Rattle.gmp_base.specs.declared.number.Readiness.{Readiness}
+use Rattle.gmp_base.specs.declared.cases.Case.TheVariants as case
+use Rattle.gmp_seq.specs.State.{SameChannels}
+use Rattle.gmp_seq.proofs.Counts.{asleep_where_said}
+use Rattle.gmp_ledger.specs.Done.{Done}
 use Rattle.gmp_seq.specs.declared.call.Call.TheVariants as call
-use Rattle.gmp_seq.specs.declared.call.Limits.{Limits}
-use Rattle.gmp_seq.specs.declared.call.Reply.{Reply}
 use Rattle.gmp_seq.specs.declared.call.Reply.TheVariants as reply
-use Rattle.gmp_seq.specs.declared.status.Goroutine.{Goroutine}
 use Rattle.gmp_seq.specs.declared.status.Place.TheVariants as place
-use Rattle.gmp_seq.specs.declared.status.Status.{Status}
 use Rattle.gmp_seq.specs.declared.status.Status.TheVariants as status
 use Rattle.gmp_seq.proofs.Asleep.{fails_at}
 use Rattle.gmp_seq.proofs.Needed.{some_place}
-use Rattle.gmp_seq.specs.Laws.{IsInOrder}
-use Rattle.gmp_seq.specs.Machines.{Enters, Holds, Declares}
-use Rattle.gmp_seq.specs.State.{State}
-use Rattle.gmp_seq.specs.Step.{ByRunning, Claims, Exits, Parks, Resumes, Selects}
-use Rattle.gmp_seq.specs.Table.{Table, IsCalling, IsReady, IsRunning, deadline_of, is_astir, is_ready_or_running, is_shelved, least_deadline, least_of, minded, some_status}
+use Rattle.gmp_seq.specs.Machines.{Declares}
+use Rattle.gmp_seq.specs.Step.{ByRunning, Claims, Deals, Exits, Goparks, OnTable, Parks, Resumes, Selects, Sleeps, Yields}
+use Rattle.gmp_seq.specs.Table.{deadline_of, is_astir, is_ready_or_running, is_shelved, least_deadline, least_of, minded, set_status}
 use Rattle.gmp_goroutines.specs.Stored.{stored_at, stored_in}
 use Rattle.gmp_ledger.specs.Laws.{Does}
 
 -- whichever goroutine of the machine's it is, it is this one
-pub by_this : (limits : Limits) (m : MNo) (g : GNo) (s : State) (P : GNo → Type 0) → IsInOrder limits s → IsRunning s.table g m → ByRunning m s P → P g
+by_this : (limits : Limits) (m : MNo) (g : GNo) (s : State) (P : GNo → Type 0) → IsInOrder limits s → IsRunning s.table g m → ByRunning m s P → P g
 by_this limits m g s P order runs (h, here, done) = subst P (order.one_goroutine m h g (inl here) (inl runs)) done
 
 by_caller : (limits : Limits) (m : MNo) (g h : GNo) (s : State) (P : GNo → Type 0) → IsInOrder limits s → IsCalling s.table g m → IsCalling s.table h m → P h → P g
@@ -45,7 +36,7 @@ claims : (m : MNo) (r : Readiness) (answer : Reply) (old new : Table) → Claims
 claims m r reply.Held old new (answer, ready, is) = stored old r answer ready
 claims m r _ old new h = absurd h
 
-pub main_ends : (g : GNo) (answer : Reply) (old new : Table) → Exits g answer old new → answer ≡ reply.MainEnded ↔ (g.0 ≡ 0)
+main_ends : (g : GNo) (answer : Reply) (old new : Table) → Exits g answer old new → answer ≡ reply.MainEnded ↔ (g.0 ≡ 0)
 main_ends g reply.Dead old new (other, is) = (λ e. cc, λ zero. absurd (other zero))
 main_ends g reply.MainEnded old new (zero, is) = (λ e. zero, λ e. refl)
 main_ends g _ old new h = absurd h
@@ -66,21 +57,21 @@ declares limits m p _ old new order holds h = absurd h
 
 -- By call
 
-pub claim : (r : Readiness) → Does (call.Claim r) (λ m g p answer old new. IsReady old.table r place.Out (stored_at old.table r.g))
+claim : (r : Readiness) → Does (call.Claim r) (λ m g p answer old new. IsReady old.table r place.Out (stored_at old.table r.g))
 claim r limits m g p answer old new order grants (ongoing, (free, equipped, done), counted, ended) = claims m r answer old.table new.table done.0
 
-pub select : (cases : List Case) (has_default : Bool) (until : Option ℕ) → Does (call.Select cases has_default until) (λ m g p answer old new. Selects g cases has_default until answer old new)
+select : (cases : List Case) (has_default : Bool) (until : Option ℕ) → Does (call.Select cases has_default until) (λ m g p answer old new. Selects g cases has_default until answer old new)
 select cases has_default until limits m g p answer old new order grants (ongoing, (few, done), counted, ended) =
     by_this limits m g old (λ (h : GNo). Selects h cases has_default until answer old new) order grants done
 
-pub entered : Does call.Enter (λ m g p answer old new. (woken : Option MNo) × (answer ≡ reply.Entered p woken))
+entered : Does call.Enter (λ m g p answer old new. (woken : Option MNo) × (answer ≡ reply.Entered p woken))
 entered limits m g p answer old new order (runs, holds, awake) (ongoing, (h, here, (table, done, same)), counted, ended) = enters limits m p answer old new order holds done
 
-pub leave : (number : ℕ) → Does (call.Leave number) (λ m g p answer old new. Resumes g m number answer old.table new.table)
+leave : (number : ℕ) → Does (call.Leave number) (λ m g p answer old new. Resumes g m number answer old.table new.table)
 leave number limits m g p answer old new order (calls, free, mode) (ongoing, (h, here, done, returns, same), counted, ended) =
     by_caller limits m g h old (λ (k : GNo). Resumes k m number answer old.table new.table) order calls here done
 
-pub declare : Does call.Declare (λ m g p answer old new. answer ≡ reply.Idle p)
+declare : Does call.Declare (λ m g p answer old new. answer ≡ reply.Idle p)
 declare limits m g p answer old new order (free, calm, holds) (ongoing, (nothing, done), counted, ended) = declares limits m p answer old new order holds done.0
 
 -- Parks
@@ -134,8 +125,33 @@ minds m reply.Parked until old new (none, astir, told, same, rest, machines) is 
 minds m _ until old new h is = absurd h
 
 -- a park tells a deadline exactly where that is minded
-pub parks_mind : (m : MNo) (answer : Reply) (until : ℕ) (old new : State) → Parks m answer old new → answer ≡ reply.Mind until ↔ (minded old.table ≡ Some until)
+parks_mind : (m : MNo) (answer : Reply) (until : ℕ) (old new : State) → Parks m answer old new → answer ≡ reply.Mind until ↔ (minded old.table ≡ Some until)
 parks_mind m answer until old new done = (says m answer until old new done, minds m answer until old new done)
 
-pub park_minds : (until : ℕ) → Does call.Park (λ m g p answer old new. answer ≡ reply.Mind until ↔ (minded old.table ≡ Some until))
+park_minds : (until : ℕ) → Does call.Park (λ m g p answer old new. answer ≡ reply.Mind until ↔ (minded old.table ≡ Some until))
 park_minds until limits m g p answer old new order grants (ongoing, (bare, done), counted, ended) = parks_mind m answer until old new done
+
+-- All calls
+
+pub done : (asked : Call) → Does asked (Done asked)
+done (call.Claim r) limits m g p answer old new order grants step = claim r limits m g p answer old new order grants step
+done call.Yield limits m g p answer old new order grants step = (by_this limits m g old (λ (h : GNo). OnTable (Yields h answer) old new) order grants step.1).0
+done call.Exit limits m g p answer old new order grants step =
+    let is = (by_this limits m g old (λ (h : GNo). OnTable (Exits h answer) old new) order grants step.1).0 in (is, main_ends g answer old.table new.table is)
+done (call.Send c v) limits m g p answer old new order grants step = by_this limits m g old (λ (h : GNo). Deals h (case.Send c v) answer old new) order grants step.1
+done (call.Recv c) limits m g p answer old new order grants step = by_this limits m g old (λ (h : GNo). Deals h (case.Recv c) answer old new) order grants step.1
+done (call.Select cases has_default until) limits m g p answer old new order grants step = select cases has_default until limits m g p answer old new order grants step
+done (call.Sleep until) limits m g p answer old new order grants step = (by_this limits m g old (λ (h : GNo). OnTable (Sleeps h until answer) old new) order grants step.1).0
+done call.Gopark limits m g p answer old new order grants step = (by_this limits m g old (λ (h : GNo). OnTable (Goparks h answer) old new) order grants step.1).0
+done call.Enter limits m g p answer old new order grants step =
+    let woken = entered limits m g p answer old new order grants step in (
+      (by_this limits m g old (λ (h : GNo). (new.table ≡ set_status old.table h (status.Calling m)) × Enters m answer old.machines new.machines × SameChannels old new) order grants.0 step.1).0,
+      woken.0,
+      woken.1,
+    )
+done (call.Leave number) limits m g p answer old new order grants step =
+    (leave number limits m g p answer old new order grants step, step.1.3, step.1.4)
+done call.Declare limits m g p answer old new order grants step = declare limits m g p answer old new order grants step
+done call.Park limits m g p answer old new order grants step =
+    (asleep_where_said limits m answer old new step, λ until. park_minds until limits m g p answer old new order grants step)
+done _ limits m g p answer old new order grants step = tt

@@ -1,8 +1,6 @@
+pub mod Common
 pub mod Lines
-pub mod Choices
 pub mod Granted
-pub mod Modes
 pub mod Needed
 pub mod Done
-pub mod Counted
 pub mod Saying

@@ -1,13 +1,7 @@
 -- The lines of refusals: which is the first that holds, and where none does.
-use Rattle.std.proofs.Common.{◌≡◌, Bool, true, false, if◌then◌else◌, Option, None, Some, List, [], ◌∷◌, ◌++◌, refl, sym, ap, ◌∙◌}
+use Rattle.gmp_ledger.proofs.Common.{◌≡◌, Bool, true, false, if◌then◌else◌, Option, None, Some, List, [], ◌∷◌, ◌++◌, refl, sym, ap, ◌∙◌, Pass, Refusal, Call, Handed, names_other, Log, IsAllowed, IsCurrent, need_lines}
 use Rattle.std.specs.Prelude.{IfNone}
-use Rattle.gmp_base.specs.declared.pass.Pass.{Pass}
-use Rattle.gmp_base.specs.declared.refusal.Refusal.{Refusal}
-use Rattle.gmp_seq.specs.declared.call.Call.{Call}
-use Rattle.gmp_ledger.specs.declared.handed.Handed.{Handed}
-use Rattle.gmp_ledger.specs.Handed.{names_other}
-use Rattle.gmp_ledger.specs.Log.{Log}
-use Rattle.gmp_ledger.specs.Refusals.{IsAllowed, IsCurrent, Line, first_refusal, need_lines}
+use Rattle.gmp_ledger.specs.Refusals.{Line, first_refusal}
 
 -- none of the lines holds
 abbrev pub NoneHolds : List Line → Type 0

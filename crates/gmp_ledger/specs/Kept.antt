@@ -5,7 +5,7 @@ use Rattle.gmp_seq.specs.declared.call.Limits.{Limits}
 use Rattle.gmp_seq.specs.Fits.{AreLimits, Fits}
 use Rattle.gmp_seq.specs.Run.{IsLegal, Run}
 use Rattle.gmp_ledger.specs.Log.{Log, entries_made}
-use Rattle.gmp_ledger.specs.Scene.{Scene}
+use Rattle.gmp_ledger.specs.declared.scheduler.Scheduler.{Scheduler}
 
 -- the history is a run from a state of a legal run to the present one, under limits in range, its numbers are within their types, and
 -- there is room for the rest of it
@@ -18,6 +18,6 @@ pub record IsKept (log : Log) (space : ℕ) : Type 0 where
   pub room : length log.history + log.limits.entries ≤ space + entries_made log
 
 -- there may be as many channels, and there are as many machines, as the limits say
-pub record IsSized (limits : Limits) (scene : Scene) : Type 0 where
-  pub channels : scene.limit ≡ limits.channels
-  pub machines : scene.machines ≡ limits.machines
+pub record IsSized (limits : Limits) (s : Scheduler) : Type 0 where
+  pub channels : s.goroutines.limit ≡ limits.channels
+  pub machines : s.goroutines.machines ≡ limits.machines

@@ -6,4 +6,5 @@ pub mod Scene
 pub mod Grants
 pub mod LedgerView
 pub mod Known
+pub mod Done
 pub mod Laws

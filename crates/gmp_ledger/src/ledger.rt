@@ -13,11 +13,14 @@ ghost use Rattle.gmp_ledger.specs.Handed.{goroutine_in, names_other, processor_i
 ghost use Rattle.gmp_ledger.specs.Known.{known_by};
 ghost use Rattle.gmp_seq.specs.Laws.{IsInOrder};
 ghost use Rattle.gmp_ledger.specs.Log.{Records, entries_made, opening_log};
-ghost use Rattle.gmp_ledger.specs.Refusals.{IsAllowed, IsCurrent, Says, first_refusal, is_foreign, need_lines, refusal_in, refusal_of, turn_lines};
+ghost use Rattle.gmp_ledger.specs.Refusals.{IsAllowed, IsCurrent, Says, first_refusal, is_foreign, refusal_in, refusal_of, turn_lines};
 
+use crate::counts::Counts;
 use crate::handed::Handed;
 use crate::scheduler::Scheduler;
 use gmp_base::{MNo, Pass, Readiness, Refusal, Woke};
+use gmp_goroutines::Goroutines;
+use gmp_idle::Machines;
 use gmp_seq::{Call, Entry, Limits, Outcome, Reply};
 use std::alloc::{AllocError, Global};
 use std::marker::Model;
@@ -61,7 +64,13 @@ impl Ledger {
         requires { AreLimits limits bodies capacities.items }
         ensures { IfOk result (λ l. l ≡ opening_log run limits bodies capacities.items) }
     {
-        let scheduler = Scheduler::open(alloc, limits, bodies, &capacities)?;
+        let (machines, channels) = (limits.machines, limits.channels);
+        let scheduler = Scheduler {
+            goroutines: Goroutines::open(alloc, machines, channels, bodies, &capacities)?,
+            machines: Machines::opening(alloc, limits.procs, machines)?,
+            counts: Counts::none(alloc, machines)?,
+            outcome: None,
+        };
         let entries = Vec::with_capacity(alloc, limits.entries as usize)?;
         Ok(Ledger {
             run,
@@ -86,7 +95,7 @@ impl Ledger {
         // While the run lasts another entry fits.
         ensures ongoing { IfNone result (entries_made self.now < self.now.limits.entries) }
     {
-        self.scheduler.outcome()
+        self.scheduler.outcome
     }
 
     /// Every accepted call with its reply, in order: a legal run from the start.
@@ -103,7 +112,7 @@ impl Ledger {
         ensures listing { IsListing is_shelved self.now.state.table.goroutines self.now.shelf }
     {
         // It tells that the shelf lists those on it.
-        let _ = self.scheduler.has_shelved();
+        let _ = self.scheduler.goroutines.has_shelved();
         self.entries.as_slice()
     }
 
@@ -111,14 +120,14 @@ impl Ledger {
     pub fn is_outstanding(&self, r: Readiness) -> bool
         ensures { result ≡ is_outstanding self.now.state.table r }
     {
-        self.scheduler.is_outstanding(r)
+        self.scheduler.goroutines.is_outstanding(r)
     }
 
     /// Whether the machine is parked.
     pub fn is_parked(&self, m: MNo) -> bool
         ensures { result ≡ option_map_or is_parked (slice_get self.now.state.machines.modes m.0) false }
     {
-        m.0 < self.limits.machines && self.scheduler.is_parked(m)
+        self.scheduler.machines.is_parked(m)
     }
 
     /// What a call has for a goroutine to be told, whatever the reply.
@@ -126,13 +135,14 @@ impl Ledger {
         ensures { result ≡ known_by call.now self.now.state.table }
     {
         match call {
-            Call::Claim(r) => Some(self.scheduler.stored(r.g)),
+            Call::Claim(r) => Some(self.scheduler.goroutines.stored(r.g)),
             Call::Leave(number) => Some(Woke::Number(*number)),
             _ => None,
         }
     }
 
     /// Why a call with these values is refused, if it is.
+    #[inline(always)]
     fn refusal(&self, pass: &Pass, call: &Call, values: &Handed) -> Option<Refusal>
         ensures why { result ≡ refusal_of self.now pass.now call.now values.now }
         ensures allowed { IfNone result (IsAllowed self.now pass.now call.now values.now) }
@@ -140,14 +150,7 @@ impl Ledger {
         if let Some(why) = self.turn_refusal(pass, values) {
             return Some(why);
         }
-        self.need_refusal(pass.m, call, values)
-    }
-
-    /// Does the state allow what the machine asks?
-    fn need_refusal(&self, m: MNo, call: &Call, values: &Handed) -> Option<Refusal>
-        ensures { result ≡ first_refusal (need_lines self.now.state m call.now values.now) }
-    {
-        self.scheduler.need_refusal(m, call, values)
+        self.scheduler.need_refusal(pass.m, call, values)
     }
 
     /// Is the pass the machine's latest, of this run, and does the run last?
@@ -159,15 +162,15 @@ impl Ledger {
         if self.is_foreign(pass, values) {
             return Some(Refusal::WrongRun);
         }
-        let calls = self.scheduler.calls(pass.m);
+        let calls = self.scheduler.counts.of(pass.m);
         if pass.calls != calls {
             return Some(Refusal::OutOfTurn(calls));
         }
-        let made = self.scheduler.made();
+        let made = self.scheduler.counts.all();
         if pass.seen > made {
             return Some(Refusal::Behind(made, pass.seen));
         }
-        if self.scheduler.outcome().is_some() {
+        if self.scheduler.outcome.is_some() {
             return Some(Refusal::Over);
         }
         None
@@ -180,6 +183,7 @@ impl Ledger {
     }
 
     /// The machine of the pass makes the call, which is allowed. Where that is refused memory there is no entry.
+    #[inline(always)]
     fn accept(
         &mut self,
         memory: Option<Global>,
@@ -203,13 +207,16 @@ impl Ledger {
         let (g, p) = (values.goroutine(), values.processor());
         let reply = self
             .scheduler
-            .step(memory, self.limits, m, g, p, &call, word)?;
+            .effect(memory, self.limits, m, g, p, &call, word)?;
+        self.scheduler.count_one(self.limits, m, reply);
         self.entries.push_reserved(Entry::new(m, k, call, reply));
-        pass.advance(self.scheduler.made());
+        pass.advance(self.scheduler.counts.all());
         Ok(reply)
     }
 
     /// The machine of the pass makes the call, with these values, or it is refused. `word` chooses among the cases of a select.
+    // Inlined, here and below: of a call whose kind is known its own arms alone are left.
+    #[inline(always)]
     pub fn call(
         &mut self,
         memory: Option<Global>,

@@ -5,7 +5,6 @@ mod counts;
 mod handed;
 pub mod laws;
 mod ledger;
-mod replies;
 mod scheduler;
 
 pub use handed::Handed;

@@ -1,132 +1,39 @@
 //! Goroutines, channels and machines together: the effect of each call on them.
-ghost use Rattle.std.specs.Prelude.{false, ◌≡◌, ◌+◌, ◌<◌, ◌^◌, None, Some, length, slice_get, slice_index, sum, IfOk, OnErr};
+ghost use Rattle.std.specs.Prelude.{◌≡◌, ℕ, ◌+◌, ◌<◌, ◌^◌, List, Option, Some, length, slice_get, sum, IfOk, OnErr};
 ghost use Rattle.gmp_seq.specs.declared.call.Call.{Call};
-ghost use Rattle.gmp_seq.specs.Step.{Effect, Step};
-ghost use Rattle.gmp_seq.specs.Machines.{is_parked};
-ghost use Rattle.gmp_table.specs.Kept.{IsListing};
-ghost use Rattle.std.specs.Option.{option_map_or};
-ghost use Rattle.gmp_seq.specs.Table.{is_shelved, some_status, is_outstanding};
-ghost use Rattle.gmp_seq.specs.Fits.{AreLimits};
-ghost use Rattle.gmp_ledger.specs.Grants.{Chooses, Grants, NeedsMemory, WantsMemory};
-ghost use Rattle.gmp_goroutines.specs.Stored.{stored_at};
-ghost use Rattle.gmp_ledger.specs.Scene.{IsYoung, SameRest, counted_one, opening_scene};
+ghost use Rattle.gmp_seq.specs.declared.call.Outcome.{Outcome};
+ghost use Rattle.gmp_seq.specs.declared.status.Mode.{Mode};
+ghost use Rattle.gmp_seq.specs.declared.status.Status.{Status};
+ghost use Rattle.gmp_seq.specs.Machines.{Enters, Holds, IsAwake, IsBare};
+ghost use Rattle.gmp_seq.specs.State.{SameChannels};
+ghost use Rattle.gmp_seq.specs.Step.{Effect, Exits, OnTable, Parks};
+ghost use Rattle.gmp_seq.specs.Table.{IsCalling, IsRunning, RunsNothing, set_status};
 ghost use Rattle.gmp_goroutines.specs.Shelf.{Shelves};
+ghost use Rattle.gmp_ledger.specs.Grants.{Chooses, Grants, Leaves, NeedsMemory, WantsMemory};
+ghost use Rattle.gmp_ledger.specs.Scene.{IsYoung, SameRest, counted_one, state_of};
 
-mod blocking;
 mod refusing;
-mod resting;
-mod selecting;
 
 use crate::counts::Counts;
-use crate::replies;
-use gmp_base::{Case, GNo, MNo, PNo, Readiness, Woke};
+use gmp_base::{Case, GNo, MNo, PNo};
 use gmp_goroutines::Goroutines;
 use gmp_idle::Machines;
 use gmp_seq::{Call, Limits, Outcome, Reply};
 use std::alloc::{AllocError, Global};
-use std::marker::Model;
 
-/// A contract sees the state as `gmp_seq` has it, the shelf in order, how many channels there may be, and how many machines there are.
+/// Together the parts make a state as `gmp_seq` has it.
 #[derive(Drop)]
 pub(crate) struct Scheduler {
-    goroutines: Goroutines,
-    machines: Machines,
-    counts: Counts,
-    outcome: Option<Outcome>,
-}
-
-impl Model for Scheduler {
-    ghost use Rattle.gmp_ledger.specs.Scene.{Scene};
-
-    ghost Value = { Scene };
-
-    ghost view = { λ s. record {
-      state = record { table = s.goroutines.table; channels = s.goroutines.channels; machines = s.machines; counts = s.counts; outcome = s.outcome };
-      shelf = s.goroutines.shelf;
-      limit = s.goroutines.limit;
-      machines = s.goroutines.machines;
-    } };
+    pub(crate) goroutines: Goroutines,
+    pub(crate) machines: Machines,
+    pub(crate) counts: Counts,
+    pub(crate) outcome: Option<Outcome>,
 }
 
 impl Scheduler {
-    /// A run that has made no call yet.
-    pub(crate) fn open(
-        alloc: Global,
-        limits: Limits,
-        bodies: u16,
-        capacities: &[u32],
-    ) -> Result<Self, AllocError>
-        requires { AreLimits limits bodies capacities.now }
-        ensures { IfOk result (λ s. s ≡ opening_scene limits bodies capacities.now) }
-    {
-        Ok(Scheduler {
-            goroutines: Goroutines::open(
-                alloc,
-                limits.machines,
-                limits.channels,
-                bodies,
-                capacities,
-            )?,
-            machines: Machines::opening(alloc, limits.procs, limits.machines)?,
-            counts: Counts::none(alloc, limits.machines)?,
-            outcome: None,
-        })
-    }
-
-    /// How the run ended, if it did.
-    pub(crate) fn outcome(&self) -> Option<Outcome>
-        ensures { result ≡ self.now.state.outcome }
-    {
-        self.outcome
-    }
-
-    /// How many entries are m's.
-    pub(crate) fn calls(&self, m: MNo) -> u64
-        ensures { result ≡ slice_index self.now.state.counts m.0 }
-    {
-        self.counts.of(m)
-    }
-
-    /// How many entries there are.
-    pub(crate) fn made(&self) -> u64
-        ensures { result ≡ sum self.now.state.counts }
-    {
-        self.counts.all()
-    }
-
-    /// Whether the machine is parked.
-    pub(crate) fn is_parked(&self, m: MNo) -> bool
-        requires { m.0 < length self.now.state.machines.modes }
-        ensures { result ≡ option_map_or is_parked (slice_get self.now.state.machines.modes m.0) false }
-    {
-        !self.machines.is_awake(m) && !self.machines.is_calling(m)
-    }
-
-    /// Whether somebody is on the shelf.
-    pub(crate) fn has_shelved(&self) -> bool
-        ensures some { result ≡ some_status is_shelved self.now.state.table }
-        // The shelf has each goroutine on it once, and no other.
-        ensures listing { IsListing is_shelved self.now.state.table.goroutines self.now.shelf }
-    {
-        self.goroutines.has_shelved()
-    }
-
-    /// What is stored for g, where it is ready.
-    pub(crate) fn stored(&self, g: GNo) -> Woke
-        ensures { result ≡ stored_at self.now.state.table g }
-    {
-        self.goroutines.stored(g)
-    }
-
-    /// Whether the ticket of this readiness is given out, and not yet claimed or put back.
-    pub(crate) fn is_outstanding(&self, r: Readiness) -> bool
-        ensures { result ≡ is_outstanding self.now.state.table r }
-    {
-        self.goroutines.is_outstanding(r)
-    }
-
     /// A call of m has its effect. g and p are a goroutine and a processor of m's, where the call is by one.
-    fn effect(
+    #[inline(always)]
+    pub(crate) fn effect(
         &mut self,
         memory: Option<Global>,
         limits: Limits,
@@ -137,20 +44,24 @@ impl Scheduler {
         word: u64,
     ) -> Result<Reply, AllocError>
         requires memory { NeedsMemory call.now memory }
-        requires grants { Grants m g p call.now self.old.state }
-        requires young { IsYoung self.old.state }
-        requires there { m.0 < self.old.machines }
-        requires limit { self.old.limit ≡ limits.channels }
-        ensures effect { IfOk result (λ reply. Effect limits m call.now reply self.old.state self.new.state) }
-        ensures shelf { IfOk result (λ reply. Shelves call.now reply self.old.state.table self.new.state.table self.old.shelf self.new.shelf) }
-        ensures choice { IfOk result (λ reply. Chooses call.now word reply self.old.state self.old.shelf) }
+        requires grants { Grants m g p call.now (state_of self.old) }
+        requires young { IsYoung (state_of self.old) }
+        requires there { m.0 < self.old.goroutines.machines }
+        requires limit { self.old.goroutines.limit ≡ limits.channels }
+        // It doesn't matter how the entry is counted, nor how the run stands afterwards.
+        ensures effect { IfOk result (λ reply. (counts : List ℕ) (outcome : Option Outcome) → Effect limits m call.now reply (state_of self.old) (record (state_of self.new) { counts = counts; outcome = outcome })) }
+        ensures shelf { IfOk result (λ reply. Shelves call.now reply self.old.goroutines.table self.new.goroutines.table self.old.goroutines.shelf self.new.goroutines.shelf) }
+        ensures choice { IfOk result (λ reply. Chooses call.now word reply (state_of self.old) self.old.goroutines.shelf) }
         ensures rest { SameRest self.old self.new }
         ensures err { OnErr result (self.new ≡ self.old) }
-        ensures wanted { OnErr result (WantsMemory limits call.now self.old.state) }
+        ensures wanted { OnErr result (WantsMemory limits call.now (state_of self.old)) }
     {
         Ok(match call {
-            Call::Acquire => replies::acquired(self.machines.acquire(m)),
-            Call::Take => replies::taken(self.goroutines.take()),
+            Call::Acquire => match self.machines.acquire(m) {
+                Some(p) => Reply::Proc(p),
+                None => Reply::Nothing,
+            },
+            Call::Take => self.goroutines.take(),
             Call::Put(r) => {
                 self.goroutines.put(*r);
                 Reply::Shelf
@@ -159,24 +70,24 @@ impl Scheduler {
                 self.goroutines.claim(m, *r);
                 Reply::Held
             }
-            Call::Go(body) => replies::started(self.goroutines.go(*body)),
-            Call::Yield => Reply::Shelved(self.goroutines.yield_to(m, g)),
+            Call::Go(body) => self.goroutines.go(*body),
+            Call::Yield => Reply::Shelved(self.goroutines.yield_to(g)),
             Call::Exit => self.exit(m, g),
             Call::Make(capacity) => self.goroutines.make(memory.unwrap(), *capacity)?,
-            Call::Send(c, v) => self.goroutines.deal(m, g, Case::Send(*c, *v)),
-            Call::Recv(c) => self.goroutines.deal(m, g, Case::Recv(*c)),
+            Call::Send(c, v) => self.goroutines.deal(g, Case::Send(*c, *v)),
+            Call::Recv(c) => self.goroutines.deal(g, Case::Recv(*c)),
             Call::Close(c) => self.goroutines.close(*c),
             Call::Len(c) => self.goroutines.len(*c),
             Call::Cap(c) => self.goroutines.cap(*c),
             Call::Select(cases, has_default, until) => {
-                self.select(m, g, cases, *has_default, *until, word)
+                self.goroutines.select(g, cases, *has_default, *until, word)
             }
             Call::Sleep(until) => {
-                self.goroutines.sleep(m, g, *until);
+                self.goroutines.sleep(g, *until);
                 Reply::Waits
             }
             Call::Gopark => {
-                self.goroutines.park(m, g);
+                self.goroutines.park(g);
                 Reply::Waits
             }
             Call::Ready(h) => self.goroutines.ready(*h),
@@ -188,7 +99,10 @@ impl Scheduler {
                 self.machines.unspin(m);
                 Reply::Done
             }
-            Call::Poke => replies::poked(self.machines.poke(m)),
+            Call::Poke => match self.machines.poke(m) {
+                Some(n) => Reply::Wakes(n),
+                None => Reply::Nothing,
+            },
             Call::Declare => {
                 self.machines.declare(m, p);
                 Reply::Idle(p)
@@ -199,12 +113,86 @@ impl Scheduler {
         })
     }
 
+    /// The goroutine g that m runs ends, and with goroutine 0 the run.
+    fn exit(&mut self, m: MNo, g: GNo) -> Reply
+        requires runs { IsRunning self.old.goroutines.table g m }
+        ensures exits { OnTable (Exits g result) (state_of self.old) (state_of self.new) }
+        ensures shelf { self.new.goroutines.shelf ≡ self.old.goroutines.shelf }
+        ensures rest { SameRest self.old self.new }
+    {
+        self.goroutines.exit(g);
+        if g.0 == 0 {
+            Reply::MainEnded
+        } else {
+            Reply::Dead
+        }
+    }
+
+    /// m has nothing to do: it parks, unless there is work, or a deadline to mind, or all are asleep.
+    fn park(&mut self, m: MNo) -> Reply
+        requires { IsBare self.old.machines m }
+        ensures parks { Parks m result (state_of self.old) (state_of self.new) }
+        ensures rest { self.new ≡ record self.old { machines = self.new.machines } }
+    {
+        if self.goroutines.has_shelved() && self.machines.has_idle() {
+            return Reply::Work;
+        }
+        if !self.goroutines.has_astir() {
+            return Reply::AllAsleep;
+        }
+        if let Some(until) = self.goroutines.minded() {
+            return Reply::Mind(until);
+        }
+        self.machines.park(m);
+        Reply::Parked
+    }
+
+    /// The goroutine g that m runs begins a blocking call, which m makes. m gives the processor p up, and the least parked machine
+    /// wakes, where one is parked.
+    fn enter(&mut self, m: MNo, g: GNo, p: PNo) -> Reply
+        requires runs { IsRunning self.old.goroutines.table g m }
+        requires holds { Holds self.old.machines m p }
+        requires awake { IsAwake self.old.machines m }
+        ensures table { self.new.goroutines.table ≡ set_status self.old.goroutines.table g (Status.Calling m) }
+        ensures machines { Enters m result self.old.machines self.new.machines }
+        ensures channels { SameChannels (state_of self.old) (state_of self.new) }
+        ensures shelf { self.new.goroutines.shelf ≡ self.old.goroutines.shelf }
+        ensures choice { Chooses Call.Enter 0 result (state_of self.old) self.old.goroutines.shelf }
+        ensures rest { SameRest self.old self.new }
+    {
+        self.goroutines.enter(m, g);
+        Reply::Entered(p, self.machines.enter(m, p))
+    }
+
+    /// The goroutine g comes back from the blocking call that m makes. It runs on, and m holds the least idle processor, where one is
+    /// idle; else it goes onto the shelf, to be told the number.
+    fn leave(&mut self, m: MNo, g: GNo, number: u64) -> Reply
+        requires calls { IsCalling self.old.goroutines.table g m }
+        requires free { RunsNothing self.old.goroutines.table m }
+        requires mode { slice_get self.old.machines.modes m.0 ≡ Some Mode.Calling }
+        requires young { IsYoung (state_of self.old) }
+        requires there { m.0 < self.old.goroutines.machines }
+        ensures leaves { Leaves m g number result (state_of self.old) (state_of self.new) }
+        ensures shelf { Shelves (Call.Leave number) result self.old.goroutines.table self.new.goroutines.table self.old.goroutines.shelf self.new.goroutines.shelf }
+        ensures choice { Chooses (Call.Leave number) 0 result (state_of self.old) self.old.goroutines.shelf }
+        ensures rest { SameRest self.old self.new }
+    {
+        match self.machines.leave(m) {
+            Some(p) => {
+                self.goroutines.run_on(m, g);
+                Reply::Runs(p)
+            }
+            None => Reply::Shelved(self.goroutines.come_back(m, g, number)),
+        }
+    }
+
     /// m made one entry more, which was answered so.
-    fn count_one(&mut self, limits: Limits, m: MNo, reply: Reply)
-        requires counted { m.0 < length self.old.state.counts }
-        requires few { sum self.old.state.counts < 2 ^ 63 }
-        ensures scene { self.new ≡ counted_one limits m reply self.old }
-        ensures made { sum self.new.state.counts ≡ sum self.old.state.counts + 1 }
+    pub(crate) fn count_one(&mut self, limits: Limits, m: MNo, reply: Reply)
+        requires counted { m.0 < length self.old.counts }
+        requires few { sum self.old.counts < 2 ^ 63 }
+        ensures counted { state_of self.new ≡ counted_one limits m reply (state_of self.old) }
+        ensures rest { self.new ≡ record self.old { counts = self.new.counts; outcome = self.new.outcome } }
+        ensures made { sum self.new.counts ≡ sum self.old.counts + 1 }
     {
         self.counts.add_one(m);
         let is_full = self.counts.all() >= u64::from(limits.entries);
@@ -214,38 +202,5 @@ impl Scheduler {
             _ if is_full => Some(Outcome::BookFull),
             _ => None,
         };
-    }
-
-    /// A call of m is a step.
-    pub(crate) fn step(
-        &mut self,
-        memory: Option<Global>,
-        limits: Limits,
-        m: MNo,
-        g: GNo,
-        p: PNo,
-        call: &Call,
-        word: u64,
-    ) -> Result<Reply, AllocError>
-        requires lasts { self.old.state.outcome ≡ None }
-        requires memory { NeedsMemory call.now memory }
-        requires grants { Grants m g p call.now self.old.state }
-        requires young { IsYoung self.old.state }
-        requires there { m.0 < self.old.machines }
-        requires limit { self.old.limit ≡ limits.channels }
-        requires counted { m.0 < length self.old.state.counts }
-        requires few { sum self.old.state.counts < 2 ^ 63 }
-        ensures step { IfOk result (λ reply. Step limits m call.now reply self.old.state self.new.state) }
-        ensures shelf { IfOk result (λ reply. Shelves call.now reply self.old.state.table self.new.state.table self.old.shelf self.new.shelf) }
-        ensures choice { IfOk result (λ reply. Chooses call.now word reply self.old.state self.old.shelf) }
-        ensures made { IfOk result (λ reply. sum self.new.state.counts ≡ sum self.old.state.counts + 1) }
-        ensures limit { self.new.limit ≡ self.old.limit }
-        ensures machines { self.new.machines ≡ self.old.machines }
-        ensures err { OnErr result (self.new ≡ self.old) }
-        ensures wanted { OnErr result (WantsMemory limits call.now self.old.state) }
-    {
-        let reply = self.effect(memory, limits, m, g, p, call, word)?;
-        self.count_one(limits, m, reply);
-        Ok(reply)
     }
 }

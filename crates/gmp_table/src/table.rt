@@ -135,13 +135,6 @@ impl StatusTable {
         }
     }
 
-    /// The greatest moment that a tick told, in nanoseconds.
-    pub fn clock(&self) -> u64
-        ensures { result ≡ self.now.table.clock }
-    {
-        self.clock
-    }
-
     /// How many waits began so far.
     pub fn arrivals(&self) -> u64
         ensures { result ≡ self.now.table.arrivals }

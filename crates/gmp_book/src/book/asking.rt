@@ -1,153 +1,105 @@
-//! What the calls by their own types share, where at most the body of the goroutine that asks moves.
+//! What the calls by their own types share.
 ghost use Rattle.std.specs.Prelude.{◌≡◌, true, None, IfErr, IfOk, OnErr, OnOk};
-ghost use Rattle.gmp_seq.specs.Laws.{IsInOrder};
-ghost use Rattle.gmp_seq.specs.Table.{IsRunning};
-ghost use Rattle.gmp_ledger.specs.Grants.{Chooses, NeedsMemory, Suits};
-ghost use Rattle.gmp_ledger.specs.Handed.{by_held, by_ticket, nothing_handed};
+ghost use Rattle.gmp_seq.specs.Step.{ticket_in};
+ghost use Rattle.std.specs.Option.{option_map};
+ghost use Rattle.gmp_ledger.specs.Done.{Done};
+ghost use Rattle.gmp_ledger.specs.Grants.{Chooses, NeedsMemory, Suits, WantsMemory};
+ghost use Rattle.gmp_ledger.specs.Handed.{by_held, goroutine_in, nothing_handed, processor_in};
 ghost use Rattle.gmp_ledger.specs.Log.{Records};
-ghost use Rattle.gmp_ledger.specs.Refusals.{refusal_in, refusal_of, why_refused};
+ghost use Rattle.gmp_ledger.specs.Refusals.{Says, refusal_in, refusal_of, why_refused};
 
 use crate::book::Book;
-use crate::went::{Moved, Went};
+use crate::values::{Values, spent};
+use crate::went::Moved;
 use gmp_base::{Held, Pass, Refusal, Refused, Ticket};
-use gmp_ledger::Handed;
 use gmp_seq::{Call, Reply};
-
-/// No value.
-pub(crate) fn nothing() -> Handed
-    ensures { result ≡ nothing_handed }
-{
-    Handed {
-        ticket: None,
-        held: None,
-        called: None,
-        proc: None,
-    }
-}
-
-/// What a ticket is, in plain parts.
-pub(crate) fn as_ticket(ticket: &Ticket) -> Handed
-    ensures { result ≡ by_ticket ticket.now }
-{
-    Handed {
-        ticket: Some((ticket.run, ticket.readiness())),
-        held: None,
-        called: None,
-        proc: None,
-    }
-}
-
-/// What a goroutine that runs is, in plain parts.
-pub(crate) fn as_handed<T>(held: &Held<T>) -> Handed
-    ensures { result ≡ by_held held.now }
-{
-    Handed {
-        ticket: None,
-        held: Some((held.run, held.g)),
-        called: None,
-        proc: None,
-    }
-}
+use std::alloc::Global;
 
 impl<T, Q> Book<T, Q> {
-    ghost use Rattle.gmp_book.specs.Book.{SameValues, TakesBack};
-    ghost use Rattle.gmp_book.specs.Hands.{goes_on, is_own, may_wait, moves_nothing, rests};
-    ghost use Rattle.gmp_book.specs.Went.{GoesOn, MovesBody, Talks};
+    ghost use Rattle.gmp_book.specs.Book.{SameValues};
+    ghost use Rattle.gmp_book.specs.Hands.{back_of, ticket_by};
+    ghost use Rattle.gmp_book.specs.Kinds.{goes_on, is_own, may_wait, moves_nothing};
+    ghost use Rattle.gmp_book.specs.Went.{GoesBy, IsOn, Moves, MovesBody};
 
-    /// A call by which no body and no owner moves.
+    /// A call by which no body and no owner moves, with the ticket that it gives out.
+    #[inline(always)]
     pub(crate) fn note(
         &mut self,
         pass: &mut Pass,
         call: Call,
-        given: Handed,
-    ) -> Result<Reply, Refusal>
+    ) -> Result<(Option<Ticket>, Reply), Refusal>
         requires still { moves_nothing call ≡ true }
-        requires suits { Suits call given }
-        ensures refused { refusal_in result ≡ refusal_of self.old.log pass.old call given }
-        ensures err { OnErr result ((self.new ≡ self.old) × (pass.new ≡ pass.old)) }
-        ensures records { IfOk result (λ reply. Records self.old.log pass.old call reply self.new.log pass.new) }
-        ensures choice { IfOk result (λ reply. Chooses call 0 reply self.old.log.state self.old.log.shelf) }
-        ensures values { OnOk result (SameValues self.old self.new) }
-    {
-        self.ledger.call(None, pass, call, &given, 0)
-    }
-
-    /// A call of a goroutine that goes on by it.
-    pub(crate) fn proceed(
-        &mut self,
-        pass: &mut Pass,
-        held: Held<T>,
-        call: Call,
-    ) -> Result<(Went<T>, Reply), Refused<Held<T>>>
-        requires own { is_own call ≡ true }
-        requires goes { goes_on call ≡ true }
+        requires suits { Suits call nothing_handed }
         requires plain { NeedsMemory call None }
-        ensures refused { why_refused result ≡ refusal_of self.old.log pass.old call (by_held held) }
-        ensures back { IfErr result (λ r. r.back ≡ held) }
+        ensures refused { refusal_in result ≡ refusal_of self.old.log pass.old call nothing_handed }
         ensures err { OnErr result ((self.new ≡ self.old) × (pass.new ≡ pass.old)) }
         ensures records { IfOk result (λ x. Records self.old.log pass.old call x.1 self.new.log pass.new) }
-        ensures goes { IfOk result (λ x. GoesOn x.1 held x.0) }
+        ensures choice { IfOk result (λ x. Chooses call 0 x.1 self.old.log.state self.old.log.shelf) }
+        ensures done { IfOk result (λ x. Done call pass.old.m (goroutine_in nothing_handed) (processor_in nothing_handed) x.1 self.old.log.state self.new.log.state) }
+        ensures ticket { IfOk result (λ x. x.0 ≡ option_map (ticket_by self.old.log.run) (ticket_in x.1)) }
         ensures values { OnOk result (SameValues self.old self.new) }
     {
-        let given = as_handed(&held);
-        match self.ledger.call(None, pass, call, &given, 0) {
-            Err(why) => Err(Refused { why, back: held }),
-            Ok(reply) => Ok((Went::by(held, reply), reply)),
-        }
-    }
-
-    /// A call by which the body of the goroutine that asks goes back into its place.
-    pub(crate) fn rest(
-        &mut self,
-        pass: &mut Pass,
-        held: Held<T>,
-        call: Call,
-    ) -> Result<Reply, Refused<Held<T>>>
-        requires own { is_own call ≡ true }
-        requires rests { rests call ≡ true }
-        requires plain { NeedsMemory call None }
-        ensures refused { why_refused result ≡ refusal_of self.old.log pass.old call (by_held held) }
-        ensures back { IfErr result (λ r. r.back ≡ held) }
-        ensures err { OnErr result ((self.new ≡ self.old) × (pass.new ≡ pass.old)) }
-        ensures records { IfOk result (λ reply. Records self.old.log pass.old call reply self.new.log pass.new) }
-        ensures body { OnOk result (TakesBack self.old self.new held) }
-        ensures runs { OnOk result (IsRunning self.old.log.state.table held.g pass.old.m) }
-        ensures order { OnOk result (IsInOrder self.old.log.limits self.old.log.state) }
-    {
-        let given = as_handed(&held);
-        match self.ledger.call(None, pass, call, &given, 0) {
-            Err(why) => Err(Refused { why, back: held }),
+        let values = Values::of(None, None, None, None);
+        let (values, result) = self.call(None, pass, call, values, 0);
+        let (held, called, ticket, proc) = values.parts();
+        match result {
             Ok(reply) => {
-                let (_, g, _, own) = held.open();
-                self.bodies.put(g.0 as usize, own);
-                Ok(reply)
+                spent(held);
+                spent(called);
+                spent(proc);
+                Ok((ticket, reply))
+            }
+            Err(why) => {
+                spent(held);
+                spent(called);
+                spent(ticket);
+                spent(proc);
+                Err(why)
             }
         }
     }
 
-    /// A call of a goroutine that goes on by it, or waits. `word` chooses among the cases of a select.
-    pub(crate) fn talk(
+    /// A call of a goroutine that runs, with what becomes of it and the reply.
+    #[inline(always)]
+    pub(crate) fn ask(
         &mut self,
+        memory: Option<Global>,
         pass: &mut Pass,
         held: Held<T>,
         call: Call,
         word: u64,
-    ) -> Result<Moved<T>, Refused<Held<T>>>
+    ) -> Result<(Moved<T>, Reply), Refused<Held<T>>>
         requires own { is_own call ≡ true }
-        requires waits { may_wait call ≡ true }
-        requires plain { NeedsMemory call None }
-        ensures refused { why_refused result ≡ refusal_of self.old.log pass.old call (by_held held) }
-        ensures back { IfErr result (λ r. r.back ≡ held) }
+        requires suits { Suits call (by_held held) }
+        requires memory { NeedsMemory call memory }
+        ensures plain { NeedsMemory call None → why_refused result ≡ refusal_of self.old.log pass.old call (by_held held) }
+        ensures refused { Says (WantsMemory self.old.log.limits call self.old.log.state) (refusal_of self.old.log pass.old call (by_held held)) (why_refused result) }
+        ensures back { IfErr result (λ r. r.back ≡ back_of call r.why held) }
         ensures err { OnErr result ((self.new ≡ self.old) × (pass.new ≡ pass.old)) }
-        ensures talks { IfOk result (λ moved. Talks self.old.log pass.old call word held self.new.log pass.new moved) }
-        ensures body { IfOk result (MovesBody self.old self.new held) }
-        ensures runs { OnOk result (IsRunning self.old.log.state.table held.g pass.old.m) }
-        ensures order { OnOk result (IsInOrder self.old.log.limits self.old.log.state) }
+        ensures records { IfOk result (λ x. Records self.old.log pass.old call x.1 self.new.log pass.new) }
+        ensures choice { IfOk result (λ x. Chooses call word x.1 self.old.log.state self.old.log.shelf) }
+        ensures done { IfOk result (λ x. Done call pass.old.m held.g (processor_in (by_held held)) x.1 self.old.log.state self.new.log.state) }
+        ensures goes { IfOk result (λ x. GoesBy x.1 held x.0) }
+        ensures on { IfOk result (λ x. goes_on call ≡ true → IsOn x.0) }
+        ensures moves { IfOk result (λ x. may_wait call ≡ true → Moves x.1 held x.0) }
+        ensures body { IfOk result (λ x. MovesBody self.old self.new held x.0) }
     {
-        let given = as_handed(&held);
-        match self.ledger.call(None, pass, call, &given, word) {
-            Err(why) => Err(Refused { why, back: held }),
-            Ok(reply) => Ok(Moved::by(&mut self.bodies, held, reply)),
+        let values = Values::of(Some(held), None, None, None);
+        let (values, result) = self.call(memory, pass, call, values, word);
+        let (held, called, ticket, proc) = values.parts();
+        match result {
+            Ok(reply) => {
+                spent(called);
+                spent(proc);
+                Ok((Moved::of(held, ticket), reply))
+            }
+            Err(why) => {
+                spent(called);
+                spent(ticket);
+                spent(proc);
+                let back = held.unwrap();
+                Err(Refused { why, back })
+            }
         }
     }
 }

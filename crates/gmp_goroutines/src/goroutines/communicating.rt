@@ -3,16 +3,16 @@
 ghost use Rattle.std.specs.Prelude.{◌≡◌, ◌<◌, ◌≤◌, ◌^◌, Some, None, IfNone, IfOk, IfSome, OnErr, OnOk, is_some, true, false, length, slice_get};
 ghost use Rattle.gmp_base.specs.declared.cases.Case.{Case};
 ghost use Rattle.gmp_base.specs.declared.number.GNo.{GNo};
+ghost use Rattle.gmp_base.specs.declared.number.MNo.{MNo};
 ghost use Rattle.gmp_base.specs.declared.number.CNo.{CNo};
 ghost use Rattle.gmp_seq.specs.declared.call.Call.{Call};
 ghost use Rattle.gmp_seq.specs.declared.call.Limits.{Limits};
 ghost use Rattle.gmp_seq.specs.declared.call.Reply.{Reply};
-ghost use Rattle.gmp_seq.specs.declared.status.Kind.{Kind};
 ghost use Rattle.gmp_seq.specs.declared.status.Waiter.{Waiter};
 ghost use Rattle.gmp_seq.specs.Channels.{capacity_at, items_at};
 ghost use Rattle.gmp_seq.specs.Step.{Closes, Communicates, Deals, Makes, Selects, Tells, none_missing, served_by, some_can, told_of};
-ghost use Rattle.gmp_seq.specs.Table.{IsOffShelf, IsRunning, epoch_at, made_wait};
-ghost use Rattle.gmp_seq.specs.Waits.{can, channel_of, names_no_missing, offers_of, waiters};
+ghost use Rattle.gmp_seq.specs.Table.{IsOffShelf, IsRunning, epoch_at};
+ghost use Rattle.gmp_seq.specs.Waits.{can, channel_of, names_no_missing, waiters};
 ghost use Rattle.gmp_chan.specs.Served.{served};
 ghost use Rattle.gmp_goroutines.specs.Choice.{IsChoice, choice};
 ghost use Rattle.gmp_goroutines.specs.Present.{state_of};
@@ -20,8 +20,8 @@ ghost use Rattle.gmp_goroutines.specs.Served.{IsWayOf, plain_reply};
 ghost use Rattle.gmp_goroutines.specs.Shelf.{Shelves};
 
 use crate::goroutines::Goroutines;
-use gmp_base::{CNo, Case, Cases, Fault, GNo, MNo};
-use gmp_select::{are_made, choose, ready_cases, register};
+use gmp_base::{CNo, Case, Cases, Fault, GNo};
+use gmp_select::{are_made, choose, ready_cases};
 use gmp_seq::{Kind, MOST_CAPACITY, Offers, Relay, Reply, Taken, Transfer, channel_of};
 use gmp_table::{StatusTable, Wake};
 use std::alloc::{AllocError, Global};
@@ -144,9 +144,9 @@ impl Goroutines {
         Some(serve(&mut self.table, case, how))
     }
 
-    /// g, which m runs, sends or receives, or waits until it can.
-    pub fn deal(&mut self, m: MNo, g: GNo, case: Case) -> Reply
-        requires runs { IsRunning self.old.table g m }
+    /// g, which runs, sends or receives, or waits until it can.
+    pub fn deal(&mut self, g: GNo, case: Case) -> Reply
+        requires runs { (m : MNo) × IsRunning self.old.table g m }
         requires young { (h : GNo) → epoch_at self.old.table h < 2 ^ 63 }
         requires few { self.old.table.arrivals < 2 ^ 63 }
         ensures deals { Deals g case result (state_of self.old) (state_of self.new) }
@@ -158,7 +158,7 @@ impl Goroutines {
         match self.proceed(case) {
             Some(taken) => plain_reply(taken),
             None => {
-                self.wait(m, g, Kind::Plain, Offers::of(&[case]), None);
+                self.wait(g, Kind::Plain, Offers::of(&[case]), None);
                 Reply::Waits
             }
         }
@@ -174,32 +174,17 @@ impl Goroutines {
         choose(ready_cases(&self.channels, cases), word)
     }
 
-    /// g, which m runs, begins to wait for any of these cases, until this moment.
-    fn wait_for_any(&mut self, m: MNo, g: GNo, cases: &Cases, until: Option<u64>)
-        requires runs { IsRunning self.old.table g m }
-        requires few { self.old.table.arrivals < 2 ^ 63 }
-        requires made { none_missing (state_of self.old) cases.now ≡ true }
-        ensures table { self.new.table ≡ made_wait self.old.table g Kind.Select (offers_of cases.now) until }
-        ensures rest { self.new ≡ record self.old { table = self.new.table } }
-    {
-        let arrival = self.table.arrivals();
-        let offers = register(&mut self.channels, g, arrival, cases);
-        self.table.wait(g, Kind::Select, offers, until);
-        self.runners.set(m, None);
-    }
-
-    /// g, which m runs, takes one of the cases that can proceed, or else the default, where it has one, or else waits for any of
+    /// g, which runs, takes one of the cases that can proceed, or else the default, where it has one, or else waits for any of
     /// them, until this moment.
     pub fn select(
         &mut self,
-        m: MNo,
         g: GNo,
         cases: &Cases,
         has_default: bool,
         until: Option<u64>,
         word: u64,
     ) -> Reply
-        requires runs { IsRunning self.old.table g m }
+        requires runs { (m : MNo) × IsRunning self.old.table g m }
         requires young { (h : GNo) → epoch_at self.old.table h < 2 ^ 63 }
         requires few { self.old.table.arrivals < 2 ^ 63 }
         ensures selects { Selects g cases.now has_default until result (state_of self.old) (state_of self.new) }
@@ -214,7 +199,7 @@ impl Goroutines {
             Some(i) => Reply::Chose(i, self.proceed(cases.as_slice()[i as usize]).unwrap()),
             None if has_default => Reply::Default,
             None => {
-                self.wait_for_any(m, g, cases, until);
+                self.wait(g, Kind::Select, Offers::of(cases.as_slice()), until);
                 Reply::Waits
             }
         }

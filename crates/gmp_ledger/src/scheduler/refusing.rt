@@ -2,7 +2,8 @@
 ghost use Rattle.std.specs.Prelude.{◌≡◌, false};
 ghost use Rattle.std.specs.Option.{option_map_or};
 ghost use Rattle.gmp_seq.specs.Table.{is_calling_on, is_running_on, status_at};
-ghost use Rattle.gmp_ledger.specs.Refusals.{first_refusal, need_lines, is_busy, lacks_processor, is_spent, is_anothers, runs_some};
+ghost use Rattle.gmp_ledger.specs.Refusals.{first_refusal, need_lines, is_busy, lacks_processor, is_spent, is_anothers};
+ghost use Rattle.gmp_ledger.specs.Scene.{state_of};
 
 use crate::handed::Handed;
 use crate::scheduler::Scheduler;
@@ -11,8 +12,9 @@ use gmp_seq::Call;
 
 impl Scheduler {
     /// Does the state allow what the machine asks?
+    #[inline(always)]
     pub(crate) fn need_refusal(&self, m: MNo, call: &Call, values: &Handed) -> Option<Refusal>
-        ensures { result ≡ first_refusal (need_lines self.now.state m call.now values.now) }
+        ensures { result ≡ first_refusal (need_lines (state_of self.now) m call.now values.now) }
     {
         if self.is_busy(m, call) {
             return Some(Refusal::Busy);
@@ -31,7 +33,7 @@ impl Scheduler {
 
     /// Whether m's state forbids the call.
     fn is_busy(&self, m: MNo, call: &Call) -> bool
-        ensures { result ≡ is_busy self.now.state m call.now }
+        ensures { result ≡ is_busy (state_of self.now) m call.now }
     {
         match call {
             Call::Acquire => !self.machines.is_awake(m) || self.machines.has_processor(m),
@@ -39,11 +41,11 @@ impl Scheduler {
                 !self.machines.is_awake(m)
             }
             Call::Claim(_) => {
-                !self.machines.is_awake(m) || self.runs_some(m) || self.machines.spins(m)
+                !self.machines.is_awake(m) || self.goroutines.runs_some(m) || self.machines.spins(m)
             }
-            Call::Spin => !self.machines.is_awake(m) || self.runs_some(m),
+            Call::Spin => !self.machines.is_awake(m) || self.goroutines.runs_some(m),
             Call::Woken => self.machines.is_calling(m),
-            Call::Declare => self.runs_some(m) || self.machines.spins(m),
+            Call::Declare => self.goroutines.runs_some(m) || self.machines.spins(m),
             Call::Bare | Call::Park => {
                 !self.machines.is_awake(m)
                     || self.machines.has_processor(m)
@@ -54,7 +56,7 @@ impl Scheduler {
     }
 
     fn lacks_processor(&self, m: MNo, call: &Call) -> bool
-        ensures { result ≡ lacks_processor self.now.state m call.now }
+        ensures { result ≡ lacks_processor (state_of self.now) m call.now }
     {
         match call {
             Call::Claim(_) => !self.machines.has_processor(m),
@@ -64,7 +66,7 @@ impl Scheduler {
 
     /// Whether a ticket is not outstanding.
     fn is_spent(&self, values: &Handed) -> bool
-        ensures { result ≡ is_spent self.now.state values.now }
+        ensures { result ≡ is_spent (state_of self.now) values.now }
     {
         values
             .ticket
@@ -73,30 +75,23 @@ impl Scheduler {
 
     /// Whether a value, no ticket, is not m's.
     fn is_anothers(&self, m: MNo, values: &Handed) -> bool
-        ensures { result ≡ is_anothers self.now.state m values.now }
+        ensures { result ≡ is_anothers (state_of self.now) m values.now }
     {
         values.held.is_some_and(|(_, g)| !self.runs(m, g))
             || values.called.is_some_and(|(_, g)| !self.calls_for(m, g))
             || values.proc.is_some_and(|(_, p)| !self.machines.holds(m, p))
     }
 
-    /// Whether m runs some goroutine.
-    fn runs_some(&self, m: MNo) -> bool
-        ensures { result ≡ runs_some self.now.state m }
-    {
-        self.goroutines.runs_some(m)
-    }
-
     /// Whether m runs g.
     fn runs(&self, m: MNo, g: GNo) -> bool
-        ensures { result ≡ option_map_or (is_running_on m) (status_at self.now.state.table g) false }
+        ensures { result ≡ option_map_or (is_running_on m) (status_at self.now.goroutines.table g) false }
     {
         self.goroutines.runs(m, g)
     }
 
     /// Whether m makes the blocking call of g.
     fn calls_for(&self, m: MNo, g: GNo) -> bool
-        ensures { result ≡ option_map_or (is_calling_on m) (status_at self.now.state.table g) false }
+        ensures { result ≡ option_map_or (is_calling_on m) (status_at self.now.goroutines.table g) false }
     {
         match self.goroutines.get(g) {
             Some(row) => row.status.is_calling_on(m),

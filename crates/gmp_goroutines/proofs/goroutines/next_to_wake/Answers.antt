@@ -1,4 +1,4 @@
-use Rattle.std.proofs.Common.{None, Some, sym}
+use Rattle.gmp_goroutines.proofs.Common.{Some, None, sym}
 use Rattle.gmp_goroutines.proofs.Closing.{closes_first}
 use Rattle.gmp_goroutines.proofs.goroutines.next_to_wake.Goals as goal
 

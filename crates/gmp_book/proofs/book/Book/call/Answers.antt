@@ -1,3 +1,9 @@
+use Rattle.std.proofs.Common.{subst}
+use Rattle.gmp_ledger.specs.Done.{Done}
+use Rattle.gmp_ledger.specs.Handed.{goroutine_in, processor_in}
+use Rattle.gmp_ledger.proofs.Done.{done}
+use Rattle.gmp_book.specs.Book.{BookContents}
+use Rattle.gmp_book.specs.Hands.{handed_of}
 use Rattle.gmp_book.proofs.Settled.{body_fits, owner_fits, settled}
 use Rattle.gmp_book.proofs.book.Book.call.Goals as goal
 
@@ -7,7 +13,7 @@ settle_body-held-requires g c =
     let i = c.self.inside in
     let k = c.in-Ok in
     let grants = rw c.handed-given.ensures at k.ensures.grants in
-    rw (c.way_of-way.ensures, c.claimed-g.ensures)
+    rw (c.parts-held.ensures, c.way_of-way.ensures, c.claimed-g.ensures)
     (body_fits i.ledger c.call.new.self i.bodies i.owners c.self.invariant k.ensures.order a.pass.now c.call.new.pass a.values a.call k.reply c.requires.suits grants k.ensures.records)
 
 pub settle_owner-proc-requires : goal.settle_owner-proc-requires
@@ -16,7 +22,8 @@ settle_owner-proc-requires g c =
     let i = c.self.inside in
     let k = c.in-Ok in
     let grants = rw c.handed-given.ensures at k.ensures.grants in
-    owner_fits i.ledger c.call.new.self i.bodies i.owners c.self.invariant k.ensures.order a.pass.now c.call.new.pass a.values a.call k.reply c.requires.suits grants k.ensures.records
+    rw c.parts-held.ensures
+    (owner_fits i.ledger c.call.new.self i.bodies i.owners c.self.invariant k.ensures.order a.pass.now c.call.new.pass a.values a.call k.reply c.requires.suits grants k.ensures.records)
 
 pub invariant_of-self-in-Ok : goal.invariant_of-self-in-Ok
 invariant_of-self-in-Ok g c =
@@ -24,6 +31,18 @@ invariant_of-self-in-Ok g c =
     let i = c.self.inside in
     let k = c.in-Ok in
     let grants = rw c.handed-given.ensures at k.ensures.grants in
-    let body = rw (c.way_of-way.ensures, c.claimed-g.ensures) at c.settle_body-held.ensures in
+    let body = rw (c.parts-held.ensures, c.way_of-way.ensures, c.claimed-g.ensures) at c.settle_body-held.ensures in
+    let owner = rw c.parts-held.ensures at c.settle_owner-proc.ensures in
     settled i.ledger c.call.new.self i.bodies i.owners c.self.invariant k.ensures.order a.pass.now c.call.new.pass a.values a.call k.reply c.requires.suits grants k.ensures.records _ _ _ _ _ _ _
-    body c.settle_owner-proc.ensures
+    body owner
+
+pub returns-after-ticket-clause-done : goal.returns-after-ticket-clause-done
+returns-after-ticket-clause-done g c =
+    let a = c.args in
+    let i = c.self.inside in
+    let k = c.in-Ok in
+    let grants = rw c.handed-given.ensures at k.ensures.grants in
+    let g = goroutine_in (handed_of a.values) in
+    let p = processor_in (handed_of a.values) in
+    subst (λ (b : BookContents _ _). Done a.call a.pass.now.m g p k.reply b.log.state c.call.new.self.state) c.self.view_is
+    (done a.call i.ledger.limits a.pass.now.m g p k.reply i.ledger.state c.call.new.self.state k.ensures.order grants k.ensures.records.step)

@@ -2,4 +2,4 @@ use Rattle.std.proofs.Common.{refl}
 use Rattle.gmp_book.proofs.book.Book.declare.Goals as goal
 
 pub call-values-requires-clause-suits : goal.call-values-requires-clause-suits
-call-values-requires-clause-suits g c = (c.args.proc.run, c.args.proc.p, rw c.by_proc.ensures refl)
+call-values-requires-clause-suits g c = (c.args.proc.run, c.args.proc.p, rw c.of-values.ensures refl)

@@ -1,20 +1,15 @@
-use Rattle.gmp_ledger.specs.Refusals.{refusal_in, refusal_of}
-use Rattle.gmp_book.specs.Book.{BookContents}
-use Rattle.std.proofs.Common.{◌≡◌, subst}
-use Rattle.gmp_book.proofs.Asking.{says, still, still_kept}
+use Rattle.std.proofs.Common.{None, Some}
+use Rattle.gmp_ledger.specs.Handed.{nothing_handed}
+use Rattle.gmp_ledger.specs.Refusals.{refusal_of}
+use Rattle.gmp_book.proofs.Asking.{plain}
 use Rattle.gmp_book.proofs.book.Book.note.Goals as goal
 
-pub call-requires-clause-memory : goal.call-requires-clause-memory
-call-requires-clause-memory g c = (still c.args.call c.requires.still).memory
+pub returns-in-Ok-clause-refused : goal.returns-in-Ok-clause-refused
+returns-in-Ok-clause-refused g c =
+    let old = c.args.self.now.log in
+    plain c.args.call old.limits old.state (refusal_of old c.args.pass.now c.args.call nothing_handed) None c.requires.plain (rw (c.in-Ok.is, c.of-values.ensures) at c.call-values.ensures.refused)
 
-pub invariant_of-self : goal.invariant_of-self
-invariant_of-self g c =
-    let i = c.self.inside in
-    still_kept i.ledger c.call.new.self i.bodies i.owners c.self.invariant c.args.pass.now c.call.new.pass c.args.call c.call.result (still c.args.call c.requires.still)
-    c.call.ensures.err c.call.ensures.records
-
-pub returns-clause-refused : goal.returns-clause-refused
-returns-clause-refused g c =
-    let i = c.self.inside in
-    subst (λ (b : BookContents _ _). refusal_in c.call.result ≡ refusal_of b.log c.args.pass.now c.args.call c.args.given) c.self.view_is
-    (says c.args.call i.ledger.limits i.ledger.state _ _ (still c.args.call c.requires.still).memory c.call.ensures.refused)
+pub returns-in-Err-clause-refused : goal.returns-in-Err-clause-refused
+returns-in-Err-clause-refused g c =
+    let old = c.args.self.now.log in
+    plain c.args.call old.limits old.state (refusal_of old c.args.pass.now c.args.call nothing_handed) (Some c.in-Err.why) c.requires.plain (rw (c.in-Err.is, c.of-values.ensures) at c.call-values.ensures.refused)

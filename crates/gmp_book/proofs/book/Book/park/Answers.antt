@@ -1,22 +1,11 @@
-use Rattle.std.proofs.Common.{subst}
-use Rattle.gmp_seq.specs.declared.call.Call.TheVariants as call
-use Rattle.gmp_seq.specs.declared.call.Reply.{Reply}
-use Rattle.gmp_ledger.specs.Log.{Records}
-use Rattle.gmp_book.specs.declared.answers.Parking.TheVariants as parks
-use Rattle.gmp_book.proofs.Resting.{asleep_is, minds_is}
 use Rattle.gmp_book.proofs.book.Book.park.Goals as goal
 
-pub returns-in-Work-clause-asleep : goal.returns-in-Work-clause-asleep
-returns-in-Work-clause-asleep g c =
-    asleep_is c.args.self.now.log c.note.new.self.log c.args.pass.now c.note.new.pass parks.Work
-    (subst (λ (r : Reply). Records c.args.self.now.log c.args.pass.now call.Park r c.note.new.self.log c.note.new.pass) c.in-Work.is c.in_ok-note.ensures.records)
+pub returns-in-None-Work-clause-minds : goal.returns-in-None-Work-clause-minds
+returns-in-None-Work-clause-minds g c = λ until.
+    let is = c.in-None-Work.is-1 in
+    (λ e. cc, λ minds. let told = (c.in_ok-note.ensures.done.1 until).1 minds in cc)
 
-pub returns-in-Work-clause-minds : goal.returns-in-Work-clause-minds
-returns-in-Work-clause-minds g c =
-    minds_is c.args.self.now.log c.note.new.self.log c.args.pass.now c.note.new.pass parks.Work
-    (subst (λ (r : Reply). Records c.args.self.now.log c.args.pass.now call.Park r c.note.new.self.log c.note.new.pass) c.in-Work.is c.in_ok-note.ensures.records)
-
-pub returns-in-AllAsleep-clause-minds : goal.returns-in-AllAsleep-clause-minds
-returns-in-AllAsleep-clause-minds g c =
-    minds_is c.args.self.now.log c.note.new.self.log c.args.pass.now c.note.new.pass parks.AllAsleep
-    (subst (λ (r : Reply). Records c.args.self.now.log c.args.pass.now call.Park r c.note.new.self.log c.note.new.pass) c.in-AllAsleep.is c.in_ok-note.ensures.records)
+pub returns-in-None-AllAsleep-clause-minds : goal.returns-in-None-AllAsleep-clause-minds
+returns-in-None-AllAsleep-clause-minds g c = λ until.
+    let is = c.in-None-AllAsleep.is-1 in
+    (λ e. cc, λ minds. let told = (c.in_ok-note.ensures.done.1 until).1 minds in cc)

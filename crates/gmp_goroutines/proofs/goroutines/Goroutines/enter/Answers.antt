@@ -1,8 +1,6 @@
-use Rattle.std.proofs.Common.{refl}
-use Rattle.gmp_goroutines.proofs.Ties.{freed_kept}
+use Rattle.gmp_goroutines.proofs.Common.{refl}
+use Rattle.gmp_goroutines.proofs.Ties.{kept}
 use Rattle.gmp_goroutines.proofs.goroutines.Goroutines.enter.Goals as goal
 
 pub invariant_of-self : goal.invariant_of-self
-invariant_of-self c =
-    let runs = rw (← c.self.view_is) at c.requires.runs in
-    rw c.set.ensures (freed_kept c.self.invariant.0 c.self.invariant.1 c.args.m c.args.g _ _ runs refl c.enter.ensures.table)
+invariant_of-self c = let runs = rw (← c.self.view_is) at c.requires.runs in kept c.self.invariant c.args.g _ _ _ runs refl refl c.enter.ensures.table

@@ -1,4 +1,4 @@
-use Rattle.std.proofs.Common.{◌≡◌, [], None, replicate, rules, ap}
+use Rattle.gmp_goroutines.proofs.Common.{◌≡◌, [], ap, rules}
 use Rattle.gmp_table.specs.Contents.{opening_contents}
 use Rattle.gmp_goroutines.proofs.Ties.{opening_kept}
 use Rattle.gmp_goroutines.proofs.goroutines.Goroutines.open.Goals as goal
@@ -9,5 +9,4 @@ invariant_of-result c =
     let table : c.in_ok-open.field-0 ≡ opening_contents n = search rules in
     let waiters : c.in_ok-open-2.field-0.waiters ≡ [] = search rules in
     let bodies : c.in_ok-open-2.field-0.bodies ≡ n = search rules in
-    let runners : c.in_ok-none.field-0 ≡ replicate c.args.machines None = search rules in
-    rw (waiters, bodies, runners) (opening_kept n c.args.machines c.in_ok-open.field-0.table c.requires.some (ap (λ v. v.table.goroutines) table) (ap (λ v. v.table.arrivals) table))
+    rw (waiters, bodies) (opening_kept n _ c.in_ok-open.field-0.table c.requires.some (ap (λ v. v.table.goroutines) table) (ap (λ v. v.table.arrivals) table))

@@ -7,10 +7,10 @@ serve-requires-clause-way c = way_is _ _ _ c.args.case c.in_ok-how.how c.in_ok-h
 pub serve-requires-clause-off : goal.serve-requires-clause-off
 serve-requires-clause-off c = λ w is.
     let t = c.self.inside.table.table in
-    waiter_off t w (served_waits t _ _ c.args.case c.in_ok-how.how w (rw c.self.invariant.0.same at c.in_ok-how.ensures.proceeds) is)
+    waiter_off t w (served_waits t _ _ c.args.case c.in_ok-how.how w (rw c.self.invariant.same at c.in_ok-how.ensures.proceeds) is)
 
 pub invariant_of-self-2 : goal.invariant_of-self-2
 invariant_of-self-2 c =
-    let same = c.self.invariant.0.same in
+    let same = c.self.invariant.same in
     rw (c.in_ok-how.ensures.waiters, c.in_ok-how.ensures.bodies, same)
-    (proceeds_kept (rw same at c.self.invariant.0) c.self.invariant.1 _ _ c.args.case c.in_ok-how.how _ (rw same at c.in_ok-how.ensures.proceeds) c.serve.ensures.table)
+    (proceeds_kept (rw same at c.self.invariant) _ _ c.args.case c.in_ok-how.how _ (rw same at c.in_ok-how.ensures.proceeds) c.serve.ensures.table)

@@ -1,7 +1,11 @@
-use Rattle.std.proofs.Common.{ap, refl, ◌∙◌}
-use Rattle.gmp_seq.specs.Table.{is_running_on, some_status}
-use Rattle.gmp_goroutines.proofs.Running.{runs_told}
+use Rattle.gmp_goroutines.proofs.Common.{refl, sym, ◌∙◌}
+use Rattle.gmp_goroutines.proofs.Ties.{runs_told}
 use Rattle.gmp_goroutines.proofs.goroutines.Goroutines.runs_some.Goals as goal
 
-pub returns : goal.returns
-returns c = c.runs.ensures ∙ runs_told c.self.invariant.1 c.args.m _ _ refl (ap (λ p. some_status (is_running_on c.args.m) p.table) c.self.view_is)
+pub returns-in-Some : goal.returns-in-Some
+returns-in-Some c =
+    rw (← c.self.view_is) (runs_told c.args.m _ _ c.self.invariant (sym (rw c.deref.ensures.value at c.last_on.ensures) ∙ c.in-Some.is) tt c.runs.ensures)
+
+pub returns-in-None : goal.returns-in-None
+returns-in-None c =
+    rw (← c.self.view_is) (runs_told c.args.m _ _ c.self.invariant (sym (rw c.deref.ensures.value at c.last_on.ensures) ∙ c.in-None.is) refl tt)

@@ -1,24 +1,10 @@
-use Rattle.std.proofs.Common.{◌≡◌, false, refl, rules, [], ◌∷◌, ◌++◌, Some, is_some, arith, ap, ◌∙◌}
+use Rattle.gmp_goroutines.proofs.Common.{[], ◌∷◌, ◌++◌, is_some, refl, ap, ◌∙◌, arith, rules, Goroutine}
 use Rattle.std.proofs.lemmas.List.Sums.{count_by-le-length}
-use Rattle.gmp_base.specs.declared.ask.Woke.{Woke}
-use Rattle.gmp_seq.specs.declared.status.Goroutine.{Goroutine}
-use Rattle.gmp_seq.specs.declared.status.Status.{Status}
-use Rattle.gmp_seq.specs.declared.status.Status.TheVariants.{Running}
 use Rattle.gmp_seq.specs.Table.{all_woken, how_many_woken}
-use Rattle.gmp_table.specs.declared.wake.Wake.{Wake}
-use Rattle.gmp_table.specs.declared.wake.Wake.TheVariants.{Closed, Due}
 use Rattle.gmp_table.specs.Waking.{answer_of}
 use Rattle.gmp_table.proofs.Waking.{next_less, next_more, all_done}
-use Rattle.gmp_goroutines.proofs.Running.{is_running}
 use Rattle.gmp_goroutines.proofs.Ties.{served_kept}
-use Rattle.gmp_seq.proofs.Manned.{status_of}
 use Rattle.gmp_goroutines.proofs.goroutines.Goroutines.wake_all.Goals as goal
-
--- who is woken doesn't run
-answered_stands : (wake : Wake) (s : Status) (told : Woke) → answer_of wake s ≡ Some told → is_running s ≡ false
-answered_stands (Closed c) (Running m) told e = absurd cc
-answered_stands (Due now) (Running m) told e = absurd cc
-answered_stands wake _ told e = refl
 
 pub loop-next-smaller : goal.loop-next-smaller
 loop-next-smaller c =
@@ -32,14 +18,12 @@ loop-next-preserved c =
     let i = c.loop-next.self-inside in
     let next = c.in-Some.next in
     let first = c.in-Some.ensures in
-    let kept = served_kept c.loop-next.invariant.tied c.loop-next.invariant.runners next.g first.0.status _ _ (ap status_of first.1) (answered_stands c.args.wake first.0.status next.woke first.2) refl c.requeue.ensures.table in
     record {
       woken = (
         woken.0 ++ next.g ∷ [],
         next_more c.args.wake c.self.inside.table i.table c.requeue.new.self woken.0 c.loop-next.count next woken.1 first c.requeue.ensures.table c.requeue.ensures.last,
       );
-      tied = rw c.withdraw.ensures kept.0;
-      runners = kept.1;
+      tied = rw c.withdraw.ensures (served_kept c.loop-next.invariant.tied next.g _ _ refl c.requeue.ensures.table);
       same = c.loop-next.invariant.same;
       channels = ap (λ v. v.channels) c.withdraw.ensures ∙ c.loop-next.invariant.channels;
       limit = ap (λ v. v.limit) c.withdraw.ensures ∙ c.loop-next.invariant.limit;

@@ -1,70 +1,57 @@
-use Rattle.std.proofs.Common.{arith, subst, sym}
-use Rattle.gmp_seq.specs.Laws.{IsInOrder}
-use Rattle.gmp_ledger.specs.Grants.{Grants}
-use Rattle.gmp_ledger.specs.Handed.{goroutine_in, processor_in}
-use Rattle.gmp_ledger.specs.LedgerView.{log_of}
-use Rattle.gmp_ledger.specs.Log.{Log}
-use Rattle.gmp_ledger.specs.Refusals.{IsAllowed}
-use Rattle.gmp_ledger.proofs.Granted.{counted, few, few_of_machine, granted, has_room, in_order, kept_on, young}
+use Rattle.gmp_ledger.proofs.Common.{subst, arith, rules, IsInOrder, Grants, goroutine_in, processor_in, log_of, Log}
+use Rattle.gmp_ledger.proofs.Granted.{in_order, kept_on, may_go}
+use Rattle.gmp_ledger.specs.Scene.{state_of}
 use Rattle.gmp_ledger.proofs.ledger.Ledger.accept.Goals as goal
 
-pub step-requires-clause-grants : goal.step-requires-clause-grants
-step-requires-clause-grants c =
-    let i = c.self.inside in
-    let allowed = subst (λ (l : Log). IsAllowed l c.args.pass.now c.args.call c.args.values.now) (sym c.self.view_is) c.requires.allowed in
-    rw (c.goroutine-g.ensures, c.processor-p.ensures)
-    (granted (log_of i) _ c.args.pass.now c.self.invariant.0 allowed.current c.args.call c.args.values.now c.requires.suits allowed)
+pub effect-requires-clause-grants : goal.effect-requires-clause-grants
+effect-requires-clause-grants c =
+    let may = (may_go _ _ _ c.args.pass.now c.args.call c.args.values.now c.self.view_is c.self.invariant.0 c.requires.suits c.requires.allowed) in
+    rw (c.goroutine-g.ensures, c.processor-p.ensures) may.grants
 
-pub step-requires-clause-young : goal.step-requires-clause-young
-step-requires-clause-young c =
-    let i = c.self.inside in
-    let allowed = subst (λ (l : Log). IsAllowed l c.args.pass.now c.args.call c.args.values.now) (sym c.self.view_is) c.requires.allowed in
-    young (log_of i) _ c.args.pass.now c.self.invariant.0 allowed.current
+pub effect-requires-clause-young : goal.effect-requires-clause-young
+effect-requires-clause-young c = (may_go _ _ _ c.args.pass.now c.args.call c.args.values.now c.self.view_is c.self.invariant.0 c.requires.suits c.requires.allowed).young
 
-pub step-requires-clause-counted : goal.step-requires-clause-counted
-step-requires-clause-counted c =
-    let i = c.self.inside in
-    let allowed = subst (λ (l : Log). IsAllowed l c.args.pass.now c.args.call c.args.values.now) (sym c.self.view_is) c.requires.allowed in
-    counted (log_of i) _ c.args.pass.now c.self.invariant.0 allowed.current
+pub count_one-requires-clause-counted : goal.count_one-requires-clause-counted
+count_one-requires-clause-counted c = rw c.in_ok-reply.ensures.rest.counts (may_go _ _ _ c.args.pass.now c.args.call c.args.values.now c.self.view_is c.self.invariant.0 c.requires.suits c.requires.allowed).counted
 
-pub step-requires-clause-few : goal.step-requires-clause-few
-step-requires-clause-few c =
-    let i = c.self.inside in
-    let allowed = subst (λ (l : Log). IsAllowed l c.args.pass.now c.args.call c.args.values.now) (sym c.self.view_is) c.requires.allowed in
-    few (log_of i) _ c.args.pass.now c.self.invariant.0 allowed.current
+pub count_one-requires-clause-few : goal.count_one-requires-clause-few
+count_one-requires-clause-few c = rw c.in_ok-reply.ensures.rest.counts (may_go _ _ _ c.args.pass.now c.args.call c.args.values.now c.self.view_is c.self.invariant.0 c.requires.suits c.requires.allowed).few
 
 pub push_reserved-requires : goal.push_reserved-requires
 push_reserved-requires c =
-    let i = c.self.inside in
-    let allowed = subst (λ (l : Log). IsAllowed l c.args.pass.now c.args.call c.args.values.now) (sym c.self.view_is) c.requires.allowed in
-    let room = has_room (log_of i) _ c.args.pass.now c.self.invariant.0 allowed.current in
-    omega (arith, room)
+    let may = (may_go _ _ _ c.args.pass.now c.args.call c.args.values.now c.self.view_is c.self.invariant.0 c.requires.suits c.requires.allowed) in
+    omega (arith, may.room)
 
 pub advance-requires : goal.advance-requires
 advance-requires c =
-    let i = c.self.inside in
-    let allowed = subst (λ (l : Log). IsAllowed l c.args.pass.now c.args.call c.args.values.now) (sym c.self.view_is) c.requires.allowed in
-    let least = few_of_machine (log_of i) _ c.args.pass.now c.self.invariant.0 allowed.current in
-    omega (arith, least, allowed.current.turn)
+    let may = (may_go _ _ _ c.args.pass.now c.args.call c.args.values.now c.self.view_is c.self.invariant.0 c.requires.suits c.requires.allowed) in
+    omega (arith, may.calls)
 
 pub invariant_of-self-2 : goal.invariant_of-self-2
 invariant_of-self-2 c =
-    let i = c.self.inside in
-    let allowed = subst (λ (l : Log). IsAllowed l c.args.pass.now c.args.call c.args.values.now) (sym c.self.view_is) c.requires.allowed in
     let k = c.in_ok-reply in
-    let step = k.ensures.step in (
-      kept_on (log_of i) _ c.args.pass.now c.self.invariant.0 allowed.current c.args.call k.reply c.push_reserved.new.self.items c.step.new.self.state c.step.new.self.shelf _ c.new.result step.1
-          (rw (← allowed.current.turn) c.new.ensures.value) c.new.ensures.fits c.push_reserved.ensures.items step.2 step.3 c.push_reserved.ensures.capacity,
-      record { channels = rw k.ensures.limit c.self.invariant.1.channels; machines = rw k.ensures.machines c.self.invariant.1.machines },
+    let rest = k.ensures.rest in (
+      kept_on (log_of c.self.inside) _ c.args.pass.now c.self.invariant.0 (may_go _ _ _ c.args.pass.now c.args.call c.args.values.now c.self.view_is c.self.invariant.0 c.requires.suits c.requires.allowed).current c.args.call k.reply (state_of c.effect.new.self) c.new.result _ _ (k.ensures.effect _ _) rest.counts
+          c.new.ensures.value c.new.ensures.fits (search rules) c.push_reserved.ensures.capacity,
+      record { channels = rw (c.count_one.ensures.rest, rest.limit) c.self.invariant.1.channels; machines = rw (c.count_one.ensures.rest, rest.machines) c.self.invariant.1.machines },
     )
+
+pub returns-clause-records : goal.returns-clause-records
+returns-clause-records c =
+    let k = c.in_ok-reply in
+    record {
+      entry = search rules;
+      step = (search rules, rw (← c.self.view_is, c.count_one.ensures.counted) (k.ensures.effect _ _), search rules, search rules);
+      shelf = search rules;
+      opened = search rules;
+      made = search rules;
+      pass = search rules;
+      order = search rules;
+    }
 
 pub returns-clause-grants : goal.returns-clause-grants
 returns-clause-grants c =
-    let i = c.self.inside in
-    let allowed = subst (λ (l : Log). IsAllowed l c.args.pass.now c.args.call c.args.values.now) (sym c.self.view_is) c.requires.allowed in
-    subst (λ (l : Log). Grants c.args.pass.now.m (goroutine_in c.args.values.now) (processor_in c.args.values.now) c.args.call l.state) c.self.view_is
-    (granted (log_of i) _ c.args.pass.now c.self.invariant.0 allowed.current c.args.call c.args.values.now c.requires.suits allowed)
+    subst (λ (l : Log). Grants c.args.pass.now.m (goroutine_in c.args.values.now) (processor_in c.args.values.now) c.args.call l.state) c.self.view_is (may_go _ _ _ c.args.pass.now c.args.call c.args.values.now c.self.view_is c.self.invariant.0 c.requires.suits c.requires.allowed).grants
 
 pub returns-clause-order : goal.returns-clause-order
-returns-clause-order c =
-    subst (λ (l : Log). IsInOrder l.limits l.state) c.self.view_is (in_order (log_of c.self.inside) _ c.self.invariant.0)
+returns-clause-order c = subst (λ (l : Log). IsInOrder l.limits l.state) c.self.view_is (in_order (log_of c.self.inside) _ c.self.invariant.0)

@@ -1,7 +1,6 @@
-use Rattle.std.proofs.Common.{List, subst}
+use Rattle.gmp_ledger.proofs.Common.{List, subst, Log}
 use Rattle.gmp_seq.specs.declared.call.Entry.{Entry}
 use Rattle.gmp_seq.specs.Run.{IsLegal}
-use Rattle.gmp_ledger.specs.Log.{Log}
 use Rattle.gmp_ledger.proofs.ledger.Ledger.history.Goals as goal
 
 pub returns-clause-before : goal.returns-clause-before

@@ -1,5 +1,5 @@
-use Rattle.std.proofs.Common.{sym}
-use Rattle.gmp_ledger.specs.Refusals.{need_lines, turn_lines}
+use Rattle.gmp_ledger.proofs.Common.{◌≡◌, sym, subst, Log, need_lines, turn_lines}
+use Rattle.gmp_ledger.specs.Refusals.{first_refusal}
 use Rattle.gmp_ledger.proofs.Lines.{allowed_where, by_first}
 use Rattle.gmp_ledger.proofs.ledger.Ledger.refusal.Goals as goal
 
@@ -11,4 +11,5 @@ returns-in-Some-clause-why c =
 pub returns-clause-allowed : goal.returns-clause-allowed
 returns-clause-allowed c =
     let a = c.args in
-    allowed_where a.self.now a.pass.now a.call.now a.values.now c.need_refusal.result c.need_refusal.ensures c.in_default.ensures.current c.in_default.ensures.ours
+    let why = subst (λ (l : Log). c.need_refusal.result ≡ first_refusal (need_lines l.state a.pass.now.m a.call.now a.values.now)) c.self.view_is c.need_refusal.ensures in
+    allowed_where a.self.now a.pass.now a.call.now a.values.now c.need_refusal.result why c.in_default.ensures.current c.in_default.ensures.ours
