@@ -1,0 +1,80 @@
+//! What a machine does next, and what came of it.
+
+use gmp_base::{Ask, PNo, Refusal};
+use gmp_seq::{Call, Reply};
+
+/// Which of the values that a machine holds.
+#[derive(Clone, Copy, Debug, PartialEq, Eq)]
+pub enum Value {
+    Held,
+    Called,
+    ToClaim,
+    ToStore,
+    Proc,
+}
+
+/// One act of a machine.
+#[derive(Debug, Drop)]
+pub enum Act {
+    /// Makes this call of the book. A select draws a word with it.
+    Call(Call),
+    /// Pops its own queue.
+    Pop,
+    /// Pushes the ticket to store onto its own queue.
+    Push,
+    /// Draws a word, and steals from the first victim of the hunt that begins by it.
+    Hunt,
+    /// Steals from the queue of this processor.
+    Steal(PNo),
+    /// Resumes the body, which asks.
+    Resume,
+    /// Runs the body's blocking call, which answers a number.
+    Block,
+    /// Reads the clock. At Mind, with the deadline that it minds.
+    Clock(Option<u64>),
+    /// Gives this value back, or none, where it holds none.
+    Surrender(Option<Value>),
+    /// There is nothing left to do.
+    Nothing,
+}
+
+/// What came of one try to steal.
+#[derive(Clone, Copy, Debug, PartialEq, Eq)]
+pub enum Tried {
+    /// A ticket, and how long the victim's queue was said to be with the steal.
+    Got(u32),
+    Empty,
+    /// A race was lost, and nothing was taken.
+    Unsure,
+}
+
+/// What came of an act.
+#[derive(Debug, Drop)]
+pub enum Told {
+    /// The book accepted the call, and this is its entry's reply.
+    Replied(Reply),
+    /// The book refused the call.
+    Refused(Refusal),
+    /// The own queue had a ticket.
+    Got,
+    /// It had none.
+    Empty,
+    /// The word that was drawn, and what came of the steal from its first victim.
+    Drew(u64, Tried),
+    /// What came of the steal.
+    Tried(Tried),
+    /// The own queue took the ticket.
+    Pushed,
+    /// It refused the ticket.
+    PushRefused,
+    /// What the body asked.
+    Asked(Ask),
+    /// What the blocking call answered.
+    Number(u64),
+    /// What the clock showed, in nanoseconds.
+    Moment(u64),
+    /// The value was given back.
+    Surrendered,
+    /// There was nothing to give back, or to do.
+    Nothing,
+}

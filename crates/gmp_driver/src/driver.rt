@@ -1,0 +1,163 @@
+//! A machine's program, and what the machine holds.
+ghost use Rattle.std.specs.Prelude.{◌≡◌, ◌≤◌, None, Some, IsNone, IsSome, false, is_some};
+
+use crate::act::{Act, Told};
+use crate::hunt::victim_of;
+use crate::load::Load;
+use crate::place::Place;
+use crate::registers::{Registers, fill};
+use crate::seen::Seen;
+use crate::table::{act_at, next_fresh, next_place, next_turns};
+use gmp_base::{PNo, Pass, Woke};
+use std::marker::Model;
+use std::mem;
+
+/// One machine's program. A contract sees its place, its registers, the pass unless it is given out, and what it holds.
+///
+/// It keeps the plain parts of values. While nothing is given out it holds what its place says.
+pub struct Driver<T, Q> {
+    run: u64,
+    procs: u8,
+    place: Place,
+    fresh: bool,
+    turns: u8,
+    pass: Option<Pass>,
+    hand: Registers<T, Q>,
+}
+
+impl<T, Q> Model for Driver<T, Q> {
+    ghost use Rattle.gmp_driver.specs.Machine.{Machine};
+    ghost use Rattle.gmp_driver.specs.Fits.{IsDriver};
+
+    ghost Value = { Machine T Q };
+
+    ghost view = { λ d. record { run = d.run; procs = d.procs; place = d.place; fresh = d.fresh; turns = d.turns; pass = d.pass; hand = d.hand } };
+
+    ghost invariant = { λ d. IsDriver (record { run = d.run; procs = d.procs; place = d.place; fresh = d.fresh; turns = d.turns; pass = d.pass; hand = d.hand }) };
+}
+
+impl<T, Q> Driver<T, Q> {
+    ghost use Rattle.gmp_driver.specs.Fits.{Fits, IsDriver};
+    ghost use Rattle.gmp_driver.specs.Hunt.{begun, victim_of};
+    ghost use Rattle.gmp_driver.specs.Loads.{IsOfRun, load_of, parts_of};
+    ghost use Rattle.gmp_driver.specs.Machine.{held_at, is_done};
+    ghost use Rattle.gmp_driver.specs.Registers.{AreApart, joined, nothing, unused, used};
+    ghost use Rattle.gmp_driver.specs.Seen.{seen};
+    ghost use Rattle.gmp_driver.specs.Table.{after, next_act};
+
+    /// The program at its start, with nothing in hand. There are so many processors.
+    pub fn new(pass: Pass, procs: u8) -> Self
+        requires some { 1 ≤ procs }
+        requires few { procs ≤ 32 }
+        ensures { result ≡ record { run = pass.run; procs = procs; place = Place.Start; fresh = false; turns = 0; pass = Some pass; hand = nothing } }
+    {
+        Driver {
+            run: pass.run,
+            procs,
+            place: Place::Start,
+            fresh: false,
+            turns: 0,
+            pass: Some(pass),
+            hand: Registers::empty(),
+        }
+    }
+
+    /// What the machine does next.
+    pub fn next(&self) -> Act
+        requires { IsSome self.now.pass }
+        ensures act { result ≡ next_act self.now }
+        ensures keeps { IsDriver self.now }
+    {
+        act_at(&self.place, self.seen())
+    }
+
+    /// The first victim of a hunt that begins by this word.
+    pub fn first_victim(&self, word: u64) -> PNo
+        ensures { result ≡ victim_of self.now.procs (begun (seen self.now) word) }
+    {
+        victim_of(self.procs, self.seen().begin(word))
+    }
+
+    /// Whether it holds a ticket to claim. A ticket that is stolen then is to store.
+    pub fn has_to_claim(&self) -> bool
+        ensures { result ≡ is_some self.now.hand.to_claim }
+    {
+        self.hand.to_claim.is_some()
+    }
+
+    /// What the body of the goroutine that runs is to be told, at Run; at Block Done, which has no meaning.
+    pub fn held(&self) -> Option<Woke>
+        ensures { result ≡ held_at self.now.place self.now.hand.held }
+    {
+        match (&self.place, &self.hand.held) {
+            (Place::Run, Some(parts)) => Some(parts.woke),
+            (Place::Block, _) => Some(Woke::Done),
+            _ => None,
+        }
+    }
+
+    /// Whether there is nothing left to do.
+    pub fn is_done(&self) -> bool
+        ensures { result ≡ is_done self.now.place }
+    {
+        matches!(self.place, Place::Done)
+    }
+
+    fn seen(&self) -> Seen
+        ensures { result ≡ seen self.now }
+    {
+        Seen::of(self.procs, self.fresh, self.turns, &self.hand)
+    }
+
+    /// Hands out the pass, and the values that the next act uses.
+    pub fn give(&mut self) -> Load<T, Q>
+        requires { IsSome self.old.pass }
+        ensures pass { self.old.pass ≡ Some result.pass }
+        ensures run { IsOfRun self.old.run result }
+        ensures used { result ≡ load_of self.old.run result.pass (used (next_act self.old) self.old.hand) }
+        ensures left { self.new ≡ record self.old { pass = None; hand = unused (next_act self.old) self.old.hand } }
+    {
+        let act = self.next();
+        let hand = self.hand.take_used(&act);
+        let pass = self.pass.take().unwrap();
+        Load::of(self.run, pass, hand)
+    }
+
+    /// Takes back the pass and what the act left or was answered, is told what came of the act, and goes on to the next place, where
+    /// it must hold what that place says.
+    pub fn got(&mut self, load: Load<T, Q>, told: Told)
+        requires out { IsNone self.old.pass }
+        requires run { IsOfRun self.old.run load }
+        requires apart { AreApart self.old.hand (parts_of load) }
+        requires fits { Fits (after (record self.old { hand = joined (parts_of load) self.old.hand }) told).place (joined (parts_of load) self.old.hand) }
+        ensures { self.new ≡ after (record self.old { pass = Some load.pass; hand = joined (parts_of load) self.old.hand }) told }
+    {
+        let (pass, came) = load.open();
+        self.hand.join(came);
+        let seen = Seen::of(self.procs, self.fresh, self.turns, &self.hand);
+        let here = mem::replace(&mut self.place, Place::Done);
+        self.fresh = next_fresh(&here, seen, &told);
+        self.turns = next_turns(&here, seen, &told);
+        self.place = next_place(here, seen, told);
+        fill(&mut self.pass, pass);
+    }
+}
+
+impl<T: Drop, Q: Drop> Driver<T, Q> {
+    /// The pass. All else is let go.
+    pub fn into_pass(self) -> Pass
+        requires { IsSome self.pass }
+        ensures { self.pass ≡ Some result }
+    {
+        let Driver {
+            run: _,
+            procs: _,
+            place: _,
+            fresh: _,
+            turns: _,
+            pass,
+            hand: _,
+        } = self;
+        pass.unwrap()
+    }
+}

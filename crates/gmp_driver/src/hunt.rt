@@ -1,0 +1,99 @@
+//! From whom a machine steals, and how many tickets.
+ghost use Rattle.std.specs.Prelude.{◌≡◌, ◌≤◌, ◌<◌};
+ghost use Rattle.gmp_driver.specs.Hunt as hunt;
+
+use crate::act::Tried;
+use crate::place::{Place, Round};
+use crate::seen::Seen;
+use gmp_base::PNo;
+
+/// How many tickets are stolen from a queue that is said to have so many: half of them, rounded up, at least one, and 16 at most.
+pub fn steal_goal(hint: u32) -> u8
+    ensures goal { result ≡ hunt.steal_goal hint }
+    ensures some { 1 ≤ result }
+    ensures few { result ≤ 16 }
+{
+    ((u64::from(hint) + 1) / 2).min(16).max(1) as u8
+}
+
+/// The victim of this number in a hunt's order.
+fn victim(procs: u8, word: u64, number: u8) -> PNo
+    requires { 1 ≤ procs }
+    ensures { result ≡ hunt.victim procs word number }
+{
+    let procs = u64::from(procs);
+    PNo(((word % procs + u64::from(number)) % procs) as u8)
+}
+
+/// The victim at which a hunt stands.
+pub(crate) fn victim_of(procs: u8, round: Round) -> PNo
+    requires { 1 ≤ procs }
+    ensures { result ≡ hunt.victim_of procs round }
+{
+    victim(procs, round.word, round.number)
+}
+
+/// Steals once more from this victim, unless that were none.
+pub(crate) fn more(v: PNo, goal: u8) -> Place
+    ensures { result ≡ hunt.more v goal }
+{
+    if goal == 0 {
+        Place::Unspin
+    } else {
+        Place::More(v, goal)
+    }
+}
+
+impl Seen {
+    /// This number of the order, or the next one, where it is the own processor's.
+    fn skipped(self, word: u64, number: u8) -> u8
+        requires some { 1 ≤ self.procs }
+        requires within { number < 255 }
+        ensures { result ≡ hunt.skipped self word number }
+    {
+        match self.own {
+            Some(own) if own.0 == victim(self.procs, word, number).0 => number + 1,
+            _ => number,
+        }
+    }
+
+    /// The hunt that begins by this word.
+    pub(crate) fn begin(self, word: u64) -> Round
+        requires { 1 ≤ self.procs }
+        ensures { result ≡ hunt.begun self word }
+    {
+        Round {
+            word,
+            number: self.skipped(word, 0),
+        }
+    }
+
+    /// The hunt goes on at this number of its order, and ends after the last.
+    fn hunt_on(self, word: u64, number: u8) -> Place
+        requires { 1 ≤ self.procs }
+        ensures { result ≡ hunt.hunt_on self word number }
+    {
+        if number >= self.procs {
+            return Place::Unspin;
+        }
+        let number = self.skipped(word, number);
+        if number < self.procs {
+            Place::Hunt(Some(Round { word, number }))
+        } else {
+            Place::Unspin
+        }
+    }
+
+    /// Where a try of a hunt leads.
+    pub(crate) fn hunted(self, round: Round, tried: Tried) -> Place
+        requires { 1 ≤ self.procs }
+        ensures { result ≡ hunt.hunted self round tried }
+    {
+        match tried {
+            Tried::Got(hint) => more(victim_of(self.procs, round), steal_goal(hint) - 1),
+            Tried::Empty if round.number < self.procs => self.hunt_on(round.word, round.number + 1),
+            Tried::Empty => Place::Unspin,
+            Tried::Unsure => Place::Hunt(Some(round)),
+        }
+    }
+}

@@ -1,0 +1,22 @@
+//! Laws of the table. Each is the contract of a function that does nothing.
+ghost use Rattle.std.specs.Prelude.{◌≡◌};
+ghost use Rattle.gmp_seq.specs.declared.call.Call.{Call};
+ghost use Rattle.gmp_driver.specs.declared.act.Act.{Act};
+ghost use Rattle.gmp_driver.specs.declared.act.Act.TheVariants as Act;
+ghost use Rattle.gmp_driver.specs.declared.registers.Registers.{Registers};
+ghost use Rattle.gmp_driver.specs.Fits.{Fits};
+ghost use Rattle.gmp_driver.specs.Machine.{Machine};
+ghost use Rattle.gmp_driver.specs.Registers.{AreApart, joined, unused, used};
+ghost use Rattle.gmp_driver.specs.Table.{next_act};
+ghost use Rattle.gmp_driver.specs.Uses.{Uses};
+
+/// A call that a machine is to make finds the registers that it uses filled, and those that its reply fills free.
+pub fn calls_find_what_they_use<T, Q>()
+    ensures { (x : Machine T Q) (call : Call) → next_act x ≡ Act.Call call → Fits x.place x.hand → Uses call x.hand }
+{}
+
+/// No value is lost, and none is twice: what an act is handed and what it leaves are together what the machine held.
+pub fn nothing_is_lost<T, Q>()
+    ensures apart { (act : Act) (hand : Registers T Q) → AreApart (unused act hand) (used act hand) }
+    ensures whole { (act : Act) (hand : Registers T Q) → joined (used act hand) (unused act hand) ≡ hand }
+{}

@@ -1,0 +1,177 @@
+//! What a machine holds, in plain parts.
+ghost use Rattle.std.specs.Prelude.{◌≡◌, ◌⊎◌, IsNone, Some};
+ghost use Rattle.gmp_driver.specs.Registers.{AreApart, but, first_of, first_value, joined, nothing, one_used, only, unused, used};
+
+use crate::act::{Act, Value};
+use gmp_base::{GNo, PNo, Readiness, Woke};
+use gmp_seq::Call;
+use std::mem;
+
+/// A processor that the machine holds, with its owner.
+#[derive(Drop)]
+pub struct ProcParts<Q> {
+    pub p: PNo,
+    pub owner: Q,
+}
+
+/// A goroutine that the machine runs, with its body and what the body is to be told.
+#[derive(Drop)]
+pub struct HeldParts<T> {
+    pub g: GNo,
+    pub woke: Woke,
+    pub body: T,
+}
+
+/// A goroutine whose blocking call the machine makes, with its body.
+#[derive(Drop)]
+pub struct CalledParts<T> {
+    pub g: GNo,
+    pub body: T,
+}
+
+/// The registers for values: the processor, the goroutine that runs or is in its blocking call, a ticket to claim and a ticket to store.
+#[derive(Drop)]
+pub struct Registers<T, Q> {
+    pub processor: Option<ProcParts<Q>>,
+    pub held: Option<HeldParts<T>>,
+    pub called: Option<CalledParts<T>>,
+    pub to_claim: Option<Readiness>,
+    pub to_store: Option<Readiness>,
+}
+
+/// Puts a value into its register, which is empty.
+pub fn fill<X>(register: &mut Option<X>, value: X)
+    requires { IsNone register.old }
+    ensures { register.new ≡ Some value }
+{
+    match register.replace(value) {
+        None => {}
+        Some(_) => unreachable!(),
+    }
+}
+
+/// Puts a value, where there is one, into its register, which is empty then.
+fn fill_if<X>(register: &mut Option<X>, value: Option<X>)
+    requires { IsNone register.old ⊎ IsNone value }
+    ensures { register.new ≡ first_of value register.old }
+{
+    match value {
+        None => {}
+        Some(value) => fill(register, value),
+    }
+}
+
+impl<T, Q> Registers<T, Q> {
+    pub(crate) fn empty() -> Self
+        ensures { result ≡ nothing }
+    {
+        Registers {
+            processor: None,
+            held: None,
+            called: None,
+            to_claim: None,
+            to_store: None,
+        }
+    }
+
+    /// The first value that is there, in the order in which they are given back.
+    pub(crate) fn first_value(&self) -> Option<Value>
+        ensures { result ≡ first_value self.now }
+    {
+        if self.held.is_some() {
+            Some(Value::Held)
+        } else if self.called.is_some() {
+            Some(Value::Called)
+        } else if self.to_claim.is_some() {
+            Some(Value::ToClaim)
+        } else if self.to_store.is_some() {
+            Some(Value::ToStore)
+        } else if self.processor.is_some() {
+            Some(Value::Proc)
+        } else {
+            None
+        }
+    }
+
+    /// Takes this value out.
+    fn take_one(&mut self, which: Option<Value>) -> Self
+        ensures taken { result ≡ only which self.old }
+        ensures left { self.new ≡ but which self.old }
+    {
+        let mut taken = Registers::empty();
+        match which {
+            Some(Value::Held) => mem::swap(&mut taken.held, &mut self.held),
+            Some(Value::Called) => mem::swap(&mut taken.called, &mut self.called),
+            Some(Value::ToClaim) => mem::swap(&mut taken.to_claim, &mut self.to_claim),
+            Some(Value::ToStore) => mem::swap(&mut taken.to_store, &mut self.to_store),
+            Some(Value::Proc) => mem::swap(&mut taken.processor, &mut self.processor),
+            None => {}
+        }
+        taken
+    }
+
+    /// Which value an act uses, beside the processor.
+    fn one_used(&self, act: &Act) -> Option<Value>
+        ensures { result ≡ one_used act.now self.now }
+    {
+        match act {
+            Act::Call(Call::Put(_)) => {
+                if self.to_store.is_some() {
+                    Some(Value::ToStore)
+                } else {
+                    Some(Value::ToClaim)
+                }
+            }
+            Act::Call(Call::Claim(_)) => Some(Value::ToClaim),
+            Act::Call(Call::Leave(_)) | Act::Block => Some(Value::Called),
+            Act::Call(Call::Declare) | Act::Pop => Some(Value::Proc),
+            Act::Call(
+                Call::Acquire
+                | Call::Take
+                | Call::Spin
+                | Call::Woken
+                | Call::Unspin
+                | Call::Poke
+                | Call::Bare
+                | Call::Park
+                | Call::Tick(_),
+            ) => None,
+            Act::Call(_) | Act::Resume => Some(Value::Held),
+            Act::Push => Some(Value::ToStore),
+            Act::Surrender(which) => *which,
+            _ => None,
+        }
+    }
+
+    /// Takes out what an act uses.
+    pub(crate) fn take_used(&mut self, act: &Act) -> Self
+        ensures used { result ≡ used act.now self.old }
+        ensures left { self.new ≡ unused act.now self.old }
+    {
+        let which = self.one_used(act);
+        let mut taken = self.take_one(which);
+        if matches!(act, Act::Push | Act::Call(Call::Enter)) {
+            mem::swap(&mut taken.processor, &mut self.processor);
+        }
+        taken
+    }
+
+    /// Puts what came into its registers.
+    pub(crate) fn join(&mut self, came: Self)
+        requires { AreApart self.old came }
+        ensures { self.new ≡ joined came self.old }
+    {
+        let Registers {
+            processor,
+            held,
+            called,
+            to_claim,
+            to_store,
+        } = came;
+        fill_if(&mut self.processor, processor);
+        fill_if(&mut self.held, held);
+        fill_if(&mut self.called, called);
+        fill_if(&mut self.to_claim, to_claim);
+        fill_if(&mut self.to_store, to_store);
+    }
+}

@@ -1,0 +1,43 @@
+//! What the table looks at beside the place.
+ghost use Rattle.std.specs.Prelude.{◌≡◌};
+ghost use Rattle.gmp_driver.specs.Seen.{seen_of};
+
+use crate::act::Value;
+use crate::registers::Registers;
+use gmp_base::{PNo, Readiness};
+
+/// What the table looks at beside the place.
+#[derive(Clone, Copy, Debug, PartialEq, Eq)]
+pub struct Seen {
+    /// The number of processors.
+    pub procs: u8,
+    /// Whether another machine is to be woken for what was found.
+    pub fresh: bool,
+    /// Claims since the last tick, up to 16.
+    pub turns: u8,
+    /// The own processor.
+    pub own: Option<PNo>,
+    pub to_claim: Option<Readiness>,
+    pub to_store: Option<Readiness>,
+    /// The first value that there is to give back.
+    pub first: Option<Value>,
+}
+
+impl Seen {
+    pub(crate) fn of<T, Q>(procs: u8, fresh: bool, turns: u8, hand: &Registers<T, Q>) -> Self
+        ensures { result ≡ seen_of procs fresh turns hand.now }
+    {
+        Seen {
+            procs,
+            fresh,
+            turns,
+            own: match &hand.processor {
+                Some(parts) => Some(parts.p),
+                None => None,
+            },
+            to_claim: hand.to_claim,
+            to_store: hand.to_store,
+            first: hand.first_value(),
+        }
+    }
+}

@@ -1,0 +1,227 @@
+//! The table of a machine's program.
+ghost use Rattle.std.specs.Prelude.{◌≡◌, ◌≤◌};
+ghost use Rattle.gmp_driver.specs.declared.act.Told.TheVariants as Told;
+ghost use Rattle.gmp_driver.specs.Table as table;
+
+use crate::act::{Act, Told, Tried};
+use crate::hunt::{more, victim_of};
+use crate::place::Place;
+use crate::seen::Seen;
+use gmp_base::{Ask, PNo, Readiness, Refusal};
+use gmp_seq::{Call, Reply};
+
+/// The call that stands for an ask.
+fn call_for(ask: &Ask) -> Call
+    ensures { result ≡ table.call_for ask.now }
+{
+    match ask {
+        Ask::Yield => Call::Yield,
+        Ask::Go(g) => Call::Go(*g),
+        Ask::Make(capacity) => Call::Make(*capacity),
+        Ask::Send(c, v) => Call::Send(*c, *v),
+        Ask::Recv(c) => Call::Recv(*c),
+        Ask::Close(c) => Call::Close(*c),
+        Ask::Len(c) => Call::Len(*c),
+        Ask::Cap(c) => Call::Cap(*c),
+        Ask::Select(cases, has_default, until) => Call::Select(
+            cases.copied(),
+            *has_default,
+            *until,
+        ),
+        Ask::Sleep(until) => Call::Sleep(*until),
+        Ask::Park => Call::Gopark,
+        Ask::Ready(g) => Call::Ready(*g),
+        Ask::Block => Call::Enter,
+        Ask::Exit => Call::Exit,
+    }
+}
+
+/// Puts this ticket onto the shelf.
+fn put_call(ticket: Option<Readiness>) -> Act
+    ensures { result ≡ table.put_call ticket }
+{
+    match ticket {
+        Some(r) => Act::Call(Call::Put(r)),
+        None => Act::Nothing,
+    }
+}
+
+/// Claims this ticket.
+fn claim_call(ticket: Option<Readiness>) -> Act
+    ensures { result ≡ table.claim_call ticket }
+{
+    match ticket {
+        Some(r) => Act::Call(Call::Claim(r)),
+        None => Act::Nothing,
+    }
+}
+
+/// The act at each place.
+pub(crate) fn act_at(here: &Place, seen: Seen) -> Act
+    requires { 1 ≤ seen.procs }
+    ensures { result ≡ table.act_at seen here.now }
+{
+    match here {
+        Place::Start => Act::Call(Call::Acquire),
+        Place::Look if seen.turns >= 16 => Act::Clock(None),
+        Place::Look => Act::Pop,
+        Place::Ticking(now) => Act::Call(Call::Tick(*now)),
+        Place::Global => Act::Call(Call::Take),
+        Place::Spin => Act::Call(Call::Spin),
+        Place::Hunt(None) => Act::Hunt,
+        Place::Hunt(Some(round)) => Act::Steal(victim_of(seen.procs, *round)),
+        Place::More(v, _) => Act::Steal(*v),
+        Place::StoreMore(_, _) => Act::Push,
+        Place::PutMore(_, _) => put_call(seen.to_store),
+        Place::Unspin => Act::Call(Call::Unspin),
+        Place::Claim if seen.fresh => Act::Call(Call::Poke),
+        Place::Claim => claim_call(seen.to_claim),
+        Place::Run => Act::Resume,
+        Place::Do(ask) => Act::Call(call_for(ask)),
+        Place::Store => Act::Push,
+        Place::PutStore => put_call(seen.to_store),
+        Place::Poke => Act::Call(Call::Poke),
+        Place::Block => Act::Block,
+        Place::Leave(number) => Act::Call(Call::Leave(*number)),
+        Place::Drop => Act::Call(Call::Declare),
+        Place::Bare => Act::Call(Call::Bare),
+        Place::Scan(v) => Act::Steal(*v),
+        Place::Have => Act::Call(Call::Acquire),
+        Place::PutHave => put_call(seen.to_claim),
+        Place::Park => Act::Call(Call::Park),
+        Place::Rest => Act::Call(Call::Woken),
+        Place::Mind(deadline) => Act::Clock(Some(*deadline)),
+        Place::MindTick(now) => Act::Call(Call::Tick(*now)),
+        Place::Over => Act::Surrender(seen.first),
+        Place::Done => Act::Nothing,
+    }
+}
+
+/// Where a call of the body leads.
+fn after_ask(reply: Reply) -> Place
+    ensures { result ≡ table.after_ask reply }
+{
+    match reply {
+        Reply::Waits | Reply::Shelved(_) | Reply::Dead => Place::Look,
+        Reply::MainEnded => Place::Over,
+        Reply::Entered(_, _) => Place::Block,
+        _ if reply.ticket().is_some() => Place::Store,
+        _ if reply.closed() > 0 => Place::Poke,
+        _ => Place::Run,
+    }
+}
+
+/// The next queue to look into, after the last one Park.
+fn scanned(procs: u8, v: PNo) -> Place
+    ensures { result ≡ table.scanned procs v }
+{
+    if v.0 < procs && v.0 + 1 < procs {
+        Place::Scan(PNo(v.0 + 1))
+    } else {
+        Place::Park
+    }
+}
+
+/// Where the machine stands after this reply.
+fn after_call(here: Place, seen: Seen, reply: Reply) -> Place
+    ensures { result ≡ table.next_place seen here (Told.Replied reply) }
+{
+    match (here, reply) {
+        (Place::Start, Reply::Proc(_)) => Place::Look,
+        (Place::Start, Reply::Nothing) => Place::Bare,
+        (Place::Ticking(_), Reply::Woke(_)) => Place::Look,
+        (Place::Global, Reply::Ticket(_)) => Place::Claim,
+        (Place::Global, Reply::Nothing) if seen.procs == 1 => Place::Drop,
+        (Place::Global, Reply::Nothing) => Place::Spin,
+        (Place::Spin, Reply::Answer(true)) => Place::Hunt(None),
+        (Place::Spin, Reply::Answer(false)) => Place::Drop,
+        (Place::PutMore(v, goal), Reply::Shelf) => more(v, goal),
+        (Place::Unspin, Reply::Done) if seen.to_claim.is_some() => Place::Claim,
+        (Place::Unspin, Reply::Done) => Place::Drop,
+        (Place::Claim, Reply::Wakes(_) | Reply::Nothing) => Place::Claim,
+        (Place::Claim, Reply::Held) => Place::Run,
+        (Place::Do(_), reply) => after_ask(reply),
+        (Place::PutStore, Reply::Shelf) => Place::Poke,
+        (Place::Poke, Reply::Wakes(_) | Reply::Nothing) => Place::Run,
+        (Place::Leave(_), Reply::Runs(_)) => Place::Run,
+        (Place::Leave(_), Reply::Shelved(_)) => Place::Bare,
+        (Place::Drop, Reply::Idle(_)) => Place::Scan(PNo(0)),
+        (Place::Bare, Reply::Done) => Place::Scan(PNo(0)),
+        (Place::Have, Reply::Proc(_)) => Place::Claim,
+        (Place::Have, Reply::Nothing) => Place::PutHave,
+        (Place::PutHave, Reply::Shelf) => Place::Bare,
+        (Place::Park, Reply::Parked) => Place::Rest,
+        (Place::Park, Reply::Work) => Place::Start,
+        (Place::Park, Reply::Mind(deadline)) => Place::Mind(deadline),
+        (Place::Park, Reply::AllAsleep) => Place::Over,
+        (Place::Rest, Reply::Answer(true)) => Place::Start,
+        (Place::Rest, Reply::Answer(false)) => Place::Rest,
+        (Place::MindTick(_), Reply::Woke(_)) => Place::Start,
+        (here, _) => here,
+    }
+}
+
+/// Where the machine stands after what came of its act.
+pub(crate) fn next_place(here: Place, seen: Seen, told: Told) -> Place
+    requires { 1 ≤ seen.procs }
+    ensures { result ≡ table.next_place seen here told }
+{
+    match (here, told) {
+        (_, Told::Refused(Refusal::Over)) => Place::Over,
+        (here, Told::Replied(reply)) => after_call(here, seen, reply),
+        (Place::Look, Told::Moment(now)) => Place::Ticking(now),
+        (Place::Look, Told::Got) => Place::Claim,
+        (Place::Look, Told::Empty) => Place::Global,
+        (Place::Hunt(None), Told::Drew(word, tried)) => seen.hunted(seen.begin(word), tried),
+        (Place::Hunt(Some(round)), Told::Tried(tried)) => seen.hunted(round, tried),
+        (Place::More(v, goal), Told::Tried(Tried::Got(_))) => Place::StoreMore(
+            v,
+            goal.saturating_sub(1),
+        ),
+        (Place::More(_, _), Told::Tried(_)) => Place::Unspin,
+        (Place::StoreMore(v, goal), Told::Pushed) => more(v, goal),
+        (Place::StoreMore(v, goal), Told::PushRefused) => Place::PutMore(v, goal),
+        (Place::Run, Told::Asked(ask)) => Place::Do(ask),
+        (Place::Do(Ask::Make(_)), Told::Refused(Refusal::OutOfMemory)) => Place::Run,
+        (Place::Store, Told::Pushed) => Place::Poke,
+        (Place::Store, Told::PushRefused) => Place::PutStore,
+        (Place::Block, Told::Number(number)) => Place::Leave(number),
+        (Place::Scan(_), Told::Tried(Tried::Got(_))) => Place::Have,
+        (Place::Scan(v), Told::Tried(Tried::Empty)) => scanned(seen.procs, v),
+        (Place::Scan(v), Told::Tried(Tried::Unsure)) => Place::Scan(v),
+        (Place::Mind(_), Told::Moment(now)) => Place::MindTick(now),
+        (Place::Over, Told::Surrendered) => Place::Over,
+        (Place::Over, Told::Nothing) => Place::Done,
+        (here, _) => here,
+    }
+}
+
+/// Whether another machine is to be woken for what this one found.
+pub(crate) fn next_fresh(here: &Place, seen: Seen, told: &Told) -> bool
+    ensures { result ≡ table.next_fresh seen here.now told.now }
+{
+    match (here, told) {
+        (Place::Ticking(_), Told::Replied(Reply::Woke(n))) => *n != 0 || seen.fresh,
+        (Place::Unspin, Told::Replied(Reply::Done)) => seen.to_claim.is_some() || seen.fresh,
+        (Place::Claim, Told::Replied(Reply::Wakes(_) | Reply::Nothing)) => false,
+        (Place::Have, Told::Replied(Reply::Proc(_))) => true,
+        (Place::Park, Told::Replied(Reply::Work)) => true,
+        (Place::Rest, Told::Replied(Reply::Answer(true))) => true,
+        (Place::MindTick(_), Told::Replied(Reply::Woke(_))) => true,
+        _ => seen.fresh,
+    }
+}
+
+/// Claims since the last tick, up to 16.
+pub(crate) fn next_turns(here: &Place, seen: Seen, told: &Told) -> u8
+    requires { seen.turns ≤ 16 }
+    ensures turns { result ≡ table.next_turns seen here.now told.now }
+    ensures few { result ≤ 16 }
+{
+    match (here, told) {
+        (Place::Ticking(_), Told::Replied(Reply::Woke(_))) => 0,
+        (Place::Claim, Told::Replied(Reply::Held)) => (seen.turns + 1).min(16),
+        (Place::MindTick(_), Told::Replied(Reply::Woke(_))) => 0,
+        _ => seen.turns,
+    }
+}
