@@ -1,0 +1,52 @@
+//! One book call of one machine.
+ghost use Rattle.std.specs.Prelude.{◌≡◌, IsSome};
+ghost use Rattle.gmp_driver.specs.declared.act.Act.TheVariants as act;
+ghost use Rattle.gmp_driver.specs.Fits.{Fits};
+ghost use Rattle.gmp_driver.specs.Table.{next_act};
+ghost use Rattle.gmp_turn.specs.Turns.{Turns, woken_in};
+
+use crate::passing::{is_to_claim, load_back, opened, told_of};
+use gmp_base::{MNo, Refusal};
+use gmp_book::Book;
+use gmp_driver::Driver;
+use gmp_seq::{Call, Reply};
+use std::alloc::Global;
+
+/// Makes the call that the driver's machine names next, with the pass and the values that it hands out, and tells the driver the reply, or
+/// why the book refused it. A make takes memory, and `word` chooses among the cases of a select. The driver holds what its new place says.
+pub fn turn<T, Q>(
+    alloc: Global,
+    driver: &mut Driver<T, Q>,
+    book: &mut Book<T, Q>,
+    call: Call,
+    word: u64,
+) -> Result<Reply, Refusal>
+    requires act { next_act driver.old ≡ act.Call call }
+    requires pass { IsSome driver.old.pass }
+    requires run { driver.old.run ≡ book.old.log.run }
+    // `Driver::next`, which names the call, says so.
+    requires keeps { Fits driver.old.place driver.old.hand }
+    ensures turns { Turns driver.old book.old call word result driver.new book.new }
+    ensures fits { Fits driver.new.place driver.new.hand }
+    ensures pass { IsSome driver.new.pass }
+    ensures run { driver.new.run ≡ book.new.log.run }
+{
+    let load = driver.give();
+    let to_claim = is_to_claim(&call, &load);
+    let (pass, values) = opened(load);
+    let mut pass = pass;
+    let (values, result) = book.call(Some(alloc), &mut pass, call, values, word);
+    driver.got(load_back(pass, to_claim, values), told_of(result));
+    result
+}
+
+/// The machine that a reply names to wake.
+pub fn woken(reply: Reply) -> Option<MNo>
+    ensures { result ≡ woken_in reply }
+{
+    match reply {
+        Reply::Wakes(m) => Some(m),
+        Reply::Entered(_, m) => m,
+        _ => None,
+    }
+}

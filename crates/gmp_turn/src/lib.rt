@@ -1,0 +1,12 @@
+//! One book call of one machine: its driver names the call, the book makes it or refuses it, and the driver is told.
+#![tactic(auto)]
+
+mod calling;
+mod passing;
+mod surrendering;
+
+pub use calling::{turn, woken};
+pub use surrendering::surrender;
+
+#[cfg(test)]
+mod tests;
