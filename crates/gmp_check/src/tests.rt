@@ -1,162 +1,105 @@
-//! Histories with known outcomes, and changes of their entries that are no steps.
+//! Want of memory: run with each allocation refused in turn. And what no trace can say, since two replies are spelled alike.
 use super::*;
-use gmp_base::{CNo, Case, Cases, Fault, GNo, MNo, PNo, Readiness};
-use gmp_seq::{Call, Entry, Limits, Outcome, Relay, Reply, Taken};
-use std::alloc::{AllocError, Global};
-use std::process::Abort;
-use std::test::Fail;
+use gmp_base::{CNo, Fault, GNo, MNo, PNo, Readiness};
+use gmp_seq::{Call, Entry, Limits, Outcome, Reply};
 
-mod accepted;
-mod changes;
-mod choices;
-mod clocks;
-mod crews;
-mod ends;
-mod faults;
-mod memory;
-mod others;
-mod refused;
-mod rows;
-mod selects;
-mod shared;
-
-/// One processor and one machine.
-const LONE: Limits = Limits {
+const LIMITS: Limits = Limits {
     procs: 1,
     machines: 1,
-    channels: 16,
-    entries: 10000,
+    channels: 2,
+    entries: 16,
 };
 
-/// So many processors and machines.
-fn crew(procs: u8, machines: u8) -> Limits {
-    Limits {
-        procs,
-        machines,
-        ..LONE
-    }
-}
+const FIRST: Readiness = Readiness {
+    g: GNo(0),
+    epoch: 1,
+};
 
-/// A history, what it begins with, and its outcome.
-#[derive(Drop)]
-struct History {
-    name: &'static str,
-    limits: Limits,
-    bodies: u16,
-    capacities: &'static [u32],
-    entries: Vec<Entry>,
-    outcome: Option<Outcome>,
-}
-
-impl History {
-    fn outcome_of(&self, alloc: Global) -> Result<Option<Outcome>, ReplayError> {
-        outcome_of(
-            alloc,
-            self.limits,
-            self.bodies,
-            self.capacities,
-            &self.entries,
-        )
-    }
-}
-
-/// All histories.
-fn histories(alloc: Global) -> Result<Vec<History>, AllocError> {
-    let mut all = Vec::new(alloc);
-    rows::add(alloc, &mut all)?;
-    selects::add(alloc, &mut all)?;
-    clocks::add(alloc, &mut all)?;
-    ends::add(alloc, &mut all)?;
-    crews::add(alloc, &mut all)?;
-    faults::add(alloc, &mut all)?;
-    choices::add(alloc, &mut all)?;
-    for history in all.iter_mut() {
-        number(&mut history.entries);
-    }
-    Ok(all)
-}
-
-/// Counts the entries of each machine.
-fn number(entries: &mut [Entry]) {
-    let mut counts = [0u64; 4];
-    for entry in entries {
-        if let Some(count) = counts.get_mut(entry.m.0 as usize) {
-            entry.k = *count;
-            *count = count.wrapping_add(1);
-        }
-    }
-}
-
-/// An entry of the machine that is yet to be numbered.
-fn e(m: u8, call: Call, reply: Reply) -> Entry {
+fn entry(k: u64, call: Call, reply: Reply) -> Entry {
     Entry {
-        m: MNo(m),
-        k: 0,
+        m: MNo(0),
+        k,
         call,
         reply,
     }
 }
 
-fn readiness(g: u16, epoch: u64) -> Readiness {
-    Readiness { g: GNo(g), epoch }
+/// Main makes two channels, and uses them.
+fn makes() -> [Entry; 11] {
+    [
+        entry(0, Call::Acquire, Reply::Proc(PNo(0))),
+        entry(1, Call::Take, Reply::Ticket(FIRST)),
+        entry(2, Call::Claim(FIRST), Reply::Held),
+        entry(3, Call::Make(2), Reply::Channel(CNo(0))),
+        entry(4, Call::Make(4096), Reply::Channel(CNo(1))),
+        entry(5, Call::Make(4097), Reply::Fault(Fault::BadCapacity)),
+        entry(6, Call::Send(Some(CNo(0)), 5), Reply::Sent(None)),
+        entry(7, Call::Cap(Some(CNo(1))), Reply::Number(4096)),
+        entry(8, Call::Recv(Some(CNo(0))), Reply::Got(5, true, None)),
+        entry(9, Call::Close(Some(CNo(1))), Reply::Closed(0)),
+        entry(10, Call::Exit, Reply::MainEnded),
+    ]
 }
 
-fn claim(g: u16, epoch: u64) -> Call {
-    Call::Claim(readiness(g, epoch))
-}
-
-fn put(g: u16, epoch: u64) -> Call {
-    Call::Put(readiness(g, epoch))
-}
-
-fn send(c: u16, value: u64) -> Call {
-    Call::Send(Some(CNo(c)), value)
-}
-
-fn recv(c: u16) -> Call {
-    Call::Recv(Some(CNo(c)))
-}
-
-fn close(c: u16) -> Call {
-    Call::Close(Some(CNo(c)))
-}
-
-fn len(c: u16) -> Call {
-    Call::Len(Some(CNo(c)))
-}
-
-fn cap(c: u16) -> Call {
-    Call::Cap(Some(CNo(c)))
-}
-
-fn sends(c: u16, value: u64) -> Case {
-    Case::Send(Some(CNo(c)), value)
-}
-
-fn recvs(c: u16) -> Case {
-    Case::Recv(Some(CNo(c)))
-}
-
-/// A select of at most eight cases.
-fn select(list: &[Case], has_default: bool, until: Option<u64>) -> Call {
-    let mut cases = Cases::new();
-    for case in list {
-        let _ = cases.push(*case);
+#[test]
+fn a_make_that_is_refused_memory_can_be_made_again(rt: HostRuntime) {
+    let mut replay = match Replay::open(rt.alloc(), LIMITS, 1, &[]) {
+        Ok(replay) => replay,
+        Err(error) => {
+            assert_eq!(rt; error, OpenError::OutOfMemory);
+            return;
+        }
+    };
+    for entry in makes() {
+        let last = replay.step(&entry);
+        if last == Err(OutOfMemory) {
+            assert!(rt; matches!(entry.call, Call::Make(_)));
+            assert_eq!(rt; replay.outcome(), None);
+            assert_eq!(rt; replay.step(&entry), Ok(true), "{entry:?}");
+        } else {
+            assert_eq!(rt; last, Ok(true), "{entry:?}");
+        }
     }
-    Call::Select(cases, has_default, until)
+    assert_eq!(rt; replay.outcome(), Some(Outcome::MainEnded));
 }
 
-fn ticket(g: u16, epoch: u64) -> Reply {
-    Reply::Ticket(readiness(g, epoch))
+#[test]
+fn want_of_memory_is_told(rt: HostRuntime) {
+    let outcome = outcome_of(rt.alloc(), LIMITS, 1, &[3], &[]);
+    assert!(rt; outcome == Ok(None) || outcome == Err(ReplayError::OutOfMemory));
+    let outcome = outcome_of(rt.alloc(), LIMITS, 1, &[], &makes());
+    assert!(rt;
+        outcome == Ok(Some(Outcome::MainEnded)) || outcome == Err(ReplayError::OutOfMemory)
+    );
 }
 
-fn shelved(g: u16, epoch: u64) -> Reply {
-    Reply::Shelved(readiness(g, epoch))
+/// An enter and a declare are both answered `idle 0`, as it is spelled: here each is first answered as the other.
+fn idles() -> [Entry; 9] {
+    let entered = Reply::Entered(PNo(0), None);
+    let idle = Reply::Idle(PNo(0));
+    [
+        entry(0, Call::Acquire, Reply::Proc(PNo(0))),
+        entry(1, Call::Take, Reply::Ticket(FIRST)),
+        entry(2, Call::Claim(FIRST), Reply::Held),
+        entry(3, Call::Enter, idle),
+        entry(3, Call::Enter, entered),
+        entry(4, Call::Leave(1), Reply::Runs(PNo(0))),
+        entry(5, Call::Sleep(9), Reply::Waits),
+        entry(6, Call::Declare, entered),
+        entry(6, Call::Declare, idle),
+    ]
 }
 
-fn relay(g: u16, epoch: u64, value: u64) -> Option<Relay> {
-    Some(Relay {
-        sender: readiness(g, epoch),
-        value,
-    })
+#[test]
+fn replies_that_are_spelled_alike_are_told_apart(rt: HostRuntime) {
+    let Ok(mut replay) = Replay::open(rt.alloc(), LIMITS, 1, &[]) else {
+        return;
+    };
+    let mut steps = 0u8;
+    for entry in idles() {
+        if replay.step(&entry) == Ok(true) {
+            steps = steps.wrapping_add(1);
+        }
+    }
+    assert_eq!(rt; steps, 7);
 }

@@ -5,36 +5,45 @@ ghost use Rattle.std.specs.Prelude.{IfSome};
 ghost use Rattle.gmp_ledger.specs.Grants.{Suits};
 ghost use Rattle.gmp_book.specs.Hands.{handed_of};
 
-use crate::leaves::{InHand, TicketParts};
-use gmp_base::{Called, GNo, Held, MNo, PNo, Pass, Proc, Ticket, Woke};
+use gmp_base::{Called, GNo, Held, MNo, PNo, Pass, Proc, Readiness, Ticket, Woke};
 use gmp_book::Values;
-use gmp_seq::Call;
+use gmp_seq::{Call, Reply};
 
-/// The run of each book.
-pub const RUN: u64 = 7;
-
-/// The parts of a machine's pass and of the values that it has.
-#[derive(Clone, Copy, Debug, PartialEq, Eq)]
+/// The parts of a machine's pass and of the values that it has. Of each value they begin with its run.
+#[derive(Clone, Copy, PartialEq, Eq)]
 pub struct Hand {
+    pub m: MNo,
     /// The run, how many calls were made, and how many entries were seen.
     pub pass: (u64, u64, u64),
-    pub m: MNo,
-    /// The goroutine that runs: its run, what it was told, and its body.
-    pub held: Option<(u64, GNo, Woke, u32)>,
+    /// The goroutine that runs, with its body.
+    pub held: Option<(u64, GNo, u32)>,
+    /// What it is told.
+    pub woke: Option<Woke>,
+    /// The goroutine whose blocking call is made.
     pub called: Option<(u64, GNo, u32)>,
     pub proc: Option<(u64, PNo, u32)>,
+    pub ticket: Option<(u64, Readiness)>,
+}
+
+/// The goroutine of this number, of the run, with its body.
+fn own(run: u64, of: Option<(u64, GNo, u32)>) -> Option<(u64, GNo, u32)> {
+    match of {
+        Some((_, g, _)) => Some((run, g, u32::from(g.0))),
+        None => None,
+    }
 }
 
 impl Hand {
-    /// A pass alone.
-    pub fn of(pass: Pass) -> Hand {
-        let (run, m, calls, seen) = pass.open();
+    /// Nothing but a machine's number.
+    pub fn of(m: MNo) -> Hand {
         Hand {
-            pass: (run, calls, seen),
             m,
+            pass: (0, 0, 0),
             held: None,
+            woke: None,
             called: None,
             proc: None,
+            ticket: None,
         }
     }
 
@@ -43,44 +52,30 @@ impl Hand {
         Pass::of(run, self.m, calls, seen)
     }
 
-    fn held(&mut self) -> Option<Held<u32>> {
-        let (run, g, woke, body) = self.held.take()?;
-        Some(Held::of(run, g, woke, body))
-    }
-
-    fn called(&mut self) -> Option<Called<u32>> {
-        let (run, g, body) = self.called.take()?;
-        Some(Called::of(run, g, body))
-    }
-
-    fn proc(&mut self) -> Option<Proc<u32>> {
-        let (run, p, owner) = self.proc.take()?;
-        Some(Proc::of(run, p, owner))
-    }
-
     /// What the call is handed, out of the hand; a ticket is of this run. None where something is missing.
-    pub fn values(&mut self, call: &Call, run: u64) -> Option<Values<u32, u32>>
+    pub fn gives(&mut self, call: &Call, run: u64) -> Option<Values<u32, u32>>
         ensures { IfSome result (λ v. Suits call.now (handed_of v)) }
     {
-        match call {
-            Call::Put(r) => Some(Values::by_ticket(Ticket::of(run, r.g, r.epoch))),
-            Call::Claim(r) => Some(Values::by_ticket(Ticket::of(run, r.g, r.epoch))),
-            Call::Enter => match (self.held(), self.proc()) {
-                (Some(held), Some(proc)) => Some(Values::by_held_and_proc(held, proc)),
-                (held, proc) => {
-                    self.keeps_held(held);
-                    self.keeps_proc(proc);
-                    None
-                }
-            },
-            Call::Leave(_) => match self.called() {
-                Some(called) => Some(Values::by_called(called)),
-                None => None,
-            },
-            Call::Declare => match self.proc() {
-                Some(proc) => Some(Values::by_proc(proc)),
-                None => None,
-            },
+        let told = self.woke.unwrap_or(Woke::First);
+        self.ticket = None;
+        let (held, called, ticket, proc) = match call {
+            Call::Put(r) => (None, None, Some(Ticket::of(run, r.g, r.epoch)), None),
+            Call::Claim(r) => (None, None, Some(Ticket::of(run, r.g, r.epoch)), None),
+            Call::Enter => {
+                let (run, g, body) = self.held?;
+                let (other, p, owner) = self.proc.take()?;
+                (self.held, self.woke) = (None, None);
+                let held = Held::of(run, g, told, body);
+                (Some(held), None, None, Some(Proc::of(other, p, owner)))
+            }
+            Call::Leave(_) => {
+                let (run, g, body) = self.called.take()?;
+                (None, Some(Called::of(run, g, body)), None, None)
+            }
+            Call::Declare => {
+                let (run, p, owner) = self.proc.take()?;
+                (None, None, None, Some(Proc::of(run, p, owner)))
+            }
             Call::Acquire
             | Call::Take
             | Call::Spin
@@ -89,39 +84,23 @@ impl Hand {
             | Call::Poke
             | Call::Bare
             | Call::Park
-            | Call::Tick(_) => Some(Values::none()),
-            _ => match self.held() {
-                Some(held) => Some(Values {
-                    held: Some(held),
-                    called: None,
-                    ticket: None,
-                    proc: None,
-                }),
-                None => None,
-            },
-        }
+            | Call::Tick(_) => (None, None, None, None),
+            _ => {
+                let (run, g, body) = self.held.take()?;
+                self.woke = None;
+                (Some(Held::of(run, g, told, body)), None, None, None)
+            }
+        };
+        Some(Values {
+            held,
+            called,
+            ticket,
+            proc,
+        })
     }
 
-    fn keeps_held(&mut self, held: Option<Held<u32>>) {
-        if let Some(held) = held {
-            self.held = Some(held.open());
-        }
-    }
-
-    fn keeps_called(&mut self, called: Option<Called<u32>>) {
-        if let Some(called) = called {
-            self.called = Some(called.open());
-        }
-    }
-
-    fn keeps_proc(&mut self, proc: Option<Proc<u32>>) {
-        if let Some(proc) = proc {
-            self.proc = Some(proc.open());
-        }
-    }
-
-    /// Keeps the pass and what a call handed out or back. A ticket is let go: its parts.
-    pub fn keeps(&mut self, pass: Pass, values: Values<u32, u32>) -> Option<TicketParts> {
+    /// Keeps the pass and what a call handed out or back.
+    pub fn keeps(&mut self, pass: Pass, values: Values<u32, u32>) {
         let (run, _, calls, seen) = pass.open();
         self.pass = (run, calls, seen);
         let Values {
@@ -130,59 +109,56 @@ impl Hand {
             ticket,
             proc,
         } = values;
-        self.keeps_held(held);
-        self.keeps_called(called);
-        self.keeps_proc(proc);
-        match ticket {
-            Some(ticket) => Some(ticket.open()),
-            None => None,
+        if let Some(held) = held {
+            let (run, g, woke, body) = held.open();
+            self.held = Some((run, g, body));
+            self.woke = Some(woke);
+        }
+        if let Some(called) = called {
+            self.called = Some(called.open());
+        }
+        if let Some(proc) = proc {
+            self.proc = Some(proc.open());
+        }
+        if let Some(ticket) = ticket {
+            let (run, g, epoch) = ticket.open();
+            self.ticket = Some((run, Readiness { g, epoch }));
         }
     }
 
-    /// Whether all that it has is the run's, and has the body or the owner of its number.
-    pub fn is_own(&self) -> bool {
-        let held = match self.held {
-            Some((run, g, _, body)) => run == RUN && body == u32::from(g.0),
-            None => true,
-        };
-        let called = match self.called {
-            Some((run, g, body)) => run == RUN && body == u32::from(g.0),
-            None => true,
-        };
-        let proc = match self.proc {
-            Some((run, p, owner)) => run == RUN && owner == u32::from(p.0),
-            None => true,
-        };
-        held && called && proc && self.pass.0 == RUN
-    }
-
-    /// What it has, by its numbers.
-    pub fn in_hand(&self) -> InHand {
-        let held = match self.held {
-            Some((_, g, _, _)) => Some(g),
+    /// What it has to have behind an accepted call of the run with this reply, when there are so many entries: each value is the run's own,
+    /// and has the body or the owner of its number. What a goroutine is told stays open.
+    pub fn after(self, run: u64, reply: Reply, entries: u64) -> Hand {
+        let (_, calls, _) = self.pass;
+        let claimed = match self.ticket {
+            Some((_, r)) => Some((run, r.g, 0)),
             None => None,
         };
-        let called = match self.called {
-            Some((_, g, _)) => Some(g),
-            None => None,
+        let (held, called, proc) = match reply {
+            Reply::Held => (claimed, self.called, self.proc),
+            Reply::Proc(p) => (self.held, self.called, Some((run, p, 0))),
+            Reply::Idle(_) => (self.held, self.called, None),
+            Reply::Entered(_, _) => (None, self.held, None),
+            Reply::Runs(p) => (self.called, None, Some((run, p, 0))),
+            Reply::Shelved(_) | Reply::Waits | Reply::Dead | Reply::MainEnded => {
+                (None, None, self.proc)
+            }
+            _ => (self.held, self.called, self.proc),
         };
-        let proc = match self.proc {
-            Some((_, p, _)) => Some(p),
-            None => None,
-        };
-        InHand { held, called, proc }
-    }
-
-    /// What the goroutine that it runs is told.
-    pub fn told(&self) -> Option<Woke> {
-        match self.held {
-            Some((_, _, woke, _)) => Some(woke),
-            None => None,
+        Hand {
+            m: self.m,
+            pass: (run, calls.wrapping_add(1), entries),
+            held: own(run, held),
+            woke: self.woke,
+            called: own(run, called),
+            proc: match proc {
+                Some((_, p, _)) => Some((run, p, u32::from(p.0))),
+                None => None,
+            },
+            ticket: match reply.ticket() {
+                Some(r) => Some((run, r)),
+                None => None,
+            },
         }
-    }
-
-    /// What it has, out of the hand.
-    pub fn gives(&mut self) -> (Option<Held<u32>>, Option<Called<u32>>, Option<Proc<u32>>) {
-        (self.held(), self.called(), self.proc())
     }
 }

@@ -4,7 +4,10 @@ use gmp_base::Woke;
 use std::alloc::{AllocError, Global};
 
 /// What a line writes of it.
-fn text(alloc: Global, woke: Woke) -> Result<String, AllocError> {
+pub fn text_of(alloc: Global, told: Option<Woke>) -> Result<String, AllocError> {
+    let Some(woke) = told else {
+        return format!(in alloc; "nothing");
+    };
     match woke {
         Woke::First => format!(in alloc; "first"),
         Woke::Done => format!(in alloc; "done"),
@@ -20,10 +23,4 @@ fn text(alloc: Global, woke: Woke) -> Result<String, AllocError> {
         Woke::Fault(fault) => format!(in alloc; "fault {}", fault.number()),
         Woke::NoMemory => format!(in alloc; "no memory"),
     }
-}
-
-/// Whether a line that writes so says that the goroutine is told this.
-pub fn says(alloc: Global, line: &str, woke: Woke) -> Result<bool, AllocError> {
-    let text = text(alloc, woke)?;
-    Ok(text.as_str() == line)
 }

@@ -1,38 +1,43 @@
-//! Numbers of lines.
+//! Words and numbers of lines.
 
 use crate::short::Short;
 
-/// Whether a number has no sign and no leading zero.
-fn is_plain(word: &str) -> bool {
-    word == "0" || !(word.starts_with('0') || word.starts_with('+'))
+/// The first word, and the rest.
+pub fn first(line: &str) -> (&str, &str) {
+    line.split_once(' ').unwrap_or((line, ""))
 }
 
-/// The number that a word writes, spelled as a trace spells it.
+/// The number that a word writes, spelled as a trace spells it: no sign, no leading zero.
 pub fn number(word: &str) -> Result<u64, Short> {
+    let is_plain = word == "0" || !(word.starts_with('0') || word.starts_with('+'));
     match word.parse() {
-        Ok(n) if is_plain(word) => Ok(n),
-        _ => Err(Short::Unreadable),
-    }
-}
-
-pub fn small(word: &str) -> Result<u8, Short> {
-    match word.parse() {
-        Ok(n) if is_plain(word) => Ok(n),
+        Ok(n) if is_plain => Ok(n),
         _ => Err(Short::Unreadable),
     }
 }
 
 pub fn short(word: &str) -> Result<u16, Short> {
-    match word.parse() {
-        Ok(n) if is_plain(word) => Ok(n),
-        _ => Err(Short::Unreadable),
+    match u16::try_from(number(word)?) {
+        Ok(n) => Ok(n),
+        Err(_) => Err(Short::Unreadable),
     }
 }
 
-/// The first word, and the rest.
-pub fn first(line: &str) -> (&str, &str) {
-    match line.split_once(' ') {
-        Some(parts) => parts,
-        None => (line, ""),
+pub fn small(word: &str) -> Result<u8, Short> {
+    match u8::try_from(number(word)?) {
+        Ok(n) => Ok(n),
+        Err(_) => Err(Short::Unreadable),
+    }
+}
+
+/// A line of a trace, without its line feed.
+pub fn line_of(text: Vec<u8>) -> Result<String, Short> {
+    match String::from_utf8(text) {
+        Ok(line) => {
+            let mut line = line;
+            let _ = line.pop();
+            Ok(line)
+        }
+        Err(_) => Err(Short::Unreadable),
     }
 }

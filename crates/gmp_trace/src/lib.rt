@@ -10,6 +10,7 @@
 
 mod call;
 mod guess;
+mod guess_reply;
 pub mod laws;
 mod line;
 mod put;
@@ -19,9 +20,8 @@ mod trace;
 mod words;
 mod writing;
 
-pub use line::put_end;
-pub use reading::{read_call, read_capacities, read_limits};
-pub use reply::put_reply;
+pub use line::{put_end, put_entry};
+pub use reading::{read_call, read_capacities, read_entry, read_limits};
 pub use trace::{End, Trace};
 pub use writing::{WriteError, write};
 

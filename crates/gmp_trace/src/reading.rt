@@ -2,14 +2,16 @@
 //! spelled so, to the byte.
 
 ghost use Rattle.std.specs.Prelude.{◌≡◌, ◌++◌, ◌∷◌, [], IfOk, IfSome};
-ghost use Rattle.gmp_trace.specs.Text.{call_pieces, capacities_text, fields, limits_text};
+ghost use Rattle.gmp_trace.specs.Text.{call_pieces, capacities_text, entry_text, fields, limits_text};
 
 use crate::call::put_call;
 use crate::guess::guess_call;
-use crate::line::{put_capacities, put_limits};
+use crate::guess_reply::guess_reply;
+use crate::line::{put_capacities, put_entry, put_limits};
 use crate::put::{put, put_word};
-use crate::words::{narrow8, narrow16, narrow32, number, word};
-use gmp_seq::{Call, Limits};
+use crate::words::{narrow8, narrow16, narrow32, number, part, word};
+use gmp_base::MNo;
+use gmp_seq::{Call, Entry, Limits};
 use std::alloc::{AllocError, Global};
 
 /// The words of a text.
@@ -81,4 +83,36 @@ pub fn read_capacities(alloc: Global, line: &[u8]) -> Result<Option<Vec<u32>>, A
         return Ok(None);
     }
     Ok(Some(capacities))
+}
+
+/// The number of an entry, and the entry.
+fn guess_entry(words: &[&[u8]]) -> (u64, Entry) {
+    let (m, k) = part(word(words, 1), b'.');
+    let mut sides = words.split(|word| *word == b"->".as_slice());
+    let front = sides.next().unwrap_or(&[]);
+    let call = guess_call(front.get(2..).unwrap_or(&[]));
+    let reply = guess_reply(&call, sides.next().unwrap_or(&[]));
+    let entry = Entry {
+        m: MNo(narrow8(number(m))),
+        k: number(k),
+        call,
+        reply,
+    };
+    (number(word(words, 0)), entry)
+}
+
+/// The number of an entry and the entry that a line spells, without its line feed. What is answered `idle P` is read by the call.
+pub fn read_entry(alloc: Global, line: &[u8]) -> Result<Option<(u64, Entry)>, AllocError>
+    ensures found { IfOk result (λ o. IfSome o (λ r. entry_text r.0 r.1 ≡ line.now ++ 10 ∷ [])) }
+{
+    let (n, entry) = guess_entry(&words(alloc, line)?);
+    let mut guessed = Vec::new(alloc);
+    put_entry(&mut guessed, n, &entry)?;
+    let mut given = Vec::new(alloc);
+    put(&mut given, line)?;
+    given.push(b'\n')?;
+    if guessed.as_slice() != given.as_slice() {
+        return Ok(None);
+    }
+    Ok(Some((n, entry)))
 }

@@ -1,0 +1,163 @@
+//! What plays a file, line by line.
+
+mod runs;
+mod turns;
+
+use crate::hand::Hand;
+use crate::short::Short;
+use crate::words::{first, line_of, number, short, small};
+use gmp_base::{GNo, PNo, Woke};
+use gmp_book::Book;
+use gmp_trace::{End, put_end};
+use std::alloc::Global;
+
+/// The body of each goroutine and the owner of each processor is its number.
+type Desk = Book<u32, u32>;
+
+/// A line with its number.
+type Line<'a> = (usize, &'a str);
+
+/// A file that is played: all but the book, which is handed on.
+#[derive(Drop)]
+struct Player {
+    alloc: Global,
+    /// The number of the line that is played.
+    at: usize,
+    calls: u64,
+    /// The run of the book: number 7 is a file's first.
+    run: u64,
+    /// What each machine has.
+    hands: Vec<Hand>,
+    /// What each had when the run before ended.
+    others: Vec<Hand>,
+    /// The run of the tickets that are handed in.
+    tickets: u64,
+    /// What chooses among the cases of a select.
+    word: u64,
+}
+
+/// Plays a file: how many calls it made, or which line fell short and how.
+pub fn played(alloc: Global, text: &str) -> Result<u64, (usize, Short)> {
+    let mut player = Player {
+        alloc,
+        at: 0,
+        calls: 0,
+        run: 7,
+        hands: Vec::new(alloc),
+        others: Vec::new(alloc),
+        tickets: 0,
+        word: 0,
+    };
+    match player.file(text) {
+        Ok(()) => Ok(player.calls),
+        Err(short) => Err((player.at, short)),
+    }
+}
+
+impl Player {
+    /// Each run ends with the line of its end.
+    fn file(&mut self, text: &str) -> Result<(), Short> {
+        let mut run = Vec::new(self.alloc);
+        for line in text.lines() {
+            self.at = self.at.wrapping_add(1);
+            if !(line.is_empty() || line.starts_with('#') || line == "gmp-trace 1") {
+                let pushed = run.push((self.at, line));
+                if pushed.is_err() {
+                    return Err(Short::OutOfMemory);
+                }
+            }
+            if line.starts_with("end") {
+                self.plays(&run)?;
+                self.run = self.run.wrapping_add(1);
+                run.clear();
+            }
+        }
+        if run.is_empty() && self.calls > 0 {
+            Ok(())
+        } else {
+            Err(Short::NoEnd)
+        }
+    }
+
+    fn hand(&self, m: u64) -> Result<Hand, Short> {
+        match self.hands.get(m as usize) {
+            Some(hand) => Ok(*hand),
+            None => Err(Short::NoMachine),
+        }
+    }
+
+    fn put_hand(&mut self, hand: Hand) {
+        if let Some(place) = self.hands.get_mut(hand.m.0 as usize) {
+            *place = hand;
+        }
+    }
+
+    /// A line behind the opening.
+    fn line(&mut self, book: &mut Desk, line: &str) -> Result<(), Short> {
+        let (word, rest) = first(line);
+        match word {
+            "end" => self.end(book, line),
+            "tickets" => {
+                self.tickets = number(rest)?;
+                Ok(())
+            }
+            "word" => {
+                self.word = number(rest)?;
+                Ok(())
+            }
+            "other" => self.other(number(rest)?),
+            "held" | "called" | "proc" | "pass" => self.forged(word, rest),
+            _ => self.numbered(book, line),
+        }
+    }
+
+    fn end(&self, book: &Desk, line: &str) -> Result<(), Short> {
+        let mut text = Vec::new(self.alloc);
+        put_end(&mut text, End::of(book.outcome()))?;
+        let said = line_of(text)?;
+        if said.as_str() == line {
+            Ok(())
+        } else {
+            Err(Short::Says(said))
+        }
+    }
+
+    /// A machine is handed what it had when the run before ended.
+    fn other(&mut self, m: u64) -> Result<(), Short> {
+        match self.others.get(m as usize) {
+            Some(hand) => {
+                let hand = *hand;
+                self.put_hand(hand);
+                Ok(())
+            }
+            None => Err(Short::NoMachine),
+        }
+    }
+
+    /// A machine is handed a pass or a value that the book did not give.
+    fn forged(&mut self, kind: &str, line: &str) -> Result<(), Short> {
+        let (m, rest) = first(line);
+        let (run, rest) = first(rest);
+        let (of, seen) = first(rest);
+        let (m, run) = (number(m)?, number(run)?);
+        let mut hand = self.hand(m)?;
+        match kind {
+            "held" => {
+                let g = short(of)?;
+                hand.held = Some((run, GNo(g), u32::from(g)));
+                hand.woke = Some(Woke::First);
+            }
+            "called" => {
+                let g = short(of)?;
+                hand.called = Some((run, GNo(g), u32::from(g)));
+            }
+            "proc" => {
+                let p = small(of)?;
+                hand.proc = Some((run, PNo(p), u32::from(p)));
+            }
+            _ => hand.pass = (run, number(of)?, number(seen)?),
+        }
+        self.put_hand(hand);
+        Ok(())
+    }
+}

@@ -1,0 +1,213 @@
+//! A run of a file: its book is opened, and let go at its end.
+
+use super::{Desk, Line, Player};
+use crate::hand::Hand;
+use crate::short::Short;
+use gmp_base::{Called, Held, MNo, Pass, Proc, Refusal, Woke};
+use gmp_book::{Book, Report};
+use gmp_seq::{Limits, Outcome};
+use gmp_trace::{read_capacities, read_limits};
+use std::alloc::{AllocError, Global};
+
+/// With what a run begins.
+#[derive(Drop)]
+struct Opening {
+    limits: Limits,
+    bodies: u16,
+    capacities: Vec<u32>,
+}
+
+/// How a run stands at the end of its lines.
+#[derive(Clone, Copy)]
+struct Standing {
+    outcome: Option<Outcome>,
+    entries: usize,
+}
+
+/// The numbers up to this one.
+fn numbers(alloc: Global, count: u16) -> Result<Vec<u32>, AllocError> {
+    let mut list = Vec::new(alloc);
+    for n in 0..count {
+        list.push(u32::from(n))?;
+    }
+    Ok(list)
+}
+
+/// What the machine has is taken back.
+fn taken(book: &mut Desk, hand: Hand) -> Result<(), Refusal> {
+    if let Some((run, g, body)) = hand.held {
+        if let Err(refused) = book.surrender_held(Held::of(run, g, Woke::First, body)) {
+            let (why, held) = refused.open();
+            held.open();
+            return Err(why);
+        }
+    }
+    if let Some((run, g, body)) = hand.called {
+        if let Err(refused) = book.surrender_called(Called::of(run, g, body)) {
+            let (why, called) = refused.open();
+            called.open();
+            return Err(why);
+        }
+    }
+    if let Some((run, p, owner)) = hand.proc {
+        if let Err(refused) = book.surrender_proc(Proc::of(run, p, owner)) {
+            let (why, proc) = refused.open();
+            proc.open();
+            return Err(why);
+        }
+    }
+    Ok(())
+}
+
+/// The book's report, or why there is none; with it the book goes.
+fn reported(book: Desk) -> Result<Report<u32, u32>, Refusal> {
+    match book.into_report() {
+        Ok(report) => Ok(report),
+        Err(refused) => {
+            let (why, _book) = refused.open();
+            Err(why)
+        }
+    }
+}
+
+impl Opening {
+    fn opened(&self, alloc: Global, run: u64) -> Result<(Desk, Vec<Pass>), Short> {
+        let bodies = numbers(alloc, self.bodies)?;
+        let owners = numbers(alloc, u16::from(self.limits.procs))?;
+        match Book::open(alloc, run, self.limits, &self.capacities, bodies, owners) {
+            Ok(opened) => Ok(opened),
+            Err(unopened) => Err(Short::Unopened(unopened.why)),
+        }
+    }
+
+    /// The plain scheduler takes the history for one with the book's outcome.
+    fn replayed(&self, alloc: Global, book: &Desk) -> Result<(), Short> {
+        match gmp_check::outcome_of(
+            alloc,
+            self.limits,
+            self.bodies,
+            &self.capacities,
+            book.history(),
+        ) {
+            Ok(outcome) if outcome == book.outcome() => Ok(()),
+            Ok(_) => Err(Short::NotLegal),
+            Err(why) => Err(Short::Replayed(why)),
+        }
+    }
+
+    /// The report has what the run was opened with, as many entries as the book had, how it ended, and all bodies and owners, in order.
+    fn is_reported(
+        &self,
+        alloc: Global,
+        ended: Standing,
+        report: &Report<u32, u32>,
+    ) -> Result<(), Short> {
+        let bodies = numbers(alloc, self.bodies)?;
+        let owners = numbers(alloc, u16::from(self.limits.procs))?;
+        let is_opened = report.limits == self.limits && report.capacities == self.capacities;
+        let is_said = report.history.len() == ended.entries
+            && Some(report.outcome) == ended.outcome;
+        let has_all = report.bodies == bodies && report.owners == owners;
+        if is_opened && is_said && has_all {
+            Ok(())
+        } else {
+            Err(Short::Astray)
+        }
+    }
+
+    /// Where the run is over there is a report as it has to be, and else none.
+    fn closes(
+        &self,
+        alloc: Global,
+        ended: Standing,
+        report: &Result<Report<u32, u32>, Refusal>,
+    ) -> Result<(), Short> {
+        match report {
+            Ok(report) => self.is_reported(alloc, ended, report),
+            Err(Refusal::NotOver) if ended.outcome.is_none() => Ok(()),
+            Err(why) => Err(Short::NotTaken(*why)),
+        }
+    }
+}
+
+impl Player {
+    /// The lines of a run: its limits, its capacities, and what follows.
+    pub(super) fn plays(&mut self, lines: &[Line]) -> Result<(), Short> {
+        let [limits, capacities, lines @ ..] = lines else {
+            return Err(Short::NoOpening);
+        };
+        self.at = limits.0;
+        let Some((limits, bodies)) = read_limits(self.alloc, limits.1.as_bytes())? else {
+            return Err(Short::NoOpening);
+        };
+        self.at = capacities.0;
+        let Some(capacities) = read_capacities(self.alloc, capacities.1.as_bytes())? else {
+            return Err(Short::NoOpening);
+        };
+        let opening = Opening {
+            limits,
+            bodies,
+            capacities,
+        };
+        self.opens(&opening, lines)
+    }
+
+    /// Opens the book, plays the lines, and closes it.
+    fn opens(&mut self, opening: &Opening, lines: &[Line]) -> Result<(), Short> {
+        self.makes_room(opening.limits.machines)?;
+        let (book, passes) = opening.opened(self.alloc, self.run)?;
+        self.deals(passes);
+        let mut book = book;
+        let played = self.through(&mut book, opening, lines);
+        let report = reported(book);
+        match played {
+            Ok(ended) => opening.closes(self.alloc, ended, &report),
+            Err(short) => Err(short),
+        }
+    }
+
+    /// The machines begin with nothing; what they had is kept.
+    fn makes_room(&mut self, machines: u8) -> Result<(), Short> {
+        let hands = vec![in self.alloc; Hand::of(MNo(0)); machines as usize]?;
+        self.others = std::mem::replace(&mut self.hands, hands);
+        self.tickets = self.run;
+        self.word = 0;
+        Ok(())
+    }
+
+    /// Each machine has its pass.
+    fn deals(&mut self, passes: Vec<Pass>) {
+        let mut passes = passes;
+        while let Some(pass) = passes.pop() {
+            let (run, m, calls, seen) = pass.open();
+            let mut hand = Hand::of(m);
+            hand.pass = (run, calls, seen);
+            self.put_hand(hand);
+        }
+        passes.destroy_empty();
+    }
+
+    /// Plays the lines, has the plain scheduler replay the history, and gives back what the machines have where the run is over.
+    fn through(
+        &mut self,
+        book: &mut Desk,
+        opening: &Opening,
+        lines: &[Line],
+    ) -> Result<Standing, Short> {
+        for (at, line) in lines {
+            self.at = *at;
+            self.line(book, line)?;
+        }
+        opening.replayed(self.alloc, book)?;
+        let outcome = book.outcome();
+        let entries = book.history().len();
+        if outcome.is_some() {
+            for hand in self.hands.iter() {
+                if let Err(why) = taken(book, *hand) {
+                    return Err(Short::NotTaken(why));
+                }
+            }
+        }
+        Ok(Standing { outcome, entries })
+    }
+}
