@@ -1,3 +1,4 @@
+pub mod Local
 pub mod Onward
 pub mod Parts
 pub mod Uses

@@ -6,3 +6,4 @@ pub mod Hunt
 pub mod Table
 pub mod Fits
 pub mod Uses
+pub mod Local

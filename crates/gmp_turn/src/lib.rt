@@ -7,6 +7,3 @@ mod surrendering;
 
 pub use calling::{turn, woken};
 pub use surrendering::surrender;
-
-#[cfg(test)]
-mod tests;

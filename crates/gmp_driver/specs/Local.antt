@@ -1,0 +1,45 @@
+-- Acts that are no calls of the book: what may come of each, and which values come back.
+use Rattle.std.specs.Prelude.{Bool, true, false, is_some}
+use Rattle.gmp_driver.specs.declared.act.Act.{Act}
+use Rattle.gmp_driver.specs.declared.act.Act.TheVariants as act
+use Rattle.gmp_driver.specs.declared.act.Told.{Told}
+use Rattle.gmp_driver.specs.declared.act.Told.TheVariants as told
+use Rattle.gmp_driver.specs.declared.act.Tried.TheVariants as tried
+use Rattle.gmp_driver.specs.declared.registers.Registers.{Registers}
+
+-- which registers are filled
+pub record Filled : Type 0 where
+  pub processor : Bool
+  pub held : Bool
+  pub called : Bool
+  pub to_claim : Bool
+  pub to_store : Bool
+
+abbrev pub filled : {T Q : Type 0} → Registers T Q → Filled
+filled hand = record { processor = is_some hand.processor; held = is_some hand.held; called = is_some hand.called; to_claim = is_some hand.to_claim; to_store = is_some hand.to_store }
+
+-- what may come of an act
+abbrev pub MayCome : Act → Told → Type 0
+MayCome act.Pop told.Got = Unit {0}
+MayCome act.Pop told.Empty = Unit {0}
+MayCome act.Push told.Pushed = Unit {0}
+MayCome act.Push told.PushRefused = Unit {0}
+MayCome act.Hunt (told.Drew word how) = Unit {0}
+MayCome (act.Steal victim) (told.Tried how) = Unit {0}
+MayCome act.Resume (told.Asked asked) = Unit {0}
+MayCome act.Block (told.Number number) = Unit {0}
+MayCome (act.Clock minded) (told.Moment now) = Unit {0}
+MayCome _ _ = ⊥
+
+-- a ticket that is found is one to claim, and where the machine has one to claim already, one to store
+abbrev pub with_found : Bool → Filled → Filled
+with_found true f = record f { to_store = true }
+with_found false f = record f { to_claim = true }
+
+-- what comes back: all that was handed out, but for a ticket that was pushed, and a ticket that was found besides
+abbrev pub come_back : Told → Bool → Filled → Filled
+come_back told.Pushed has f = record f { to_store = false }
+come_back told.Got has f = with_found has f
+come_back (told.Tried (tried.Got hint)) has f = with_found has f
+come_back (told.Drew word (tried.Got hint)) has f = with_found has f
+come_back what has f = f
