@@ -2,8 +2,11 @@
 use Rattle.std.proofs.Common.{◌≡◌, ◌⊎◌, inl, inr, ℕ, zero, suc, Bool, true, false, ◌&&◌, ◌||◌, if◌then◌else◌, nat_le, is_some, Option, None, Some, refl, sym, ap, ◌∙◌}
 use Rattle.std.specs.Prelude.{IsNone}
 use Rattle.std.proofs.lemmas.Bool.{false≢true}
+use Rattle.std.specs.Option.{option_map}
 use Rattle.gmp_base.specs.declared.number.PNo.{PNo}
 use Rattle.gmp_base.specs.declared.number.Readiness.{Readiness}
+use Rattle.gmp_base.specs.declared.pass.Pass.{Pass}
+use Rattle.gmp_base.specs.Values.{readiness_of}
 use Rattle.gmp_seq.specs.declared.call.Call.TheVariants as call
 use Rattle.gmp_driver.specs.declared.act.Act.{Act}
 use Rattle.gmp_driver.specs.declared.act.Act.TheVariants as act
@@ -18,6 +21,7 @@ use Rattle.gmp_driver.specs.declared.registers.Registers.{Registers}
 use Rattle.gmp_driver.specs.declared.seen.Seen.{Seen}
 use Rattle.gmp_driver.specs.Fits.{Fits, IsFilled}
 use Rattle.gmp_driver.specs.Hunt.{more, victim_of}
+use Rattle.gmp_driver.specs.Loads.{called_of, called_parts, held_of, held_parts, load_of, parts_of, proc_of, proc_parts, ticket_of}
 use Rattle.gmp_driver.specs.Local.{Filled, MayCome, come_back, filled}
 use Rattle.gmp_driver.specs.Machine.{Machine}
 use Rattle.gmp_driver.specs.Registers.{AreApart, first_of, joined, unused, used}
@@ -210,6 +214,27 @@ module _ {T Q : Type 0} (procs : ℕ) (fresh : Bool) (turns : ℕ) (hand came : 
   at_place (place.Mind deadline) _ f m e = absurd m
   -- each other place has a call, a surrender, or no act
   at_place _ what f m e = absurd m
+
+mapped : {X Y : Type 0} (f : X → Y) (o : Option X) → is_some (option_map f o) ≡ is_some o
+mapped f None = refl
+mapped f (Some x) = refl
+
+-- a load has what it was made of
+pub loaded : {T Q : Type 0} (run : ℕ) (pass : Pass) (hand : Registers T Q) → filled (parts_of (load_of run pass hand)) ≡ filled hand
+loaded run pass hand =
+    rw (
+      mapped proc_parts (option_map (proc_of run) hand.processor),
+      mapped (proc_of run) hand.processor,
+      mapped held_parts (option_map (held_of run) hand.held),
+      mapped (held_of run) hand.held,
+      mapped called_parts (option_map (called_of run) hand.called),
+      mapped (called_of run) hand.called,
+      mapped readiness_of (option_map (ticket_of run) hand.to_claim),
+      mapped (ticket_of run) hand.to_claim,
+      mapped readiness_of (option_map (ticket_of run) hand.to_store),
+      mapped (ticket_of run) hand.to_store,
+    )
+    refl
 
 pub can_be_told : {T Q : Type 0} (x : Machine T Q) (what : Told) (came : Registers T Q) → Fits x.place x.hand → MayCome (next_act x) what
     → filled came ≡ come_back what (is_some x.hand.to_claim) (filled (used (next_act x) x.hand))

@@ -23,7 +23,8 @@ use Rattle.gmp_driver.specs.Machine.{Machine}
 use Rattle.gmp_driver.specs.Registers.{AreApart, first_value, joined, unused, used}
 use Rattle.gmp_driver.specs.Seen.{seen}
 use Rattle.gmp_driver.specs.Table.{act_at, after, claim_call, next_act, next_place, put_call}
-use Rattle.gmp_turn.specs.Surrenders.{left_after, load_without, surrendered, told_back}
+use Rattle.gmp_book.specs.Book.{BookContents}
+use Rattle.gmp_turn.specs.Surrenders.{book_after, left_after, load_without, surrendered, told_back}
 
 look : (b : Bool) (which : Option Value) → (if b then act.Clock None else act.Pop) ≡ act.Surrender which → ⊥
 look true which e = cc
@@ -117,3 +118,12 @@ fits_after x pass (Some v) (Err why) is =
     refused_fits (seen (record x { hand = hand })) x.place why hand (at_over (seen x) x.place (Some v) is).0
 fits_after x pass None (Ok done) is = (let w = at_over (seen x) x.place None is in rw w.0 (none_left x.hand.processor x.hand.held x.hand.called x.hand.to_claim x.hand.to_store w.1))
 fits_after x pass None (Err why) is = (let w = at_over (seen x) x.place None is in rw w.0 (none_left x.hand.processor x.hand.held x.hand.called x.hand.to_claim x.hand.to_store w.1))
+
+pub log_after : {T Q : Type 0} (which : Option Value) (result : Result Unit Refusal) (load : Load T Q) (book : BookContents T Q) → (book_after which result load book).log ≡ book.log
+log_after which (Err why) load book = refl
+log_after None (Ok done) load book = refl
+log_after (Some value.Held) (Ok done) load book = refl
+log_after (Some value.Called) (Ok done) load book = refl
+log_after (Some value.ToClaim) (Ok done) load book = refl
+log_after (Some value.ToStore) (Ok done) load book = refl
+log_after (Some value.Proc) (Ok done) load book = refl

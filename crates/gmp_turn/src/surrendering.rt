@@ -1,12 +1,12 @@
 //! What a machine gives back once the run is over.
-ghost use Rattle.std.specs.Prelude.{◌≡◌, IsSome};
+ghost use Rattle.std.specs.Prelude.{◌≡◌, None, Some, Ok, Err, IsNone, IsSome, IfOk, IfErr};
 ghost use Rattle.gmp_driver.specs.declared.act.Act.TheVariants as act;
 ghost use Rattle.gmp_driver.specs.Fits.{Fits};
 ghost use Rattle.gmp_driver.specs.Table.{next_act};
 ghost use Rattle.gmp_ledger.specs.Refusals.{refusal_in};
 ghost use Rattle.gmp_turn.specs.Surrenders.{Surrenders, book_after, left_after, refusal_back, told_back};
 
-use gmp_base::Refusal;
+use gmp_base::{Refusal, Refused};
 use gmp_book::Book;
 use gmp_driver::{Driver, Load, Told, Value, fill};
 
@@ -21,6 +21,8 @@ pub fn surrender<T, Q>(
     ensures surrenders { Surrenders driver.old book.old which result driver.new book.new }
     ensures fits { Fits driver.new.place driver.new.hand }
     ensures pass { IsSome driver.new.pass }
+    ensures run { driver.new.run ≡ driver.old.run }
+    ensures log { book.new.log ≡ book.old.log }
 {
     let mut load = driver.give();
     let result = give_back(book, which, &mut load);
@@ -39,6 +41,22 @@ fn told_back(which: Option<Value>, answer: Result<(), Refusal>) -> Told
     }
 }
 
+/// A value that was refused goes back into its register.
+fn settled<V>(register: &mut Option<V>, answer: Result<(), Refused<V>>) -> Result<(), Refusal>
+    requires { IsNone register.old }
+    ensures ok { IfOk answer (λ _. (result ≡ Ok tt) × (register.new ≡ None)) }
+    ensures err { IfErr answer (λ r. (result ≡ Err r.why) × (register.new ≡ Some r.back)) }
+{
+    match answer {
+        Ok(()) => Ok(()),
+        Err(refused) => {
+            let (why, back) = refused.open();
+            fill(register, back);
+            Err(why)
+        }
+    }
+}
+
 /// Gives this value back, where there is one; refused, it stays.
 fn give_back<T, Q>(
     book: &mut Book<T, Q>,
@@ -50,52 +68,26 @@ fn give_back<T, Q>(
     ensures book { book.new ≡ book_after which result load.old book.old }
 {
     match which {
-        Some(Value::Held) => {
-            if let Some(held) = load.held.take() {
-                if let Err(refused) = book.surrender_held(held) {
-                    let (why, back) = refused.open();
-                    fill(&mut load.held, back);
-                    return Err(why);
-                }
-            }
-        }
-        Some(Value::Called) => {
-            if let Some(called) = load.called.take() {
-                if let Err(refused) = book.surrender_called(called) {
-                    let (why, back) = refused.open();
-                    fill(&mut load.called, back);
-                    return Err(why);
-                }
-            }
-        }
-        Some(Value::ToClaim) => {
-            if let Some(ticket) = load.to_claim.take() {
-                if let Err(refused) = book.surrender_ticket(ticket) {
-                    let (why, back) = refused.open();
-                    fill(&mut load.to_claim, back);
-                    return Err(why);
-                }
-            }
-        }
-        Some(Value::ToStore) => {
-            if let Some(ticket) = load.to_store.take() {
-                if let Err(refused) = book.surrender_ticket(ticket) {
-                    let (why, back) = refused.open();
-                    fill(&mut load.to_store, back);
-                    return Err(why);
-                }
-            }
-        }
-        Some(Value::Proc) => {
-            if let Some(proc) = load.proc.take() {
-                if let Err(refused) = book.surrender_proc(proc) {
-                    let (why, back) = refused.open();
-                    fill(&mut load.proc, back);
-                    return Err(why);
-                }
-            }
-        }
-        None => {}
+        Some(Value::Held) => match load.held.take() {
+            Some(held) => settled(&mut load.held, book.surrender_held(held)),
+            None => Ok(()),
+        },
+        Some(Value::Called) => match load.called.take() {
+            Some(called) => settled(&mut load.called, book.surrender_called(called)),
+            None => Ok(()),
+        },
+        Some(Value::ToClaim) => match load.to_claim.take() {
+            Some(ticket) => settled(&mut load.to_claim, book.surrender_ticket(ticket)),
+            None => Ok(()),
+        },
+        Some(Value::ToStore) => match load.to_store.take() {
+            Some(ticket) => settled(&mut load.to_store, book.surrender_ticket(ticket)),
+            None => Ok(()),
+        },
+        Some(Value::Proc) => match load.proc.take() {
+            Some(proc) => settled(&mut load.proc, book.surrender_proc(proc)),
+            None => Ok(()),
+        },
+        None => Ok(()),
     }
-    Ok(())
 }

@@ -1,4 +1,5 @@
-use Rattle.gmp_turn.proofs.Ending.{apart_after, fits_after, pass_after, run_after}
+use Rattle.std.proofs.Common.{refl}
+use Rattle.gmp_turn.proofs.Ending.{apart_after, fits_after, log_after, pass_after, run_after}
 use Rattle.gmp_turn.specs.Surrenders.{surrendered}
 use Rattle.gmp_turn.proofs.surrendering.surrender.Goals as goal
 
@@ -43,3 +44,9 @@ returns-clause-surrenders g c =
             pass_after c.args.which c.give_back-result.result (surrendered c.args.driver.now c.give-load.result.pass c.args.which),
           ) at c.got.ensures;
     }
+
+pub returns-clause-run : goal.returns-clause-run
+returns-clause-run g c = rw (c.got.ensures, c.give-load.ensures.left) refl
+
+pub returns-clause-log : goal.returns-clause-log
+returns-clause-log g c = rw c.give_back-result.ensures.book (log_after c.args.which c.give_back-result.result c.give-load.result c.args.book.now)
