@@ -1,10 +1,47 @@
 //! Where bodies and owners go by a reply.
-ghost use Rattle.gmp_book.specs.Hands.{FitsBody, FitsOwner, HandsBody, HandsOwner};
+ghost use Rattle.std.specs.Prelude.{◌≡◌};
+ghost use Rattle.gmp_book.specs.Hands.{FitsBody, FitsHome, FitsOwner, HandsBody, HandsOwner, with_home};
 
-use crate::values::{Way, spent};
+use crate::values::{Way, retold, spent};
 use gmp_base::{Called, GNo, Held, Proc, Woke};
 use gmp_seq::Reply;
 use gmp_slots::Slots;
+
+/// The goroutine in its blocking call, into which it goes.
+fn called_of<T>(held: Held<T>) -> Called<T>
+    ensures { result ≡ record { run = held.run; g = held.g; body = held.body } }
+{
+    let (run, g, _, body) = held.open();
+    Called::of(run, g, body)
+}
+
+/// The goroutine that runs on after its blocking call, and is told this.
+fn returned<T>(called: Called<T>, told: Woke) -> Held<T>
+    ensures { result ≡ record { run = called.run; g = called.g; woke = told; body = called.body } }
+{
+    let (run, g, body) = called.open();
+    Held::of(run, g, told, body)
+}
+
+/// The body that is handed in, if any is, goes into its place.
+fn put_home<T>(bodies: &mut Slots<T>, held: Option<Held<T>>, called: Option<Called<T>>)
+    requires { FitsHome held called bodies.old }
+    ensures { bodies.new ≡ with_home held called bodies.old }
+{
+    let (g, body) = match (held, called) {
+        (Some(held), none) => {
+            spent(none);
+            let (_, g, _, body) = held.open();
+            (g, body)
+        }
+        (None, Some(called)) => {
+            let (_, g, body) = called.open();
+            (g, body)
+        }
+        (None, None) => return,
+    };
+    bodies.put(g.0 as usize, body);
+}
 
 /// The body goes so: the goroutine that asked is told this, or g comes out.
 #[inline(always)]
@@ -21,28 +58,11 @@ pub(crate) fn settle_body<T>(
     ensures { HandsBody way run g told held called result.0 result.1 bodies.old bodies.new }
 {
     match way {
-        Way::Stays => match held {
-            Some(held) => {
-                let (run, g, _, body) = held.open();
-                (Some(Held::of(run, g, told, body)), called)
-            }
-            None => (None, called),
-        },
-        Way::Home => match held {
-            Some(held) => {
-                let (_, g, _, body) = held.open();
-                bodies.put(g.0 as usize, body);
-                (None, called)
-            }
-            None => match called {
-                Some(called) => {
-                    let (_, g, body) = called.open();
-                    bodies.put(g.0 as usize, body);
-                    (None, None)
-                }
-                None => (None, None),
-            },
-        },
+        Way::Stays => (held.map(|held| retold(held, told)), called),
+        Way::Home => {
+            put_home(bodies, held, called);
+            (None, None)
+        }
         Way::Out => {
             spent(held);
             let body = bodies.take(g.0 as usize);
@@ -50,23 +70,11 @@ pub(crate) fn settle_body<T>(
         }
         Way::Calls => {
             spent(called);
-            match held {
-                Some(held) => {
-                    let (run, g, _, body) = held.open();
-                    (None, Some(Called::of(run, g, body)))
-                }
-                None => (None, None),
-            }
+            (None, held.map(|held| called_of(held)))
         }
         Way::Returns => {
             spent(held);
-            match called {
-                Some(called) => {
-                    let (run, g, body) = called.open();
-                    (Some(Held::of(run, g, told, body)), None)
-                }
-                None => (None, None),
-            }
+            (called.map(|called| returned(called, told)), None)
         }
     }
 }

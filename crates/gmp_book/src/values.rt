@@ -81,15 +81,20 @@ impl<T, Q> Values<T, Q> {
     }
 }
 
+/// The goroutine that runs, which is told this.
+pub(crate) fn retold<T>(held: Held<T>, told: Woke) -> Held<T>
+    ensures { result ≡ record held { woke = told } }
+{
+    let (run, g, _, body) = held.open();
+    Held::of(run, g, told, body)
+}
+
 /// What comes back of a make that was refused: where it wanted memory, its goroutine is told so.
 fn handed_back<T>(why: Refusal, held: Held<T>) -> Held<T>
     ensures { result ≡ handed_back why held }
 {
     match why {
-        Refusal::OutOfMemory => {
-            let (run, g, _, body) = held.open();
-            Held::of(run, g, Woke::NoMemory, body)
-        }
+        Refusal::OutOfMemory => retold(held, Woke::NoMemory),
         _ => held,
     }
 }
