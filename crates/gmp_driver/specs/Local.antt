@@ -1,4 +1,4 @@
--- Acts that are no calls of the book: what may come of each, and which values come back.
+-- Acts on queues, bodies and the clock: what may come of each, and which values come back.
 use Rattle.std.specs.Prelude.{Bool, true, false, is_some}
 use Rattle.gmp_driver.specs.declared.act.Act.{Act}
 use Rattle.gmp_driver.specs.declared.act.Act.TheVariants as act
@@ -18,7 +18,7 @@ pub record Filled : Type 0 where
 abbrev pub filled : {T Q : Type 0} → Registers T Q → Filled
 filled hand = record { processor = is_some hand.processor; held = is_some hand.held; called = is_some hand.called; to_claim = is_some hand.to_claim; to_store = is_some hand.to_store }
 
--- what may come of an act
+-- what may come of such an act; nothing of other acts
 abbrev pub MayCome : Act → Told → Type 0
 MayCome act.Pop told.Got = Unit {0}
 MayCome act.Pop told.Empty = Unit {0}

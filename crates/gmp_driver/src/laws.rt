@@ -23,7 +23,7 @@ pub fn nothing_is_lost<T, Q>()
     ensures whole { (act : Act) (hand : Registers T Q) → joined (used act hand) (unused act hand) ≡ hand }
 {}
 
-/// What came of an act that is no call of the book can be told: it fills no register twice, and the machine holds then what its next place says.
+/// What came of a pop, a push, a steal, a resumed body, a blocking call or a reading of the clock can be told: it fills no register twice, and the machine holds then what its next place says.
 /// Bodies and owners may have changed meanwhile.
 pub fn acts_lead_on<T, Q>()
     ensures apart { (x : Machine T Q) (what : Told) (came : Registers T Q) → Fits x.place x.hand → MayCome (next_act x) what

@@ -27,7 +27,7 @@ use std::marker::Model;
 
 /// A run of the scheduler. A contract sees what it was opened with, its history, and its present state.
 ///
-/// The history is a run from a state of a legal run, today the opening, to the present state, whatever is called. Only the opening and a
+/// The history is a run from a state of a legal run, the opening, to the present state, whatever is called. Only the opening and a
 /// make take memory.
 #[derive(Drop)]
 pub struct Ledger {
@@ -104,7 +104,7 @@ impl Ledger {
         ensures legal { Run self.now.limits self.now.start self.now.history self.now.state }
         // A legal run leads to the start.
         ensures before { (h : List Entry) × IsLegal self.now.limits self.now.bodies self.now.capacities h self.now.start }
-        // Today that is the opening.
+        // It is the opening.
         ensures start { self.now.start ≡ opening self.now.limits self.now.bodies self.now.capacities }
         ensures fits { All Fits self.now.history }
         ensures within { AreLimits self.now.limits self.now.bodies self.now.capacities }

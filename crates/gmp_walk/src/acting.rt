@@ -2,7 +2,6 @@
 ghost use Rattle.std.specs.Prelude.{◌≡◌, ℕ, IfSome, IsSome, is_some};
 ghost use Rattle.gmp_driver.specs.declared.act.Act.TheVariants as act;
 ghost use Rattle.gmp_driver.specs.Fits.{Fits};
-ghost use Rattle.gmp_driver.specs.Local.{come_back};
 ghost use Rattle.gmp_driver.specs.Table.{next_act};
 
 use circular_buffer::HeapCircularBuffer;
@@ -43,23 +42,25 @@ impl Desk {
 
 /// What the body asks, which is resumed.
 fn asked(held: &mut Option<Held<ScriptBody>>) -> Ask
+    requires { IsSome held.old }
     ensures some { is_some held.new ≡ is_some held.old }
     ensures run { (n : ℕ) → IfSome held.old (λ h. h.run ≡ n) → IfSome held.new (λ h. h.run ≡ n) }
 {
     match held {
         Some(held) => held.body.resume(held.woke),
-        None => Ask::Exit,
+        None => unreachable!(),
     }
 }
 
 /// The number that the body's blocking call answers.
 fn answered(called: &mut Option<Called<ScriptBody>>) -> u64
+    requires { IsSome called.old }
     ensures some { is_some called.new ≡ is_some called.old }
     ensures run { (n : ℕ) → IfSome called.old (λ c. c.run ≡ n) → IfSome called.new (λ c. c.run ≡ n) }
 {
     match called {
         Some(called) => called.body.blocking(),
-        None => 0,
+        None => unreachable!(),
     }
 }
 
@@ -81,7 +82,7 @@ fn pop(driver: &mut Machine, queue: &mut HeapCircularBuffer<Readiness>)
     }
 }
 
-/// The ticket to store goes to the end of the queue, which has room for one of each goroutine.
+/// The ticket to store goes to the end of the queue, where there is room.
 fn push(driver: &mut Machine, queue: &mut HeapCircularBuffer<Readiness>)
     requires act { next_act driver.old ≡ act.Push }
     requires pass { IsSome driver.old.pass }
@@ -90,6 +91,10 @@ fn push(driver: &mut Machine, queue: &mut HeapCircularBuffer<Readiness>)
     ensures run { driver.new.run ≡ driver.old.run }
 {
     let mut load = driver.give();
+    if queue.len() == queue.capacity() {
+        driver.got(load, Told::PushRefused);
+        return;
+    }
     if let Some(ticket) = load.to_store.take() {
         queue.push_back(ticket.readiness());
         ticket.open();
@@ -97,7 +102,19 @@ fn push(driver: &mut Machine, queue: &mut HeapCircularBuffer<Readiness>)
     driver.got(load, Told::Pushed);
 }
 
-/// With one machine nothing is found in another's queue.
+/// Of one processor no other's queue is there, so that nothing is found.
+fn hunt(driver: &mut Machine, word: u64)
+    requires act { next_act driver.old ≡ act.Hunt }
+    requires pass { IsSome driver.old.pass }
+    requires keeps { Fits driver.old.place driver.old.hand }
+    ensures pass { IsSome driver.new.pass }
+    ensures run { driver.new.run ≡ driver.old.run }
+{
+    let load = driver.give();
+    driver.got(load, Told::Drew(word, Tried::Empty));
+}
+
+/// Without a processor, its machine has left nothing in the one queue.
 fn steal(driver: &mut Machine, victim: PNo)
     requires act { next_act driver.old ≡ act.Steal victim }
     requires pass { IsSome driver.old.pass }
@@ -171,8 +188,8 @@ pub fn act(
             let moment = desk.moment(minded);
             read(driver, moment, minded);
         }
-        // With one processor nobody hunts.
-        Act::Hunt | Act::Nothing => return Ok(false),
+        Act::Hunt => hunt(driver, desk.word),
+        Act::Nothing => return Ok(false),
     }
     Ok(true)
 }

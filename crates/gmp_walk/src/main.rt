@@ -26,12 +26,17 @@ fn script(alloc: Global, text: &str) -> Result<Script, Short> {
     Ok(script)
 }
 
-/// The word that each select draws, which the script's first line names, and else 0.
-fn word(text: &str) -> u64 {
+/// The word that each select draws: that of the script's first line, where that is a comment that begins with `gmp step` and names one,
+/// and else 0.
+fn word(text: &str) -> Result<u64, Short> {
     let (first, _) = text.split_once('\n').unwrap_or((text, ""));
-    match first.strip_prefix("# gmp step --word ") {
-        Some(word) => number(word.as_bytes()).unwrap_or(0),
-        None => 0,
+    let command = first.strip_prefix("# gmp step").unwrap_or("");
+    match command.split_once(" --word ") {
+        Some((_, rest)) => {
+            let (word, _) = rest.split_once(' ').unwrap_or((rest, ""));
+            number(word.as_bytes()).ok_or(Short::NoWord)
+        }
+        None => Ok(0),
     }
 }
 
@@ -41,7 +46,7 @@ fn judged(alloc: Global, text: &str, trace: &str) -> Result<String, Short> {
     let Some((limits, _)) = read_limits(alloc, second.as_bytes())? else {
         return Err(Short::NoLimits);
     };
-    let (acts, written) = walked(alloc, script(alloc, text)?, limits, word(text))?;
+    let (acts, written) = walked(alloc, script(alloc, text)?, limits, word(text)?)?;
     if written.as_slice() == trace.as_bytes() {
         Ok(acts)
     } else {

@@ -11,6 +11,8 @@ pub enum Short {
     BadLine,
     #[error("the trace has no limits")]
     NoLimits,
+    #[error("the word is no number")]
+    NoWord,
     #[error("there is one machine with one processor")]
     OtherLimits,
     #[error("refused: {0}")]
