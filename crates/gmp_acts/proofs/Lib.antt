@@ -1,0 +1,13 @@
+pub mod Tracks
+pub mod Turning
+pub mod Gears
+pub mod Lands
+pub mod Effects
+pub mod Kept
+pub mod Local
+pub mod Granted
+pub mod Whole
+pub mod Moving
+pub mod Claimed
+pub mod Room
+pub mod Onward

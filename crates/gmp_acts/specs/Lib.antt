@@ -1,0 +1,5 @@
+pub mod Hands
+pub mod System
+pub mod Acts
+pub mod Sound
+pub mod Headline
