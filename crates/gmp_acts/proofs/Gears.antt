@@ -20,7 +20,7 @@ use Rattle.gmp_seq.specs.Table.{Table, IsRunning, IsCalling}
 use Rattle.gmp_driver.specs.Registers.{but, put_value}
 use Rattle.gmp_driver.specs.Seen.{number_of, own_processor}
 use Rattle.gmp_acts.specs.Hands.{PlainHand}
-use Rattle.gmp_acts.specs.Hands.{hand_after, goes_on}
+use Rattle.gmp_acts.specs.Hands.{hand_after, left_by}
 use Rattle.gmp_acts.proofs.Tracks.{Tracks, tracks_apart, tracks_gain, tracks_lose}
 
 -- Who holds what
@@ -147,7 +147,7 @@ spin_gear m c answer old new x y p is at modes spinning = record {
 
 -- Hands
 
-pub goes_processor : (answer : Reply) (hand : PlainHand) → own_processor (goes_on answer hand) ≡ own_processor hand
+pub goes_processor : (answer : Reply) (hand : PlainHand) → own_processor (left_by answer hand) ≡ own_processor hand
 goes_processor reply.Waits hand = refl
 goes_processor _ hand = refl
 
@@ -159,7 +159,7 @@ pub put_processor : (s : Option Readiness) (hand : PlainHand) → own_processor 
 put_processor None hand = refl
 put_processor (Some r) hand = refl
 
--- Calls
+-- MakesCall
 
 module _ (m : MNo) (old new : Machines) (t : Table) (hand : PlainHand) where
   pub acquires_gear : (answer : Reply) → hand.processor ≡ None → Acquires m answer old new → Gear m call.Acquire answer old new (own_processor hand) (own_processor (hand_after t call.Acquire answer hand))
@@ -258,5 +258,5 @@ parks_gear m _ old new hand awake h = absurd h
 
 -- the machines stay in a call of a goroutine
 pub goes_gear : (m : MNo) (c : Call) (answer : Reply) (old new : Machines) (hand : PlainHand) → mode_after c answer (slice_get old.modes m.0) ≡ slice_get old.modes m.0
-    → spins_after c answer (spins old m) ≡ spins old m → new ≡ old → Gear m c answer old new (own_processor hand) (own_processor (goes_on answer hand))
-goes_gear m c answer old new hand modes spinning is = same_gear m c answer old new (own_processor hand) (own_processor (goes_on answer hand)) is (goes_processor answer hand) modes spinning
+    → spins_after c answer (spins old m) ≡ spins old m → new ≡ old → Gear m c answer old new (own_processor hand) (own_processor (left_by answer hand))
+goes_gear m c answer old new hand modes spinning is = same_gear m c answer old new (own_processor hand) (own_processor (left_by answer hand)) is (goes_processor answer hand) modes spinning

@@ -37,6 +37,7 @@ use Rattle.gmp_driver.specs.Seen.{seen_of}
 use Rattle.gmp_driver.specs.Table.{act_at, next_act}
 use Rattle.gmp_driver.specs.Uses.{Uses}
 use Rattle.gmp_acts.specs.System.{System, machine_at, no_machine, held_number, called_number, is_ticket, in_hand, out}
+use Rattle.gmp_acts.specs.Acts.{IsGranted}
 use Rattle.gmp_acts.specs.Sound.{HasFewAt, ModeAt, spins_at, Sees, Agrees, IsSound}
 use Rattle.gmp_driver.proofs.Uses.{call_is, look_calls, put_calls, claim_calls, uses}
 use Rattle.gmp_acts.proofs.Lands.{some_of}
@@ -195,12 +196,21 @@ ticket_is_out k m r s inside some =
     let most = s.tickets r in
     is_out_by k.book.state.table r (omega (arith, part, most, some))
 
--- While the run lasts, what a call needs is met.
-pub granted : (k : System) (m : MNo) (c : Call) → m.0 < length k.machines → IsSound k → next_act (machine_at k m) ≡ act.Call c → k.book.state.outcome ≡ None → Needs m c k.book.state
+-- While the run lasts, each call is granted.
+pub granted : (k : System) (m : MNo) (c : Call) → m.0 < length k.machines → IsSound k → next_act (machine_at k m) ≡ act.Call c → k.book.state.outcome ≡ None → IsGranted (machine_at k m) m c k.book
 granted k m c inside s acts goes =
     let mine : Agrees k.book m (machine_at k m) = s.each m inside in
     let sees : Sees k.book.state m (machine_at k m) = mine.sees goes in
     let state : CallState c (slice_get k.book.state.machines.modes m.0) (spins k.book.state.machines m) =
     subst (CallState c (slice_get k.book.state.machines.modes m.0)) (sym sees.spinning)
     (call_state (machine_at k m).procs (machine_at k m).fresh (machine_at k m).turns (machine_at k m).hand (slice_get k.book.state.machines.modes m.0) (machine_at k m).place c acts sees.does mine.few) in
-    needs k.book.state m (machine_at k m) sees (λ r some. ticket_is_out k m r s inside some) c (uses (machine_at k m) c acts (mine.driver.fits (ap is_some mine.has_pass))) state
+    record {
+      pass = mine.pass;
+      has_pass = mine.has_pass;
+      run = mine.run.1;
+      its = mine.its;
+      turn = mine.turn;
+      seen = mine.seen;
+      needs = needs k.book.state m (machine_at k m) sees (λ r some. ticket_is_out k m r s inside some) c (uses (machine_at k m) c acts (mine.driver.fits (ap is_some mine.has_pass))) state;
+      has = mine.has;
+    }

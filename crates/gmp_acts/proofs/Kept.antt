@@ -32,7 +32,7 @@ use Rattle.gmp_seq.specs.Run.{Run}
 use Rattle.gmp_seq.specs.State.{State, opening}
 use Rattle.gmp_seq.specs.Step.{Step, outcome_after}
 use Rattle.gmp_seq.specs.Table.{Table, all_woken, woken_with}
-use Rattle.gmp_acts.specs.System.{BookRun, calls_of, entries_made}
+use Rattle.gmp_acts.specs.System.{BookRun, count_of, count_of_all}
 use Rattle.gmp_driver.specs.declared.act.Act.TheVariants as act
 use Rattle.gmp_driver.specs.declared.act.Told.{Told}
 use Rattle.gmp_driver.specs.declared.act.Told.TheVariants as told
@@ -253,12 +253,12 @@ module _ (k : System) (m : MNo) (c : Call) (answer : Reply) (inside : m.0 < leng
   flow_after r = turn_flow m k.book.state.table s'.table _ _ turn r
 
   -- the machine that called
-  pub caller : (log' : BookRun) (behind : Pass) → log'.run ≡ k.book.run → log'.limits ≡ k.book.limits → log'.state ≡ s' → behind ≡ record mine.pass { calls = mine.pass.calls + 1; seen = entries_made log' }
+  pub caller : (log' : BookRun) (behind : Pass) → log'.run ≡ k.book.run → log'.limits ≡ k.book.limits → log'.state ≡ s' → behind ≡ record mine.pass { calls = mine.pass.calls + 1; seen = count_of_all log' }
       → Agrees log' m (now_at behind)
   caller log' behind run limits state is =
       let passes : behind.run ≡ mine.pass.run = ap (λ (p : Pass). p.run) is in
       let few : m.0 < length k.book.state.counts = (let e = sizes.counts in let w = within_limits in omega (arith, e, w)) in
-      let counts : calls_of log' m ≡ calls_of k.book m + 1 =
+      let counts : count_of log' m ≡ count_of k.book m + 1 =
       ap (λ (t : State). slice_index t.counts m.0) state ∙ ap (λ (l : List ℕ). slice_index l m.0) step.2 ∙ get_or-set_same k.book.state.counts m.0 (slice_index k.book.state.counts m.0 + 1) 0 few in
       let saw : Sees s' m (now_at behind) = sees_after behind in
       let saw' : Sees log'.state m (now_at behind) = subst (λ (t : State). Sees t m (now_at behind)) (sym state) saw in
@@ -275,7 +275,7 @@ module _ (k : System) (m : MNo) (c : Call) (answer : Reply) (inside : m.0 < leng
         run = (mine.run.0 ∙ sym run, passes ∙ mine.run.1 ∙ sym run);
         its = ap (λ (p : Pass). p.m) is ∙ mine.its;
         turn = ap (λ (p : Pass). p.calls) is ∙ ap (λ (n : ℕ). n + 1) mine.turn ∙ sym counts;
-        seen = (let e : behind.seen ≡ entries_made log' = ap (λ (p : Pass). p.seen) is in omega (arith, e));
+        seen = (let e : behind.seen ≡ count_of_all log' = ap (λ (p : Pass). p.seen) is in omega (arith, e));
         procs = mine.procs ∙ ap (λ (l : Limits). l.procs) (sym limits);
         few = there.few;
         ended = λ end goes. ends k.book.limits answer s'.counts (there.ended end) (sym step.3 ∙ ap (λ (t : State). t.outcome) (sym state) ∙ goes);
@@ -284,11 +284,11 @@ module _ (k : System) (m : MNo) (c : Call) (answer : Reply) (inside : m.0 < leng
       }
 
   -- another machine
-  pub bystander : (log' : BookRun) (n : MNo) (y : PlainMachine) → n ≢ m → log'.run ≡ k.book.run → log'.limits ≡ k.book.limits → log'.state ≡ s' → entries_made k.book ≤ entries_made log' → Agrees k.book n y → Agrees log' n y
+  pub bystander : (log' : BookRun) (n : MNo) (y : PlainMachine) → n ≢ m → log'.run ≡ k.book.run → log'.limits ≡ k.book.limits → log'.state ≡ s' → count_of_all k.book ≤ count_of_all log' → Agrees k.book n y → Agrees log' n y
   bystander log' n y ne run limits state longer h =
       let was : Sees k.book.state n y = h.sees step.0 in
       let differ : n.0 ≢ m.0 = (λ (e : n.0 ≡ m.0). ne (numbered m n e)) in
-      let counts : calls_of log' n ≡ calls_of k.book n =
+      let counts : count_of log' n ≡ count_of k.book n =
       ap (λ (t : State). slice_index t.counts n.0) state ∙ ap (λ (l : List ℕ). slice_index l n.0) step.2 ∙ get_or-set_other k.book.state.counts m.0 n.0 (slice_index k.book.state.counts m.0 + 1) 0 differ in
       let saw : Sees s' n y = record {
         holds = others_hold m n k.book.state.machines.holders s'.machines.holders _ _ (own_processor y.hand) ne gear.holders was.holds;
@@ -316,31 +316,31 @@ module _ (k : System) (m : MNo) (c : Call) (answer : Reply) (inside : m.0 < leng
   few_counts : m.0 < length k.book.state.counts
   few_counts = let n = sizes.counts in let w = within_limits in omega (arith, n, w)
 
-  by_step : Run k.book.limits k.book.state (record { m = m; k = calls_of k.book m; call = c; reply = answer } ∷ []) s'
+  by_step : Run k.book.limits k.book.state (record { m = m; k = count_of k.book m; call = c; reply = answer } ∷ []) s'
   by_step = (s', (slice_get-get_or k.book.state.counts m.0 0 few_counts, step), refl)
 
-  pub one_more : entries_made k.book + 1 ≡ sum s'.counts
-  one_more = let n = run_total k.book.limits k.book.state s' (record { m = m; k = calls_of k.book m; call = c; reply = answer } ∷ []) by_step in omega (arith, n)
+  pub one_more : count_of_all k.book + 1 ≡ sum s'.counts
+  one_more = let n = run_total k.book.limits k.book.state s' (record { m = m; k = count_of k.book m; call = c; reply = answer } ∷ []) by_step in omega (arith, n)
 
   -- the run goes on by the step
-  pub legal_after : Run k.book.limits (opening k.book.limits k.book.bodies k.book.capacities) (k.book.history ++ record { m = m; k = calls_of k.book m; call = c; reply = answer } ∷ []) s'
-  legal_after = run_join k.book.limits (opening k.book.limits k.book.bodies k.book.capacities) k.book.state s' k.book.history (record { m = m; k = calls_of k.book m; call = c; reply = answer } ∷ []) s.legal by_step
+  pub legal_after : Run k.book.limits (opening k.book.limits k.book.bodies k.book.capacities) (k.book.history ++ record { m = m; k = count_of k.book m; call = c; reply = answer } ∷ []) s'
+  legal_after = run_join k.book.limits (opening k.book.limits k.book.bodies k.book.capacities) k.book.state s' k.book.history (record { m = m; k = count_of k.book m; call = c; reply = answer } ∷ []) s.legal by_step
 
 pub accepted_sound : (k : System) (m : MNo) (c : Call) (x : PlainMachine) (log' : BookRun) (own : List Made) → m.0 < length k.machines → IsSound k → next_act (machine_at k m) ≡ act.Call c
     → Accepted (machine_at k m) m c k.book k.own x log' own → IsSound (record k { book = log'; machines = set k.machines m.0 x; own = own })
 accepted_sound k m c x log' own inside s acts done =
     let mine : Agrees k.book m (machine_at k m) = s.each m inside in
     let answer : Reply = done.answer in
-    let same : done.before ≡ mine.pass = same_pass done.before mine.pass (machine_at k m).pass done.pass mine.has_pass in
+    let same : done.granted.pass ≡ mine.pass = same_pass done.granted.pass mine.pass (machine_at k m).pass done.granted.has_pass mine.has_pass in
     let run : log'.run ≡ k.book.run = ap (λ (l : BookRun). l.run) done.opened in
     let limits : log'.limits ≡ k.book.limits = ap (λ (l : BookRun). l.limits) done.opened in
     let bodies : log'.bodies ≡ k.book.bodies = ap (λ (l : BookRun). l.bodies) done.opened in
     let capacities : log'.capacities ≡ k.book.capacities = ap (λ (l : BookRun). l.capacities) done.opened in
-    let e : Entry = record { m = m; k = calls_of k.book m; call = c; reply = answer } in
-    let longer : entries_made k.book ≤ entries_made log' = (let n = one_more k m c answer inside s acts log'.state done.step in omega (arith, n)) in
-    let behind : Pass = record done.before { calls = done.before.calls + 1; seen = entries_made log' } in
-    let is : behind ≡ record mine.pass { calls = mine.pass.calls + 1; seen = entries_made log' } =
-    ap (λ (p : Pass). let q : Pass = record p { calls = p.calls + 1; seen = entries_made log' } in q) same in
+    let e : Entry = record { m = m; k = count_of k.book m; call = c; reply = answer } in
+    let longer : count_of_all k.book ≤ count_of_all log' = (let n = one_more k m c answer inside s acts log'.state done.step in omega (arith, n)) in
+    let behind : Pass = record done.granted.pass { calls = done.granted.pass.calls + 1; seen = count_of_all log' } in
+    let is : behind ≡ record mine.pass { calls = mine.pass.calls + 1; seen = count_of_all log' } =
+    ap (λ (p : Pass). let q : Pass = record p { calls = p.calls + 1; seen = count_of_all log' } in q) same in
     let here : Agrees log' m x = subst (Agrees log' m) (sym done.machine) (caller k m c answer inside s acts log'.state done.step log' behind run limits refl is) in
     let tickets : (r : Readiness) → sum_by (in_queue r) k.queues + sum_by (λ (y : PlainMachine). in_hand r y.hand) (set k.machines m.0 x) ≡ out r log'.state.table = (λ (r : Readiness).
     let all = s.all_tickets r done.step.0 in
@@ -351,7 +351,7 @@ accepted_sound k m c x log' own inside s acts done =
     record {
       within = rw (limits, bodies, capacities) s.within;
       legal = rw (limits, bodies, capacities, done.entry) (legal_after k m c answer inside s acts log'.state done.step);
-      told = ap (map made_of) done.entry ∙ map-append made_of k.book.history (e ∷ []) ∙ ap (λ (l : List Made). l ++ made_of e ∷ []) s.told ∙ sym done.made;
+      own = ap (map made_of) done.entry ∙ map-append made_of k.book.history (e ∷ []) ∙ ap (λ (l : List Made). l ++ made_of e ∷ []) s.own ∙ sym done.made;
       count = length-set k.machines m.0 x ∙ s.count ∙ ap (λ (l : Limits). l.machines) (sym limits);
       queues = s.queues ∙ ap (λ (l : Limits). l.procs) (sym limits);
       each = λ n there. (

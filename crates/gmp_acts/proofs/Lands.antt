@@ -26,7 +26,7 @@ use Rattle.gmp_acts.specs.Hands.{PlainHand}
 use Rattle.gmp_driver.specs.Seen.{seen_of}
 use Rattle.gmp_driver.specs.Table.{act_at, next_place}
 use Rattle.gmp_driver.proofs.Uses.{call_is, look_calls, put_calls, claim_calls}
-use Rattle.gmp_acts.specs.Hands.{hand_after, goes_on, retold, gone, returned}
+use Rattle.gmp_acts.specs.Hands.{hand_after, left_by, retold, called_from, running_again}
 use Rattle.gmp_acts.specs.Sound.{HasFewAt, ModeAt, spins_at, IsEnd}
 use Rattle.gmp_acts.proofs.Gears.{mode_after, spins_after}
 
@@ -107,11 +107,11 @@ pub retold_some : (w : Woke) (o : Option (HeldParts Unit)) → is_some (retold w
 retold_some w None = refl
 retold_some w (Some h) = refl
 
-gone_some : (o : Option (HeldParts Unit)) → is_some (gone o) ≡ is_some o
+gone_some : (o : Option (HeldParts Unit)) → is_some (called_from o) ≡ is_some o
 gone_some None = refl
 gone_some (Some h) = refl
 
-returned_some : (number : ℕ) (o : Option (CalledParts Unit)) → is_some (returned number o) ≡ is_some o
+returned_some : (number : ℕ) (o : Option (CalledParts Unit)) → is_some (running_again number o) ≡ is_some o
 returned_some number None = refl
 returned_some number (Some c) = refl
 
@@ -207,11 +207,11 @@ module _ (procs : ℕ) (fresh : Bool) (turns : ℕ) (t : Table) (hand : PlainHan
   -- a call of the goroutine that runs, by which it goes on or waits
   abbrev Going : Call → Ask → Reply → Type 0
   Going c asked answer =
-      Lands procs (place.Do asked) c answer (next_place (seen_of procs fresh turns (goes_on answer hand)) (place.Do asked) (told.Replied answer)) (goes_on answer hand) what
+      Lands procs (place.Do asked) c answer (next_place (seen_of procs fresh turns (left_by answer hand)) (place.Do asked) (told.Replied answer)) (left_by answer hand) what
 
   -- a close that woke somebody, or nobody
   closes : (c : Call) (asked : Ask) (n : ℕ) (b : Bool) → Fits (place.Do asked) hand → ModeAt (place.Do asked) (mode_after c (reply.Closed n) what) → spins_after c (reply.Closed n) false ≡ false
-      → Lands procs (place.Do asked) c (reply.Closed n) (if b then place.Poke else place.Run) (goes_on (reply.Closed n) hand) what
+      → Lands procs (place.Do asked) c (reply.Closed n) (if b then place.Poke else place.Run) (left_by (reply.Closed n) hand) what
   closes c asked n true f does spin = record { fits = record { has_processor = f.has_processor; has_held = retold_some _ hand.held ∙ f.has_held; has_called = f.has_called; has_to_claim = f.has_to_claim; has_to_store = refl }; does = does; spinning = spin; few = tt; ended = λ e. absurd e }
   closes c asked n false f does spin = record { fits = record { has_processor = f.has_processor; has_held = retold_some _ hand.held ∙ f.has_held; has_called = f.has_called; has_to_claim = f.has_to_claim; has_to_store = refl }; does = does; spinning = spin; few = tt; ended = λ e. absurd e }
 

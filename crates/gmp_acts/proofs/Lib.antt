@@ -11,3 +11,4 @@ pub mod Moving
 pub mod Claimed
 pub mod Room
 pub mod Onward
+pub mod Losing

@@ -24,7 +24,7 @@ use Rattle.gmp_driver.specs.Hunt.{begun, hunted, more}
 use Rattle.gmp_driver.specs.Local.{MayCome, come_back, filled, with_stolen}
 use Rattle.gmp_driver.specs.Registers.{joined, unused, used}
 use Rattle.gmp_driver.specs.Table.{act_at, after, call_for, claim_call, next_act, next_place, put_call}
-use Rattle.gmp_acts.specs.Acts.{HasFewCases, received}
+use Rattle.gmp_acts.specs.Acts.{HasFewCases, with_ticket}
 use Rattle.gmp_acts.specs.Hands.{PlainHand, PlainMachine}
 use Rattle.gmp_acts.specs.Sound.{HasFewAt, IsEnd, ModeAt, spins_at}
 
@@ -132,20 +132,17 @@ pub same_fits : (x : PlainMachine) (how : Told) → Fits x.place x.hand → MayC
 same_fits x how f m e = subst (FitsWith x how) (whole (next_act x) x.hand) (can_be_told x how (used (next_act x) x.hand) f m e).1
 
 -- and a ticket besides
-abbrev with_ticket : Readiness → Option Readiness → PlainHand → PlainHand
-with_ticket r o hand = received r hand o
-
-came_with : (r : Readiness) (o : Option Readiness) (came left : PlainHand) → joined (with_ticket r o came) left ≡ with_ticket r o (joined came left)
+came_with : (r : Readiness) (o : Option Readiness) (came left : PlainHand) → joined (with_ticket r came o) left ≡ with_ticket r (joined came left) o
 came_with r None came left = refl
 came_with r (Some t) came left = refl
 
 pub ticket_fits : (x : PlainMachine) (how : Told) (r : Readiness) → Fits x.place x.hand → MayCome (next_act x) how
-    → filled (received r (used (next_act x) x.hand) x.hand.to_claim) ≡ come_back how (is_some x.hand.to_claim) (filled (used (next_act x) x.hand))
-    → FitsWith x how (received r x.hand x.hand.to_claim)
+    → filled (with_ticket r (used (next_act x) x.hand) x.hand.to_claim) ≡ come_back how (is_some x.hand.to_claim) (filled (used (next_act x) x.hand))
+    → FitsWith x how (with_ticket r x.hand x.hand.to_claim)
 ticket_fits x how r f m e =
-    let all : joined (received r (used (next_act x) x.hand) x.hand.to_claim) (unused (next_act x) x.hand) ≡ received r x.hand x.hand.to_claim =
-    came_with r x.hand.to_claim (used (next_act x) x.hand) (unused (next_act x) x.hand) ∙ ap (with_ticket r x.hand.to_claim) (whole (next_act x) x.hand) in
-    subst (FitsWith x how) all (can_be_told x how (received r (used (next_act x) x.hand) x.hand.to_claim) f m e).1
+    let all : joined (with_ticket r (used (next_act x) x.hand) x.hand.to_claim) (unused (next_act x) x.hand) ≡ with_ticket r x.hand x.hand.to_claim =
+    came_with r x.hand.to_claim (used (next_act x) x.hand) (unused (next_act x) x.hand) ∙ ap (λ (h : PlainHand). with_ticket r h x.hand.to_claim) (whole (next_act x) x.hand) in
+    subst (FitsWith x how) all (can_be_told x how (with_ticket r (used (next_act x) x.hand) x.hand.to_claim) f m e).1
 
 -- a ticket that is pushed doesn't
 pub pushed_fits : (x : PlainMachine) → Fits x.place x.hand → next_act x ≡ act.Push → FitsWith x told.Pushed (record x.hand { to_store = None })
@@ -161,10 +158,10 @@ pub unmade_leads : (what : Option Mode) (capacity : ℕ) (here there : Place) �
 unmade_leads what capacity here there at goes = rw (at, goes) (record { does = λ d. d; spinning = refl; few = tt; ended = λ e. e })
 
 -- a ticket that is taken comes back besides what the act was handed
-pub popped_back : (t : Readiness) (hand : PlainHand) → hand.to_claim ≡ None → filled (received t (used act.Pop hand) hand.to_claim) ≡ come_back told.Got (is_some hand.to_claim) (filled (used act.Pop hand))
+pub popped_back : (t : Readiness) (hand : PlainHand) → hand.to_claim ≡ None → filled (with_ticket t (used act.Pop hand) hand.to_claim) ≡ come_back told.Got (is_some hand.to_claim) (filled (used act.Pop hand))
 popped_back t hand none = rw none refl
 
-pub stolen_back : (t : Readiness) (handed : PlainHand) (o : Option Readiness) → filled (received t handed o) ≡ with_stolen (is_some o) (filled handed)
+pub stolen_back : (t : Readiness) (handed : PlainHand) (o : Option Readiness) → filled (with_ticket t handed o) ≡ with_stolen (is_some o) (filled handed)
 stolen_back t handed None = refl
 stolen_back t handed (Some r) = refl
 

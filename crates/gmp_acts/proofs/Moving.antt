@@ -15,7 +15,10 @@ use Rattle.gmp_base.specs.declared.refusal.Refusal.TheVariants.{Over, OutOfMemor
 use Rattle.gmp_seq.proofs.Sizes.{legal_sizes}
 use Rattle.gmp_seq.specs.declared.call.Call.{Call}
 use Rattle.gmp_seq.specs.declared.call.Call.TheVariants as call
+use Rattle.gmp_seq.specs.declared.call.Limits.{Limits}
 use Rattle.gmp_seq.specs.Machines.{Holds}
+use Rattle.gmp_seq.specs.Needs.{WantsMemory}
+use Rattle.gmp_seq.specs.State.{State}
 use Rattle.gmp_seq.specs.Table.{IsRunning, IsCalling}
 use Rattle.gmp_acts.specs.System.{BookRun}
 use Rattle.gmp_driver.specs.declared.act.Act.{Act}
@@ -44,7 +47,7 @@ use Rattle.gmp_acts.specs.Hands.{hand_unmade}
 use Rattle.gmp_acts.specs.declared.choice.Choice.{Choice}
 use Rattle.gmp_acts.specs.declared.made.Made.{Made}
 use Rattle.gmp_acts.specs.System.{System, Has, machine_at, no_machine, held_number, called_number, is_same, is_ticket, in_hand, in_queue}
-use Rattle.gmp_acts.specs.Acts.{Answers, HasFewCases, TakesMemory, Wanted, with_local, with_queue, queue_of, received, popped_from, stolen_from, stolen, pushed, surrendered, Does, Acts, ActsAll}
+use Rattle.gmp_acts.specs.Acts.{Answers, HasFewCases, Unmade, with_local, with_queue, queue_of, with_ticket, popped_from, stolen_from, stolen, pushed, given_back, DoesAct, Acts, ActsAll}
 use Rattle.gmp_acts.specs.Sound.{Agrees, HasFewAt, IsEnd, IsSound}
 use Rattle.gmp_acts.proofs.Kept.{at_machine, hands_set, turns_few, accepted_sound}
 use Rattle.gmp_acts.proofs.Lands.{retold_some, some_of}
@@ -64,7 +67,7 @@ pub moved_sound : (k : System) (m : MNo) (queues : List (List Readiness)) (x : P
 moved_sound k m queues x inside s moves = record {
   within = s.within;
   legal = s.legal;
-  told = s.told;
+  own = s.own;
   count = length-set k.machines m.0 x ∙ s.count;
   queues = moves.long ∙ s.queues;
   each = λ n there. (let there' : n.0 < length k.machines = (let l = length-set k.machines m.0 x in omega (arith, there, l)) in at_machine (Agrees k.book) k.machines m n x inside moves.agrees (λ _. s.each n there'));
@@ -119,27 +122,27 @@ agrees_told log m x what hand h same fits leads = record {
 
 -- Local queues, and the tickets in them
 
-queue_within : (qs : List (List Readiness)) (p : ℕ) (t : Readiness) (rest : List Readiness) → get_or qs p [] ≡ t ∷ rest → p < length qs
+pub queue_within : (qs : List (List Readiness)) (p : ℕ) (t : Readiness) (rest : List Readiness) → get_or qs p [] ≡ t ∷ rest → p < length qs
 queue_within qs p t rest h = elim (cases_lt p (length qs)) [ inl w ↦ w | inr w ↦ absurd (let no : [] ≡ t ∷ rest = sym (get_or_past qs p [] w) ∙ h in cc) ]
 
-taken : (qs : List (List Readiness)) (p : ℕ) (t : Readiness) (rest : List Readiness) (r : Readiness) → get_or qs p [] ≡ t ∷ rest
+pub taken : (qs : List (List Readiness)) (p : ℕ) (t : Readiness) (rest : List Readiness) (r : Readiness) → get_or qs p [] ≡ t ∷ rest
     → sum_by (in_queue r) (set qs p rest) + is_ticket r (Some t) ≡ sum_by (in_queue r) qs
 taken qs p t rest r h =
     let first : in_queue r (get_or qs p []) ≡ cond (is_same r t) 1 0 + in_queue r rest = ap (in_queue r) h ∙ sum_by-cons (λ (u : Readiness). cond (is_same r u) 1 0) t rest in
     let sum = sum_by-set (in_queue r) qs p rest [] (queue_within qs p t rest h) in
     omega (arith, first, sum)
 
-put_last : (qs : List (List Readiness)) (p : ℕ) (t r : Readiness) → p < length qs → sum_by (in_queue r) (set qs p (get_or qs p [] ++ t ∷ [])) ≡ sum_by (in_queue r) qs + is_ticket r (Some t)
+pub put_last : (qs : List (List Readiness)) (p : ℕ) (t r : Readiness) → p < length qs → sum_by (in_queue r) (set qs p (get_or qs p [] ++ t ∷ [])) ≡ sum_by (in_queue r) qs + is_ticket r (Some t)
 put_last qs p t r inside =
     let last : in_queue r (get_or qs p [] ++ t ∷ []) ≡ in_queue r (get_or qs p []) + cond (is_same r t) 1 0 = sum_by_push (λ (u : Readiness). cond (is_same r u) 1 0) (get_or qs p []) t in
     let sum = sum_by-set (in_queue r) qs p (get_or qs p [] ++ t ∷ []) [] inside in
     omega (arith, last, sum)
 
-received_count : (t r : Readiness) (hand : PlainHand) (o : Option Readiness) → hand.to_claim ≡ o → hand.to_store ≡ None → in_hand r (received t hand o) ≡ in_hand r hand + is_ticket r (Some t)
+pub received_count : (t r : Readiness) (hand : PlainHand) (o : Option Readiness) → hand.to_claim ≡ o → hand.to_store ≡ None → in_hand r (with_ticket t hand o) ≡ in_hand r hand + is_ticket r (Some t)
 received_count t r hand None claim store = (let a : is_ticket r hand.to_claim ≡ 0 = ap (is_ticket r) claim in let b : is_ticket r hand.to_store ≡ 0 = ap (is_ticket r) store in omega (arith, a, b))
 received_count t r hand (Some u) claim store = (let a : is_ticket r hand.to_claim ≡ is_ticket r (Some u) = ap (is_ticket r) claim in let b : is_ticket r hand.to_store ≡ 0 = ap (is_ticket r) store in omega (arith, a, b))
 
-received_same : (t : Readiness) (hand : PlainHand) (o : Option Readiness) → SameValues hand (received t hand o)
+received_same : (t : Readiness) (hand : PlainHand) (o : Option Readiness) → SameValues hand (with_ticket t hand o)
 received_same t hand None = record { processor = refl; held = refl; called = refl }
 received_same t hand (Some u) = record { processor = refl; held = refl; called = refl }
 
@@ -211,9 +214,9 @@ over_from : (s : Seen) (here : Place) → next_place s here (told.Refused Over) 
 over_from s here = refl
 
 -- a make takes memory
-memory_is : (log : BookRun) (asked : Call) → TakesMemory log asked → (capacity : ℕ) × (asked ≡ call.Make capacity)
-memory_is log (call.Make capacity) h = (capacity, refl)
-memory_is log _ h = absurd h
+memory_is : (limits : Limits) (asked : Call) (s : State) → WantsMemory limits asked s → (capacity : ℕ) × (asked ≡ call.Make capacity)
+memory_is limits (call.Make capacity) s h = (capacity, refl)
+memory_is limits _ s h = absurd h
 
 -- Each act keeps what is sound.
 module _ (k : System) (m : MNo) (inside : m.0 < length k.machines) (s : IsSound k) where
@@ -226,7 +229,7 @@ module _ (k : System) (m : MNo) (inside : m.0 < length k.machines) (s : IsSound 
   fits : Fits (machine_at k m).place (machine_at k m).hand
   fits = mine.driver.fits (ap is_some mine.has_pass)
 
-  found : (a : Act) → next_act (machine_at k m) ≡ a → Finds (seen (machine_at k m)) (machine_at k m).place (machine_at k m).hand a
+  pub found : (a : Act) → next_act (machine_at k m) ≡ a → Finds (seen (machine_at k m)) (machine_at k m).place (machine_at k m).hand a
   found a e = subst (Finds (seen X) X.place X.hand) e (finds (seen X) X.hand X.place fits)
 
   leads_to : (a : Act) (what : Told) (hand : PlainHand) → next_act (machine_at k m) ≡ a → MayCome a what → FewTold what
@@ -258,12 +261,12 @@ module _ (k : System) (m : MNo) (inside : m.0 < length k.machines) (s : IsSound 
   -- a ticket is taken from queue p
   took : (a : Act) (p : ℕ) (t : Readiness) (rest : List Readiness) (what : Told) → next_act (machine_at k m) ≡ a → MayCome a what → FewTold what
       → get_or k.queues p [] ≡ t ∷ rest → (machine_at k m).hand.to_store ≡ None
-      → filled (received t (used a (machine_at k m).hand) (machine_at k m).hand.to_claim) ≡ come_back what (is_some (machine_at k m).hand.to_claim) (filled (used a (machine_at k m).hand))
-      → IsSound (record k { machines = set k.machines m.0 (after (record (machine_at k m) { hand = received t (machine_at k m).hand (machine_at k m).hand.to_claim }) what); queues = set k.queues p rest })
+      → filled (with_ticket t (used a (machine_at k m).hand) (machine_at k m).hand.to_claim) ≡ come_back what (is_some (machine_at k m).hand.to_claim) (filled (used a (machine_at k m).hand))
+      → IsSound (record k { machines = set k.machines m.0 (after (record (machine_at k m) { hand = with_ticket t (machine_at k m).hand (machine_at k m).hand.to_claim }) what); queues = set k.queues p rest })
   took a p t rest what e may few is free back =
-      let hand : PlainHand = received t (machine_at k m).hand (machine_at k m).hand.to_claim in
+      let hand : PlainHand = with_ticket t (machine_at k m).hand (machine_at k m).hand.to_claim in
       let there : Fits (after (record X { hand = hand }) what).place hand = ticket_fits X what t fits (subst (λ (b : Act). MayCome b what) (sym e) may)
-      (subst (λ (b : Act). filled (received t (used b X.hand) X.hand.to_claim) ≡ come_back what (is_some X.hand.to_claim) (filled (used b X.hand))) (sym e) back) in
+      (subst (λ (b : Act). filled (with_ticket t (used b X.hand) X.hand.to_claim) ≡ come_back what (is_some X.hand.to_claim) (filled (used b X.hand))) (sym e) back) in
       let count : (r : Readiness) → sum_by (in_queue r) (set k.queues p rest) + in_hand r hand ≡ sum_by (in_queue r) k.queues + in_hand r (machine_at k m).hand = (λ (r : Readiness).
       let a = taken k.queues p t rest r is in let b = received_count t r (machine_at k m).hand (machine_at k m).hand.to_claim refl free in omega (arith, a, b)) in
       moved_sound k m (set k.queues p rest) (after (record (machine_at k m) { hand = hand }) what) inside s (record {
@@ -279,8 +282,10 @@ module _ (k : System) (m : MNo) (inside : m.0 < length k.machines) (s : IsSound 
   pops None (t ∷ rest) own is e = absurd (let no : [] ≡ t ∷ rest = is in cc)
   pops (Some p) (t ∷ rest) own is e =
       let free = found act.Pop e in
-      subst (λ (q : Option PNo). IsSound (with_local k m (after (record X { hand = received t X.hand X.hand.to_claim }) told.Got, with_queue k.queues q rest))) (sym own)
-      (took act.Pop p.0 t rest told.Got e tt tt is free.1 (popped_back t X.hand free.0))
+      let taken : with_ticket t X.hand X.hand.to_claim ≡ record X.hand { to_claim = Some t } = ap (with_ticket t X.hand) free.0 in
+      subst (λ (q : Option PNo). IsSound (with_local k m (after (record X { hand = record X.hand { to_claim = Some t } }) told.Got, with_queue k.queues q rest))) (sym own)
+      (subst (λ (h : PlainHand). IsSound (record k { machines = set k.machines m.0 (after (record X { hand = h }) told.Got); queues = set k.queues p.0 rest })) taken
+      (took act.Pop p.0 t rest told.Got e tt tt is free.1 (popped_back t X.hand free.0)))
 
   steals : (v : PNo) (queue : List Readiness) → get_or k.queues v.0 [] ≡ queue → next_act (machine_at k m) ≡ act.Steal v → IsSound (with_local k m (stolen_from (machine_at k m) None k.queues v queue))
   steals v [] is e = same_hand (act.Steal v) (told.Tried tried.Empty) e tt tt refl
@@ -301,7 +306,7 @@ module _ (k : System) (m : MNo) (inside : m.0 < length k.machines) (s : IsSound 
   hunts_or word v false e = hunts word v (get_or k.queues v.0 []) refl e
 
   -- the machine holds its processor, whose queue there is
-  own_within : (p : PNo) → own_processor (machine_at k m).hand ≡ Some p → p.0 < length k.queues
+  pub own_within : (p : PNo) → own_processor (machine_at k m).hand ≡ Some p → p.0 < length k.queues
   own_within p e =
       let l : p.0 < length k.book.state.machines.holders = slice_get_within k.book.state.machines.holders p.0 (Some m) (mine.has.holds p e) in
       let sizes = legal_sizes k.book.limits k.book.bodies k.book.capacities k.book.history k.book.state s.within s.legal in
@@ -328,7 +333,7 @@ module _ (k : System) (m : MNo) (inside : m.0 < length k.machines) (s : IsSound 
       }))
 
   -- values are given back only at the end
-  surrenders : (which : Option Value) → next_act (machine_at k m) ≡ act.Surrender which → IsSound (record k { machines = set k.machines m.0 (surrendered (machine_at k m) which) })
+  surrenders : (which : Option Value) → next_act (machine_at k m) ≡ act.Surrender which → IsSound (record k { machines = set k.machines m.0 (given_back (machine_at k m) which) })
   surrenders None e =
       let at = found (act.Surrender None) e in
       let over : k.book.state.outcome ≢ None = mine.ended (subst IsEnd (sym at.0) tt) in
@@ -382,10 +387,10 @@ module _ (k : System) (m : MNo) (inside : m.0 < length k.machines) (s : IsSound 
       → IsSound (record k { book = log'; machines = set k.machines m.0 x'; own = own' })
   at_parts x x' log log' own own' ex el eo h = rw (ex, el, eo) h
 
-  wanted_sound : (asked : Call) (x' : PlainMachine) (log' : BookRun) (own' : List Made) → next_act (machine_at k m) ≡ act.Call asked → Wanted (machine_at k m) asked k.book k.own x' log' own'
+  unmade_sound : (asked : Call) (x' : PlainMachine) (log' : BookRun) (own' : List Made) → next_act (machine_at k m) ≡ act.Call asked → Unmade (machine_at k m) m asked k.book k.own x' log' own'
       → IsSound (record k { book = log'; machines = set k.machines m.0 x'; own = own' })
-  wanted_sound asked x' log' own' e want =
-      let memory = memory_is k.book asked want.makes in
+  unmade_sound asked x' log' own' e want =
+      let memory = memory_is k.book.limits asked k.book.state want.makes in
       at_parts _ x' k.book log' k.own own' want.machine want.same want.none (wants memory.0 (e ∙ ap act.Call memory.1))
 
   -- whatever a call comes to
@@ -393,10 +398,10 @@ module _ (k : System) (m : MNo) (inside : m.0 < length k.machines) (s : IsSound 
       → IsSound (record k { book = log'; machines = set k.machines m.0 x'; own = own' })
   answers asked x' log' own' e (inl done) = accepted_sound k m asked x' log' own' inside s e done
   answers asked x' log' own' e (inr (inl stop)) = at_parts _ x' k.book log' k.own own' stop.machine stop.same stop.none (stops stop.over)
-  answers asked x' log' own' e (inr (inr (inl want))) = wanted_sound asked x' log' own' e want
-  answers asked x' log' own' e (inr (inr (inr declined))) = absurd (declined.unmet (granted k m asked inside s e declined.lasts) mine.has)
+  answers asked x' log' own' e (inr (inr (inl want))) = unmade_sound asked x' log' own' e want
+  answers asked x' log' own' e (inr (inr (inr declined))) = absurd (declined.unmet (granted k m asked inside s e declined.lasts))
 
-  pub does : (a : Act) (choice : Choice) (k' : System) → HasFewCases choice.ask → next_act (machine_at k m) ≡ a → Does a k m choice k' → IsSound k'
+  pub does : (a : Act) (choice : Choice) (k' : System) → HasFewCases choice.ask → next_act (machine_at k m) ≡ a → DoesAct a k m choice k' → IsSound k'
   does (act.Call asked) choice k' few e d = subst IsSound (sym d.4) (answers asked d.0 d.1 d.2 e d.3)
   does act.Pop choice k' few e d = subst IsSound (sym d) (pops (own_processor X.hand) (queue_of k.queues (own_processor X.hand)) refl refl e)
   does act.Push choice k' few e d = subst IsSound (sym d) (pushes X.hand.to_store choice.push_refused refl e)

@@ -42,7 +42,7 @@ use Rattle.gmp_driver.specs.declared.registers.ProcParts.{ProcParts}
 use Rattle.gmp_driver.specs.Registers.{but, put_value, first_of}
 use Rattle.gmp_acts.specs.Hands.{PlainHand}
 use Rattle.gmp_driver.specs.Uses.{Uses}
-use Rattle.gmp_acts.specs.Hands.{hand_after, goes_on, retold, gone, returned}
+use Rattle.gmp_acts.specs.Hands.{hand_after, left_by, retold, called_from, running_again}
 use Rattle.gmp_acts.specs.System.{held_number, called_number, is_ticket, in_hand}
 use Rattle.gmp_acts.proofs.Tracks.{Tracks, tracks_apart, tracks_gain, tracks_lose}
 
@@ -220,11 +220,11 @@ pub retold_number : (w : Woke) (o : Option (HeldParts Unit)) → held_number (re
 retold_number w None = refl
 retold_number w (Some h) = refl
 
-pub gone_number : (o : Option (HeldParts Unit)) → called_number (gone o) ≡ held_number o
+pub gone_number : (o : Option (HeldParts Unit)) → called_number (called_from o) ≡ held_number o
 gone_number None = refl
 gone_number (Some h) = refl
 
-pub returned_number : (number : ℕ) (o : Option (CalledParts Unit)) → held_number (returned number o) ≡ called_number o
+pub returned_number : (number : ℕ) (o : Option (CalledParts Unit)) → held_number (running_again number o) ≡ called_number o
 returned_number number None = refl
 returned_number number (Some c) = refl
 
@@ -306,7 +306,7 @@ module _ (m : MNo) (old new : Table) (hand : PlainHand) where
       let now : tick q g (record { status = s; epoch = epoch }) ≡ 0 = tick_row q g (s) (epoch) unout in
       omega (arith, was, now))
 
-  starts_turn : (h : GNo) (answer : Reply) → hand.to_store ≡ None → Step.Starts h answer old new → Turn m old new hand (goes_on answer hand)
+  starts_turn : (h : GNo) (answer : Reply) → hand.to_store ≡ None → Step.Starts h answer old new → Turn m old new hand (left_by answer hand)
   starts_turn h (reply.Ticket r) store (dormant, next, is) = readies_turn _ _ h status.Dormant (Some r) dormant refl refl (ap Some next) (ap rows is) store
   starts_turn h (reply.Fault fault.NoSuchBody) store (none, is) = stays (ap rows is) (on_same _ hand None store refl)
   starts_turn h (reply.Fault fault.AlreadyStarted) store (none, is) = stays (ap rows is) (on_same _ hand None store refl)
@@ -322,7 +322,7 @@ module _ (m : MNo) (old new : Table) (hand : PlainHand) where
     by_status None is k = absurd cc
     by_status (Some s) is k = let parts = parked_free s (let same : is_parked s ≡ true = cc in same) in (s, is, parts.0, parts.1)
 
-  wakes_turn : (h : GNo) (answer : Reply) → hand.to_store ≡ None → Step.Readies h answer old new → Turn m old new hand (goes_on answer hand)
+  wakes_turn : (h : GNo) (answer : Reply) → hand.to_store ≡ None → Step.Readies h answer old new → Turn m old new hand (left_by answer hand)
   wakes_turn h (reply.Ticket r) store (parked, next, is) =
       let p = parked_at h parked in readies_turn _ _ h p.0 (Some r) p.1 p.2 p.3 (ap Some next) (ap rows is) store
   wakes_turn h (reply.Fault fault.NoSuchBody) store (none, is) = stays (ap rows is) (on_same _ hand None store refl)
@@ -341,11 +341,11 @@ module _ (m : MNo) (old new : Table) (hand : PlainHand) where
   waits_turn : (g : GNo) (why : Kind) (offers : List Offer) (until : Option ℕ) → IsRunning old g m → new ≡ made_wait old g why offers until → Turn m old new hand (record hand { held = None })
   waits_turn g why offers until running is = leaves_turn g _ _ running refl refl (ap rows is)
 
-  sleeps_turn : (g : GNo) (until : ℕ) (answer : Reply) → IsRunning old g m → Step.Sleeps g until answer old new → Turn m old new hand (goes_on answer hand)
+  sleeps_turn : (g : GNo) (until : ℕ) (answer : Reply) → IsRunning old g m → Step.Sleeps g until answer old new → Turn m old new hand (left_by answer hand)
   sleeps_turn g until reply.Waits running is = waits_turn g _ _ _ running is
   sleeps_turn g until _ running h = absurd h
 
-  goparks_turn : (g : GNo) (answer : Reply) → IsRunning old g m → Step.Goparks g answer old new → Turn m old new hand (goes_on answer hand)
+  goparks_turn : (g : GNo) (answer : Reply) → IsRunning old g m → Step.Goparks g answer old new → Turn m old new hand (left_by answer hand)
   goparks_turn g reply.Waits running is = waits_turn g _ _ _ running is
   goparks_turn g _ running h = absurd h
 
@@ -405,7 +405,7 @@ module _ (m : MNo) (old new : State) (hand : PlainHand) (store : hand.to_store �
   communicates_turn w (case.Send (Some c) v) told (_, never, told_is, is, rest) = absurd never
   communicates_turn w (case.Recv (Some c)) told (_, never, told_is, is, rest) = absurd never
 
-  deals_turn : (g : GNo) (c : Case) (answer : Reply) → IsRunning old.table g m → Step.Deals g c answer old new → Turn m old.table new.table hand (goes_on answer hand)
+  deals_turn : (g : GNo) (c : Case) (answer : Reply) → IsRunning old.table g m → Step.Deals g c answer old new → Turn m old.table new.table hand (left_by answer hand)
   deals_turn g c (reply.Sent to) running (made, h) = communicates_turn _ c _ h
   deals_turn g c (reply.Got v sent from) running (made, h) = communicates_turn _ c _ h
   deals_turn g c (reply.Fault fault.SendOnClosed) running (made, h) = communicates_turn _ c _ h
@@ -414,27 +414,27 @@ module _ (m : MNo) (old new : State) (hand : PlainHand) (store : hand.to_store �
   deals_turn g c _ running h = absurd h
 
   selects_turn : (g : GNo) (cases : List Case) (has_default : Bool) (until : Option ℕ) (answer : Reply) → IsRunning old.table g m
-      → Step.Selects g cases has_default until answer old new → Turn m old.table new.table hand (goes_on answer hand)
+      → Step.Selects g cases has_default until answer old new → Turn m old.table new.table hand (left_by answer hand)
   selects_turn g cases has_default until (reply.Chose i told) running (made, c, at, h) = communicates_turn _ c told h
   selects_turn g cases has_default until reply.Default running (made, allowed, none, (is, rest, more)) = stays (ap rows is) (on_same _ hand None store refl)
   selects_turn g cases has_default until reply.Waits running (made, no_default, (blocked, is, rest, more)) = waits_turn m old.table new.table hand g _ _ _ running is
   selects_turn g cases has_default until (reply.Fault fault.NoSuchChannel) running (made, (is, rest, more)) = stays (ap rows is) (on_same _ hand None store refl)
   selects_turn g cases has_default until _ running h = absurd h
 
-  closes_turn : (c : Option CNo) (answer : Reply) → Step.Closes c answer old new → Turn m old.table new.table hand (goes_on answer hand)
+  closes_turn : (c : Option CNo) (answer : Reply) → Step.Closes c answer old new → Turn m old.table new.table hand (left_by answer hand)
   closes_turn (Some c) (reply.Closed n) (made, open_, channels, is, rest, more) = woken (close_answer c) (close_waits c) (ap rows is) (on_same _ hand None store refl)
   closes_turn (Some c) (reply.Fault fault.CloseOfClosed) (made, closed, (is, rest, more)) = stays (ap rows is) (on_same _ hand None store refl)
   closes_turn (Some c) (reply.Fault fault.NoSuchChannel) (made, (is, rest, more)) = stays (ap rows is) (on_same _ hand None store refl)
   closes_turn None (reply.Fault fault.CloseOfNil) (is, rest, more) = stays (ap rows is) (on_same _ hand None store refl)
   closes_turn _ _ h = absurd h
 
-  makes_turn : (limits : Limits) (capacity : ℕ) (answer : Reply) → Step.OnChannels (Step.Makes limits capacity answer) old new → Turn m old.table new.table hand (goes_on answer hand)
+  makes_turn : (limits : Limits) (capacity : ℕ) (answer : Reply) → Step.OnChannels (Step.Makes limits capacity answer) old new → Turn m old.table new.table hand (left_by answer hand)
   makes_turn limits capacity (reply.Channel c) (h, is, more) = stays (ap rows is) (on_same _ hand None store refl)
   makes_turn limits capacity (reply.Fault fault.BadCapacity) (h, is, more) = stays (ap rows is) (on_same _ hand None store refl)
   makes_turn limits capacity (reply.Fault fault.TooManyChannels) (h, is, more) = stays (ap rows is) (on_same _ hand None store refl)
   makes_turn limits capacity _ (h, is, more) = absurd h
 
-  tells_turn : (number : CNo → ℕ) (c : Option CNo) (answer : Reply) → Step.OnChannels (Step.Tells number c answer) old new → Turn m old.table new.table hand (goes_on answer hand)
+  tells_turn : (number : CNo → ℕ) (c : Option CNo) (answer : Reply) → Step.OnChannels (Step.Tells number c answer) old new → Turn m old.table new.table hand (left_by answer hand)
   tells_turn number c (reply.Number n) (h, is, more) = stays (ap rows is) (on_same _ hand None store refl)
   tells_turn number c (reply.Fault fault.NoSuchChannel) (h, is, more) = stays (ap rows is) (on_same _ hand None store refl)
   tells_turn number c _ (h, is, more) = absurd h

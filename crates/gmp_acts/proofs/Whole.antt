@@ -81,17 +81,22 @@ ready_is k r = by_row (slice_get k.book.state.table.goroutines r.g.0) where
   by_row None = (refl, omega arith)
   by_row (Some x) = (row_one r x.status (x.epoch == r.epoch), row_most x.status (x.epoch == r.epoch))
 
-pub headline_of : (k : System) → IsSound k → Headline k.book.limits k.book.bodies k.book.capacities k
+pub headline_of : (k : System) → IsSound k → Headline k.book.run k.book.limits k.book.bodies k.book.capacities k
 headline_of k s = record {
+  opened = record { run = refl; limits = refl; bodies = refl; capacities = refl };
+  machines = s.count;
   legal = s.legal;
-  calls = λ m. ap (λ (l : List Made). map (λ (x : Made). (x.call, x.reply)) (filter (λ (x : Made). x.m.0 == m.0) l)) (sym s.told) ∙ own_is_made k.book.history m;
+  calls = λ m. ap (λ (l : List Made). map (λ (x : Made). (x.call, x.reply)) (filter (λ (x : Made). x.m.0 == m.0) l)) (sym s.own) ∙ own_is_made k.book.history m;
   held_once = λ m n g a b. (one_each k.book.limits k.book.bodies k.book.capacities k.book.history k.book.state s.legal).one_machine g m n (held_by k m g s a) (held_by k n g s b);
-  runs = λ m g inside goes. ((s.each m inside).sees goes).runs g;
-  in_call = λ m g inside goes. ((s.each m inside).sees goes).calls g;
+  runs = λ m g inside goes. ((s.each m (there m inside)).sees goes).runs g;
+  in_call = λ m g inside goes. ((s.each m (there m inside)).sees goes).calls g;
   claimed_once = λ r. claimed_at_most_once k.book.limits (opening k.book.limits k.book.bodies k.book.capacities) k.book.state k.book.history r s.legal;
   one_place = λ r goes. (let all = s.all_tickets r goes in let ready = (ready_is k r).0 in omega (arith, all, ready));
-  one_at_most = λ r. (let most = s.tickets r in let ready = ready_is k r in let sum = ready.0 in let one = ready.1 in omega (arith, most, sum, one));
-}
+  one_at_most = λ r. (let most = s.tickets r in let sum = (ready_is k r).0 in omega (arith, most, sum));
+  once = λ r. (ready_is k r).1;
+} where
+  there : (m : MNo) → m.0 < k.book.limits.machines → m.0 < length k.machines
+  there m inside = (let e = s.count in omega (arith, e, inside))
 
 -- The opening
 
@@ -202,7 +207,7 @@ module _ (run : ℕ) (limits : Limits) (bodies : ℕ) (capacities : List ℕ) (a
       record {
         within = are;
         legal = refl;
-        told = refl;
+        own = refl;
         count = count;
         queues = length-replicate limits.procs [];
         each = λ m l. (let inside : m.0 < limits.machines = omega (arith, l, count) in subst (Agrees (opening_run run limits bodies capacities) m) (sym (at_start m inside)) (starts m inside));

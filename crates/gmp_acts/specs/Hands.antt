@@ -7,10 +7,8 @@ use Rattle.gmp_seq.specs.declared.call.Call.{Call}
 use Rattle.gmp_seq.specs.declared.call.Call.TheVariants as call
 use Rattle.gmp_seq.specs.declared.call.Reply.{Reply}
 use Rattle.gmp_seq.specs.declared.call.Reply.TheVariants as reply
-use Rattle.gmp_seq.specs.declared.status.Status.{Status}
-use Rattle.gmp_seq.specs.declared.status.Status.TheVariants.{Ready}
 use Rattle.gmp_seq.specs.Step.{ticket_in, woke_after}
-use Rattle.gmp_seq.specs.Table.{Table, status_at}
+use Rattle.gmp_seq.specs.Table.{Table, stored_at}
 use Rattle.gmp_driver.specs.declared.registers.CalledParts.{CalledParts}
 use Rattle.gmp_driver.specs.declared.registers.HeldParts.{HeldParts}
 use Rattle.gmp_driver.specs.declared.registers.Registers.{Registers}
@@ -26,14 +24,9 @@ PlainMachine = Machine Unit Unit
 
 -- Goroutines in hand
 
--- what a ready goroutine is to be told
-abbrev pub told_by : Option Status → Woke
-told_by (Some (Ready place answer)) = answer
-told_by _ = woke.First
-
 -- the goroutine of a readiness, as the machine that claims it holds it
-abbrev pub claimed : Table → Readiness → HeldParts Unit
-claimed t r = record { g = r.g; woke = told_by (status_at t r.g); body = tt }
+abbrev pub claimed_parts : Table → Readiness → HeldParts Unit
+claimed_parts t r = record { g = r.g; woke = stored_at t r.g; body = tt }
 
 -- the same goroutine, to be told this
 abbrev pub retold : {T : Type 0} → Woke → Option (HeldParts T) → Option (HeldParts T)
@@ -41,20 +34,20 @@ retold answer None = None
 retold answer (Some h) = Some (record h { woke = answer })
 
 -- it goes into its blocking call
-abbrev pub gone : {T : Type 0} → Option (HeldParts T) → Option (CalledParts T)
-gone None = None
-gone (Some h) = Some (record { g = h.g; body = h.body })
+abbrev pub called_from : {T : Type 0} → Option (HeldParts T) → Option (CalledParts T)
+called_from None = None
+called_from (Some h) = Some (record { g = h.g; body = h.body })
 
 -- it comes back with this number
-abbrev pub returned : {T : Type 0} → ℕ → Option (CalledParts T) → Option (HeldParts T)
-returned number None = None
-returned number (Some c) = Some (record { g = c.g; woke = woke.Number number; body = c.body })
+abbrev pub running_again : {T : Type 0} → ℕ → Option (CalledParts T) → Option (HeldParts T)
+running_again number None = None
+running_again number (Some c) = Some (record { g = c.g; woke = woke.Number number; body = c.body })
 
--- what the goroutine that asked leaves: it waits, and is back in the book; or it goes on, told the reply, and the ticket that the reply gives
--- out is to store
-abbrev pub goes_on : Reply → PlainHand → PlainHand
-goes_on reply.Waits hand = record hand { held = None }
-goes_on answer hand = record hand { held = retold (woke_after answer) hand.held; to_store = ticket_in answer }
+-- what the goroutine that asked leaves. If it waits it is in the book again. If it goes on it is told the reply, and the ticket that the
+-- reply gives out is to store.
+abbrev pub left_by : Reply → PlainHand → PlainHand
+left_by reply.Waits hand = record hand { held = None }
+left_by answer hand = record hand { held = retold (woke_after answer) hand.held; to_store = ticket_in answer }
 
 -- what the machine holds once its call was answered so, where this was the table before
 abbrev pub hand_after : Table → Call → Reply → PlainHand → PlainHand
@@ -63,12 +56,12 @@ hand_after t call.Acquire answer hand = hand
 hand_after t call.Take (reply.Ticket r) hand = record hand { to_claim = Some r }
 hand_after t call.Take answer hand = hand
 hand_after t (call.Put r) answer hand = but (put_value hand.to_store) hand
-hand_after t (call.Claim r) answer hand = record hand { to_claim = None; held = Some (claimed t r) }
+hand_after t (call.Claim r) answer hand = record hand { to_claim = None; held = Some (claimed_parts t r) }
 hand_after t call.Yield answer hand = record hand { held = None }
 hand_after t call.Exit answer hand = record hand { held = None }
-hand_after t call.Enter answer hand = record hand { processor = None; held = None; called = gone hand.held }
+hand_after t call.Enter answer hand = record hand { processor = None; held = None; called = called_from hand.held }
 hand_after t (call.Leave number) (reply.Runs p) hand =
-    record hand { processor = Some (record { p = p; owner = tt }); held = returned number hand.called; called = None }
+    record hand { processor = Some (record { p = p; owner = tt }); held = running_again number hand.called; called = None }
 hand_after t (call.Leave number) answer hand = record hand { called = None }
 hand_after t call.Declare answer hand = record hand { processor = None }
 hand_after t call.Spin answer hand = hand
@@ -79,7 +72,7 @@ hand_after t call.Bare answer hand = hand
 hand_after t call.Park answer hand = hand
 hand_after t (call.Tick moment) answer hand = hand
 -- go, make, send, recv, close, len, cap, select, sleep, gopark, ready
-hand_after t asked answer hand = goes_on answer hand
+hand_after t asked answer hand = left_by answer hand
 
 -- what it holds once its make wanted memory: its goroutine is to be told so
 abbrev pub hand_unmade : PlainHand → PlainHand

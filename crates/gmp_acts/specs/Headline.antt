@@ -14,7 +14,7 @@ use Rattle.gmp_seq.specs.Table.{IsCalling, IsRunning}
 use Rattle.gmp_driver.specs.declared.place.Place.TheVariants as place
 use Rattle.gmp_acts.specs.Hands.{PlainMachine}
 use Rattle.gmp_driver.specs.Registers.{nothing}
-use Rattle.gmp_acts.specs.System.{BookRun, System, calls_of, machine_at, own_of, held_number, called_number, places_of, readied}
+use Rattle.gmp_acts.specs.System.{BookRun, System, count_of, machine_at, own_of, held_number, called_number, places_of, readied}
 
 -- while the run lasts
 abbrev pub Lasts : System → Type 0 → Type 0
@@ -30,47 +30,7 @@ CallsInHand k m g = called_number (machine_at k m).hand.called ≡ Some g
 abbrev pub HasInHand : System → MNo → GNo → Type 0
 HasInHand k m g = RunsInHand k m g ⊎ CallsInHand k m g
 
--- The headline, for machines that began with these limits, so many bodies and these capacities.
-pub record Headline (limits : Limits) (bodies : ℕ) (capacities : List ℕ) (k : System) : Type 0 where
-  -- the book holds one legal run
-  pub legal : IsLegal limits bodies capacities k.book.history k.book.state
-  -- each machine's calls, each once, in its order and with that run's replies
-  pub calls : (m : MNo) → own_of k m ≡ made k.book.history m
-  -- no goroutine is held by two machines, and while the run lasts it is the machine that its status names
-  pub held_once : (m n : MNo) (g : GNo) → HasInHand k m g → HasInHand k n g → m ≡ n
-  pub runs : (m : MNo) (g : GNo) → m.0 < length k.machines → Lasts k (RunsInHand k m g ↔ IsRunning k.book.state.table g m)
-  pub in_call : (m : MNo) (g : GNo) → m.0 < length k.machines → Lasts k (CallsInHand k m g ↔ IsCalling k.book.state.table g m)
-  -- each readiness is claimed at most once
-  pub claimed_once : (r : Readiness) → count_by (claims r) k.book.history ≤ 1
-  -- every ready goroutine's ticket stands in exactly one place, and no other ticket stands anywhere
-  pub one_place : (r : Readiness) → Lasts k (places_of r k ≡ readied r k.book.state.table)
-  pub one_at_most : (r : Readiness) → places_of r k ≤ 1
-
--- Machine m claims the ticket that it holds to claim: that is the one entry more.
-pub record Claims (k : System) (m : MNo) (k' : System) : Type 0 where
-  pub ticket : Readiness
-  pub has_ticket : (machine_at k m).hand.to_claim ≡ Some ticket
-  pub entry : k'.book.history ≡ k.book.history ++ record { m = m; k = calls_of k.book m; call = Claim ticket; reply = Held } ∷ []
-
--- No claim is refused: while the run lasts, an act at Claim makes its entry, once fresh is spent.
-abbrev pub NoClaimIsRefused : System → MNo → System → Type 0
-NoClaimIsRefused k m k' = m.0 < length k.machines → (machine_at k m).place ≡ place.Claim → (machine_at k m).fresh ≡ false → Lasts k (Claims k m k')
-
--- The opening
-
--- machine m at its start, with nothing in hand, its pass unused
-abbrev pub machine_at_start : ℕ → Limits → ℕ → PlainMachine
-machine_at_start run limits m = record {
-  run = run;
-  procs = limits.procs;
-  place = place.Start;
-  fresh = false;
-  turns = 0;
-  pass = Some (record { run = run; m = record { 0 = m }; calls = 0; seen = 0 });
-  hand = nothing;
-}
-
--- what was told at the opening stays
+-- what was given at the opening stays
 pub record SameOpening (old new : BookRun) : Type 0 where
   pub run : new.run ≡ old.run
   pub limits : new.limits ≡ old.limits
@@ -86,6 +46,50 @@ opening_run run limits bodies capacities = record {
   capacities = capacities;
   history = [];
   state = opening limits bodies capacities;
+}
+
+-- The headline, for machines that began with these limits, so many bodies and these capacities.
+pub record Headline (run : ℕ) (limits : Limits) (bodies : ℕ) (capacities : List ℕ) (k : System) : Type 0 where
+  pub opened : SameOpening (opening_run run limits bodies capacities) k.book
+  pub machines : length k.machines ≡ limits.machines
+  -- the book holds one legal run
+  pub legal : IsLegal limits bodies capacities k.book.history k.book.state
+  -- each machine's calls, each once, in its order and with that run's replies
+  pub calls : (m : MNo) → own_of k m ≡ made k.book.history m
+  -- no goroutine is held by two machines, and while the run lasts that machine holds it which its status names
+  pub held_once : (m n : MNo) (g : GNo) → HasInHand k m g → HasInHand k n g → m ≡ n
+  pub runs : (m : MNo) (g : GNo) → m.0 < limits.machines → Lasts k (RunsInHand k m g ↔ IsRunning k.book.state.table g m)
+  pub in_call : (m : MNo) (g : GNo) → m.0 < limits.machines → Lasts k (CallsInHand k m g ↔ IsCalling k.book.state.table g m)
+  -- each readiness is claimed at most once
+  pub claimed_once : (r : Readiness) → count_by (claims r) k.book.history ≤ 1
+  -- every ready goroutine's ticket stands in exactly one place, and no other ticket stands anywhere
+  pub one_place : (r : Readiness) → Lasts k (places_of r k ≡ readied r k.book.state.table)
+  -- at any time a ticket stands in one place at most, and only that of a ready goroutine
+  pub one_at_most : (r : Readiness) → places_of r k ≤ readied r k.book.state.table
+  pub once : (r : Readiness) → readied r k.book.state.table ≤ 1
+
+-- Machine m claims the ticket that it holds to claim: that is the one entry more.
+pub record EntersClaim (k : System) (m : MNo) (k' : System) : Type 0 where
+  pub ticket : Readiness
+  pub has_ticket : (machine_at k m).hand.to_claim ≡ Some ticket
+  pub entry : k'.book.history ≡ k.book.history ++ record { m = m; k = count_of k.book m; call = Claim ticket; reply = Held } ∷ []
+
+-- No claim is refused: while the run lasts, an act at Claim makes its entry, once fresh is spent.
+abbrev pub NoClaimIsRefused : System → MNo → System → Type 0
+NoClaimIsRefused k m k' = m.0 < length k.machines → (machine_at k m).place ≡ place.Claim → (machine_at k m).fresh ≡ false → Lasts k (EntersClaim k m k')
+
+-- The opening
+
+-- machine m at its start, with nothing in hand, its pass unused
+abbrev pub machine_at_start : ℕ → Limits → ℕ → PlainMachine
+machine_at_start run limits m = record {
+  run = run;
+  procs = limits.procs;
+  place = place.Start;
+  fresh = false;
+  turns = 0;
+  pass = Some (record { run = run; m = record { 0 = m }; calls = 0; seen = 0 });
+  hand = nothing;
 }
 
 -- no call, empty queues, and each machine at its start

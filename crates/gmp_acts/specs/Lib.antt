@@ -1,5 +1,6 @@
 pub mod Hands
 pub mod System
 pub mod Acts
+pub mod Kept
 pub mod Sound
 pub mod Headline

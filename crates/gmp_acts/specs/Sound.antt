@@ -18,7 +18,7 @@ use Rattle.gmp_driver.specs.Fits.{IsDriver}
 use Rattle.gmp_driver.specs.Seen.{own_processor}
 use Rattle.gmp_acts.specs.Acts.{HasFewCases}
 use Rattle.gmp_acts.specs.Hands.{PlainMachine}
-use Rattle.gmp_acts.specs.System.{BookRun, System, Has, calls_of, entries_made, machine_at, held_number, called_number, elsewhere, out, made_of}
+use Rattle.gmp_acts.specs.System.{BookRun, System, Has, count_of, count_of_all, machine_at, held_number, called_number, elsewhere, out, made_of}
 
 -- What the book says of a machine at each place
 
@@ -63,8 +63,8 @@ pub record Agrees (book : BookRun) (m : MNo) (x : PlainMachine) : Type 0 where
   pub has_pass : x.pass ≡ Some pass
   pub run : (x.run ≡ book.run) × (pass.run ≡ book.run)
   pub its : pass.m ≡ m
-  pub turn : pass.calls ≡ calls_of book m
-  pub seen : pass.seen ≤ entries_made book
+  pub turn : pass.calls ≡ count_of book m
+  pub seen : pass.seen ≤ count_of_all book
   pub procs : x.procs ≡ book.limits.procs
   pub few : HasFewAt x.place
   pub ended : IsEnd x.place → book.state.outcome ≢ None
@@ -75,7 +75,7 @@ pub record Agrees (book : BookRun) (m : MNo) (x : PlainMachine) : Type 0 where
 pub record IsSound (k : System) : Type 0 where
   pub within : AreLimits k.book.limits k.book.bodies k.book.capacities
   pub legal : IsLegal k.book.limits k.book.bodies k.book.capacities k.book.history k.book.state
-  pub told : map made_of k.book.history ≡ k.own
+  pub own : map made_of k.book.history ≡ k.own
   pub count : length k.machines ≡ k.book.limits.machines
   pub queues : length k.queues ≡ k.book.limits.procs
   pub each : (m : MNo) → m.0 < length k.machines → Agrees k.book m (machine_at k m)

@@ -16,7 +16,7 @@ use Rattle.gmp_seq.specs.Machines.{Holds}
 use Rattle.gmp_seq.specs.State.{State}
 use Rattle.gmp_seq.specs.Table.{Table, IsCalling, IsRunning, is_out, is_shelved}
 use Rattle.gmp_acts.specs.declared.made.Made.{Made}
-use Rattle.gmp_driver.specs.declared.place.Place.TheVariants.{Done}
+use Rattle.gmp_driver.specs.declared.place.Place.TheVariants.{Start}
 use Rattle.gmp_driver.specs.declared.registers.CalledParts.{CalledParts}
 use Rattle.gmp_driver.specs.declared.registers.HeldParts.{HeldParts}
 use Rattle.gmp_driver.specs.Registers.{nothing}
@@ -33,11 +33,11 @@ pub record BookRun : Type 0 where
   pub state : State
 
 -- how many calls of the machine were accepted, and how many of all
-abbrev pub calls_of : BookRun → MNo → ℕ
-calls_of book m = slice_index book.state.counts m.0
+abbrev pub count_of : BookRun → MNo → ℕ
+count_of book m = slice_index book.state.counts m.0
 
-abbrev pub entries_made : BookRun → ℕ
-entries_made book = sum book.state.counts
+abbrev pub count_of_all : BookRun → ℕ
+count_of_all book = sum book.state.counts
 
 -- the book's run, a list of tickets for each processor's queue, the machines, and the calls that they made with what they were told
 pub record System : Type 0 where
@@ -46,9 +46,9 @@ pub record System : Type 0 where
   pub machines : List PlainMachine
   pub own : List Made
 
--- what a number that no machine has stands for
+-- what `machine_at` answers for a number that no machine has
 abbrev pub no_machine : PlainMachine
-no_machine = record { run = 0; procs = 1; place = Done; fresh = false; turns = 0; pass = None; hand = nothing }
+no_machine = record { run = 0; procs = 1; place = Start; fresh = false; turns = 0; pass = None; hand = nothing }
 
 abbrev pub machine_at : System → MNo → PlainMachine
 machine_at k m = slice_index_or k.machines m.0 no_machine
@@ -99,19 +99,21 @@ in_hand r hand = is_ticket r hand.to_claim + is_ticket r hand.to_store
 abbrev pub in_queue : Readiness → List Readiness → ℕ
 in_queue r queue = count_by (is_same r) queue
 
--- 1 where the goroutine has this epoch, and a status that passes the test
-abbrev pub has : (Status → Bool) → Readiness → Table → ℕ
-has test r t = if option_map_or (λ (x : Goroutine). test x.status && (x.epoch == r.epoch)) (slice_get t.goroutines r.g.0) false then 1 else 0
+-- 1 where the goroutine has this epoch and a status that passes the test
+abbrev pub one_if : (Status → Bool) → Readiness → Table → ℕ
+one_if test r t = if option_map_or (λ (x : Goroutine). test x.status && (x.epoch == r.epoch)) (slice_get t.goroutines r.g.0) false then 1 else 0
 
--- 1 where the ticket is on the shelf; 1 where it is given out; 1 where the goroutine is ready by it
+-- 1 where the ticket is on the shelf
 abbrev pub on_shelf : Readiness → Table → ℕ
-on_shelf r t = has is_shelved r t
+on_shelf r t = one_if is_shelved r t
 
+-- 1 where the ticket is given out
 abbrev pub out : Readiness → Table → ℕ
-out r t = has is_out r t
+out r t = one_if is_out r t
 
+-- 1 where the goroutine is ready by this readiness
 abbrev pub readied : Readiness → Table → ℕ
-readied r t = has is_ready r t
+readied r t = one_if is_ready r t
 
 -- in how many queues and hands a ticket stands
 abbrev pub elsewhere : Readiness → System → ℕ

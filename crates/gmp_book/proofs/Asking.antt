@@ -20,7 +20,8 @@ use Rattle.gmp_seq.specs.Machines.{Machines}
 use Rattle.gmp_seq.specs.State.{State}
 use Rattle.gmp_seq.specs.Step.{Deals, Effect, Selects, is_wait, ticket_in}
 use Rattle.gmp_seq.specs.Table.{Table}
-use Rattle.gmp_ledger.specs.Grants.{NeedsMemory, WantsMemory}
+use Rattle.gmp_seq.specs.Needs.{WantsMemory}
+use Rattle.gmp_ledger.specs.Grants.{NeedsMemory}
 use Rattle.gmp_ledger.specs.Handed.{by_held, names_other}
 use Rattle.gmp_ledger.specs.Known.{known_by}
 use Rattle.gmp_ledger.specs.Refusals.{Says}

@@ -14,9 +14,9 @@ use Rattle.gmp_seq.specs.declared.call.Reply.TheVariants as reply
 use Rattle.gmp_seq.specs.Channels.{Channel, new_channel}
 use Rattle.gmp_seq.specs.Run.{IsStep}
 use Rattle.gmp_seq.specs.State.{State}
-use Rattle.gmp_seq.specs.Step.{Effect, Makes}
+use Rattle.gmp_seq.specs.Step.{Effect, Makes, counted_one}
 use Rattle.gmp_seq.specs.Table.{IsRunning}
-use Rattle.gmp_check.specs.Calls.{IsMake, counted_one}
+use Rattle.gmp_check.specs.Calls.{IsMake}
 use Rattle.gmp_check.specs.Decides.{Leads}
 
 pub on_error : {T E : Type 0} (r : Result T E) (P : Type 0) → P → OnErr r P

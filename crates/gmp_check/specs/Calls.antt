@@ -41,8 +41,3 @@ is_ask call.Gopark = true
 is_ask (call.Ready h) = true
 is_ask call.Enter = true
 is_ask _ = false
-
--- m made one entry more, which was answered so
-abbrev pub counted_one : Limits → MNo → Reply → State → State
-counted_one limits m reply s =
-    let counts : List ℕ = slice_set s.counts m.0 (slice_index s.counts m.0 + 1) in record s { counts = counts; outcome = outcome_after limits reply counts }

@@ -3,8 +3,8 @@ ghost use Rattle.std.specs.Prelude.{◌≡◌, ◌<◌, ◌^◌, length, slice_g
 ghost use Rattle.gmp_seq.specs.Run.{IsStep};
 ghost use Rattle.gmp_seq.specs.State.{opening};
 ghost use Rattle.gmp_seq.specs.Waits.{can, first_on, waiters};
-ghost use Rattle.gmp_seq.specs.Step.{outcome_after, some_can};
-ghost use Rattle.gmp_check.specs.Calls.{IsMake, counted_one};
+ghost use Rattle.gmp_seq.specs.Step.{counted_one, outcome_after, some_can};
+ghost use Rattle.gmp_check.specs.Calls.{IsMake};
 ghost use Rattle.gmp_check.specs.Decides.{Decides, Leads};
 ghost use Rattle.gmp_check.specs.Reached.{IsReached, IsReachedUnder};
 

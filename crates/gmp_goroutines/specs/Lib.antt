@@ -1,7 +1,6 @@
 pub mod Present
 pub mod Tied
 pub mod Served
-pub mod Stored
 pub mod Replies
 pub mod Choice
 pub mod Shelf

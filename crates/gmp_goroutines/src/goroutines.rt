@@ -6,7 +6,7 @@ ghost use Rattle.gmp_seq.specs.declared.call.Reply.{Reply};
 ghost use Rattle.gmp_seq.specs.declared.status.Kind.{Kind};
 ghost use Rattle.gmp_seq.specs.declared.status.Status.{Status};
 ghost use Rattle.gmp_seq.specs.Step.{Claims, Goparks, Puts, Readies, Resumes, Sleeps, Starts, Takes, Ticks, Yields};
-ghost use Rattle.gmp_seq.specs.Table.{IsCalling, IsRunning, RunsNothing, all_woken, epoch_at, how_many_woken, is_astir, is_outstanding, is_running_on, is_shelved, made_wait, minded, set_status, some_status, status_at};
+ghost use Rattle.gmp_seq.specs.Table.{IsCalling, IsRunning, RunsNothing, all_woken, epoch_at, how_many_woken, is_astir, is_outstanding, is_running_on, is_shelved, made_wait, minded, set_status, some_status, status_at, stored_at};
 ghost use Rattle.gmp_seq.specs.declared.call.Call.{Call};
 ghost use Rattle.gmp_seq.specs.Waits.{waiters};
 ghost use Rattle.gmp_table.specs.declared.wake.Wake.{Wake};
@@ -15,7 +15,6 @@ ghost use Rattle.gmp_table.specs.Kept.{IsListing};
 ghost use Rattle.gmp_chan.specs.Order.{are_made, rise};
 ghost use Rattle.gmp_goroutines.specs.Shelf.{Shelves, Wakes};
 ghost use Rattle.gmp_goroutines.specs.Present.{opening_present};
-ghost use Rattle.gmp_goroutines.specs.Stored.{stored_at};
 ghost use Rattle.gmp_goroutines.specs.Tied.{IsEarly};
 
 mod communicating;

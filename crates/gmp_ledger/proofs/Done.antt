@@ -1,6 +1,7 @@
 -- A step is of the goroutine and the processor that its call was handed.
 use Rattle.gmp_ledger.proofs.Common.{Call, ◌≡◌, ◌↔◌, ℕ, Bool, true, false, if◌then◌else◌, is_some, Option, None, Some, List, [], ◌∷◌, refl, sym, ap, subst, inl, inr, ◌∙◌, and_parts, false≢true, or_parts, option_map_or, Case, GNo, MNo, PNo, Readiness, Limits, Reply, Goroutine, Status, IsInOrder, Enters, Holds, State, Table, IsCalling, IsReady, IsRunning, some_status}
 use Rattle.std.specs.List.{list_any}
+use Rattle.std.specs.Option.{unwrap_or}
 use Rattle.gmp_base.specs.declared.ask.Woke.{Woke}
 use Rattle.gmp_base.specs.declared.ask.Woke.TheVariants as woke
 use Rattle.gmp_base.specs.declared.cases.Case.TheVariants as case
@@ -15,8 +16,7 @@ use Rattle.gmp_seq.proofs.Asleep.{fails_at}
 use Rattle.gmp_seq.proofs.Needed.{some_place}
 use Rattle.gmp_seq.specs.Machines.{Declares}
 use Rattle.gmp_seq.specs.Step.{ByRunning, Claims, Deals, Exits, Goparks, OnTable, Parks, Resumes, Selects, Sleeps, Yields}
-use Rattle.gmp_seq.specs.Table.{deadline_of, is_astir, is_ready_or_running, is_shelved, least_deadline, least_of, minded, set_status}
-use Rattle.gmp_goroutines.specs.Stored.{stored_at, stored_in}
+use Rattle.gmp_seq.specs.Table.{answer_of_ready, deadline_of, is_astir, is_ready_or_running, is_shelved, least_deadline, least_of, minded, set_status, stored_at}
 use Rattle.gmp_ledger.specs.Laws.{Does}
 
 -- whichever goroutine of the machine's it is, it is this one
@@ -29,7 +29,7 @@ by_caller limits m g h s P order calls here done = subst P (order.one_goroutine 
 -- what is stored for one that is ready is what it is to be told
 stored : (t : Table) (r : Readiness) (answer : Woke) → IsReady t r place.Out answer → IsReady t r place.Out (stored_at t r.g)
 stored t r answer ready =
-    let same : answer ≡ stored_at t r.g = sym (ap (λ (o : Option Goroutine). option_map_or (λ (x : Goroutine). stored_in x.status) o woke.Done) ready) in
+    let same : answer ≡ stored_at t r.g = sym (ap (λ (o : Option Goroutine). option_map_or (λ (x : Goroutine). unwrap_or (answer_of_ready x.status) woke.Done) o woke.Done) ready) in
     subst (IsReady t r place.Out) same ready
 
 claims : (m : MNo) (r : Readiness) (answer : Reply) (old new : Table) → Claims m r answer old new → IsReady old r place.Out (stored_at old r.g)

@@ -13,7 +13,7 @@ use Rattle.gmp_seq.specs.declared.call.Entry.{Entry}
 use Rattle.gmp_seq.specs.Fits.{Fits}
 use Rattle.gmp_seq.specs.Laws.{HasSizes}
 use Rattle.gmp_seq.specs.Run.{IsLegal, Run}
-use Rattle.gmp_seq.specs.Step.{Effect, Step}
+use Rattle.gmp_seq.specs.Step.{Effect, Step, counted_one}
 use Rattle.gmp_seq.proofs.Counts.{sum_after}
 use Rattle.gmp_seq.proofs.InOrder.{legal_in_order}
 use Rattle.gmp_seq.proofs.Manned.{status_of}
@@ -21,7 +21,7 @@ use Rattle.gmp_seq.proofs.Needed.{some_place}
 use Rattle.gmp_seq.proofs.Runs.{run_join}
 use Rattle.gmp_seq.proofs.Sizes.{legal_sizes}
 use Rattle.gmp_ledger.specs.Kept.{IsKept}
-use Rattle.gmp_ledger.specs.Scene.{IsYoung, counted_one}
+use Rattle.gmp_ledger.specs.Scene.{IsYoung}
 use Rattle.gmp_goroutines.proofs.Ties.{running_on}
 use Rattle.gmp_ledger.specs.Laws.{NeedsOf}
 use Rattle.gmp_ledger.proofs.Needed.{needs_of, not_false, out_test}

@@ -12,8 +12,7 @@ use Rattle.gmp_seq.specs.declared.status.Place.TheVariants.{Out}
 use Rattle.gmp_seq.specs.declared.status.Status.TheVariants.{Calling}
 use Rattle.gmp_seq.specs.State.{State}
 use Rattle.gmp_seq.specs.Step.{Deals, Exits, Goparks, Selects, Sleeps, Yields}
-use Rattle.gmp_seq.specs.Table.{IsAsleep, IsReady, minded, set_status}
-use Rattle.gmp_goroutines.specs.Stored.{stored_at}
+use Rattle.gmp_seq.specs.Table.{IsAsleep, IsReady, minded, set_status, stored_at}
 use Rattle.gmp_ledger.specs.Grants.{Leaves}
 
 -- A call of m that was handed the goroutine g or the processor p, and was answered so: who yields is ready, who exits is dead, who waits does

@@ -78,8 +78,3 @@ Chooses _ word answer s shelf = Unit {0}
 -- g comes back from the blocking call that m makes
 abbrev pub Leaves : MNo → GNo → ℕ → Reply → State → State → Type 0
 Leaves m g number reply old new = Resumes g m number reply old.table new.table × Returns m reply old.machines new.machines × SameChannels old new
-
--- the call takes memory: a channel is made
-abbrev pub WantsMemory : Limits → Call → State → Type 0
-WantsMemory limits (call.Make capacity) s = (capacity ≤ 4096) × (length s.channels < limits.channels)
-WantsMemory limits _ s = ⊥

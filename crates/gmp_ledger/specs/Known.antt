@@ -4,8 +4,7 @@ use Rattle.gmp_base.specs.declared.ask.Woke.{Woke}
 use Rattle.gmp_base.specs.declared.ask.Woke.TheVariants as woke
 use Rattle.gmp_seq.specs.declared.call.Call.{Call}
 use Rattle.gmp_seq.specs.declared.call.Call.TheVariants as call
-use Rattle.gmp_seq.specs.Table.{Table}
-use Rattle.gmp_goroutines.specs.Stored.{stored_at}
+use Rattle.gmp_seq.specs.Table.{Table, stored_at}
 
 -- a claim has what was stored for its goroutine, the end of a blocking call its number
 abbrev pub known_by : Call → Table → Option Woke

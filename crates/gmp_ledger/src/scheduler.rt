@@ -6,11 +6,12 @@ ghost use Rattle.gmp_seq.specs.declared.status.Mode.{Mode};
 ghost use Rattle.gmp_seq.specs.declared.status.Status.{Status};
 ghost use Rattle.gmp_seq.specs.Machines.{Enters, Holds, IsAwake, IsBare};
 ghost use Rattle.gmp_seq.specs.State.{SameChannels};
-ghost use Rattle.gmp_seq.specs.Step.{Effect, Exits, OnTable, Parks};
+ghost use Rattle.gmp_seq.specs.Step.{Effect, Exits, OnTable, Parks, counted_one};
 ghost use Rattle.gmp_seq.specs.Table.{IsCalling, IsRunning, RunsNothing, set_status};
 ghost use Rattle.gmp_goroutines.specs.Shelf.{Shelves};
-ghost use Rattle.gmp_ledger.specs.Grants.{Chooses, Grants, Leaves, NeedsMemory, WantsMemory};
-ghost use Rattle.gmp_ledger.specs.Scene.{IsYoung, SameRest, counted_one, state_of};
+ghost use Rattle.gmp_seq.specs.Needs.{WantsMemory};
+ghost use Rattle.gmp_ledger.specs.Grants.{Chooses, Grants, Leaves, NeedsMemory};
+ghost use Rattle.gmp_ledger.specs.Scene.{IsYoung, SameRest, state_of};
 
 mod refusing;
 

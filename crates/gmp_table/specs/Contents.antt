@@ -8,7 +8,7 @@ use Rattle.gmp_seq.specs.declared.status.Place.{Place}
 use Rattle.gmp_seq.specs.declared.status.Status.{Status}
 use Rattle.gmp_seq.specs.declared.status.Status.TheVariants.{Ready, Calling}
 use Rattle.gmp_seq.specs.State.{first_goroutine, dormant}
-use Rattle.gmp_seq.specs.Table.{Table, deadline_of}
+use Rattle.gmp_seq.specs.Table.{Table, answer_of_ready, deadline_of}
 
 -- the table, and who is on the shelf, the one to be taken next first
 pub record TableContents : Type 0 where
@@ -34,10 +34,6 @@ abbrev pub risen : List Goroutine → GNo → Place → Woke → List Goroutine
 risen rows g place answer = slice_set rows g.0 (record { status = Ready place answer; epoch = epoch_in rows g + 1 })
 
 -- what a ready goroutine is to be told
-abbrev pub answer_of_ready : Status → Option Woke
-answer_of_ready (Ready place answer) = Some answer
-answer_of_ready _ = None
-
 abbrev pub answer_in : List Goroutine → GNo → Option Woke
 answer_in rows g = option_map_or (λ (x : Goroutine). answer_of_ready x.status) (slice_get rows g.0) None
 

@@ -8,7 +8,8 @@ use Rattle.gmp_seq.specs.declared.call.Call.TheVariants as call
 use Rattle.gmp_seq.specs.declared.call.Reply.{Reply}
 use Rattle.gmp_seq.specs.declared.call.Reply.TheVariants as reply
 use Rattle.gmp_ledger.specs.Done.{Done}
-use Rattle.gmp_ledger.specs.Grants.{Chooses, WantsMemory}
+use Rattle.gmp_seq.specs.Needs.{WantsMemory}
+use Rattle.gmp_ledger.specs.Grants.{Chooses}
 use Rattle.gmp_ledger.specs.Handed.{goroutine_in, processor_in}
 use Rattle.gmp_ledger.specs.Log.{Records}
 use Rattle.gmp_ledger.specs.Refusals.{Says, refusal_in, refusal_of}

@@ -5,7 +5,7 @@ ghost use Rattle.gmp_base.specs.declared.refusal.Refusal.{Refusal};
 ghost use Rattle.gmp_seq.specs.declared.status.Kind.{Kind};
 ghost use Rattle.gmp_seq.specs.Table.{made_wait};
 ghost use Rattle.gmp_seq.specs.Waits.{offers_of};
-ghost use Rattle.gmp_ledger.specs.Grants.{WantsMemory};
+ghost use Rattle.gmp_seq.specs.Needs.{WantsMemory};
 ghost use Rattle.gmp_ledger.specs.Handed.{by_held};
 ghost use Rattle.gmp_ledger.specs.Refusals.{Says, refusal_of, why_refused};
 
