@@ -1,15 +1,14 @@
 -- Calls of goroutines.
-use Rattle.std.specs.Prelude.{◌≡◌, ℕ, ◌+◌, Bool, true, false, List, slice_index, slice_set}
+use Rattle.std.specs.Prelude.{◌≡◌, ℕ, Bool, true, false}
 use Rattle.gmp_base.specs.declared.number.GNo.{GNo}
 use Rattle.gmp_base.specs.declared.number.MNo.{MNo}
 use Rattle.gmp_seq.specs.declared.call.Call.{Call}
 use Rattle.gmp_seq.specs.declared.call.Call.TheVariants as call
-use Rattle.gmp_seq.specs.declared.call.Limits.{Limits}
 use Rattle.gmp_seq.specs.declared.call.Reply.{Reply}
 use Rattle.gmp_seq.specs.declared.status.Status.TheVariants.{Calling}
 use Rattle.gmp_seq.specs.Machines.{Enters, Returns}
 use Rattle.gmp_seq.specs.State.{State, SameChannels}
-use Rattle.gmp_seq.specs.Step.{Resumes, outcome_after}
+use Rattle.gmp_seq.specs.Step.{Resumes}
 use Rattle.gmp_seq.specs.Table.{set_status}
 
 -- g, which m runs, goes into a blocking call

@@ -1,5 +1,5 @@
 -- What a contract sees of a status table, and the words of its calls.
-use Rattle.std.specs.Prelude.{ℕ, ◌+◌, ◌-◌, Bool, true, false, Option, None, Some, List, [], ◌∷◌, slice_get, slice_set, replicate, is_some}
+use Rattle.std.specs.Prelude.{ℕ, ◌+◌, ◌-◌, Bool, true, false, Option, None, List, [], ◌∷◌, slice_get, slice_set, replicate, is_some}
 use Rattle.std.specs.Option.{option_map_or}
 use Rattle.gmp_base.specs.declared.number.GNo.{GNo}
 use Rattle.gmp_base.specs.declared.ask.Woke.{Woke}

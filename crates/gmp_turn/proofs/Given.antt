@@ -1,5 +1,5 @@
 -- What a machine hands its call suits the call.
-use Rattle.std.proofs.Common.{◌≡◌, ℕ, Bool, true, false, is_some, Option, None, Some, refl, sym, ap}
+use Rattle.std.proofs.Common.{◌≡◌, ℕ, true, is_some, Option, None, Some, refl, ap}
 use Rattle.std.specs.Option.{option_map}
 use Rattle.std.proofs.lemmas.Bool.{false≢true}
 use Rattle.gmp_base.specs.declared.number.Readiness.{Readiness}

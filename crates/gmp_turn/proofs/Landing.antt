@@ -1,5 +1,5 @@
 -- Where each call's answer leads: the registers that are filled then are those of the next place.
-use Rattle.std.proofs.Common.{◌≡◌, ◌⊎◌, inl, inr, ℕ, zero, suc, Bool, true, false, if◌then◌else◌, nat_lt, nat_le, ◌==◌, is_some, Option, None, Some, refl, ap, subst, ◌∙◌}
+use Rattle.std.proofs.Common.{◌≡◌, inl, inr, ℕ, zero, suc, Bool, true, false, if◌then◌else◌, nat_lt, nat_le, ◌==◌, is_some, None, Some, refl, ap, subst, ◌∙◌}
 use Rattle.gmp_base.specs.declared.ask.Ask.{Ask}
 use Rattle.gmp_base.specs.declared.ask.Ask.TheVariants as ask
 use Rattle.gmp_base.specs.declared.number.PNo.{PNo}

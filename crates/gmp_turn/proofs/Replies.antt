@@ -1,6 +1,5 @@
 -- How each call may be answered.
-use Rattle.std.proofs.Common.{ℕ, Bool, true, false, Option, None, Some, List}
-use Rattle.gmp_base.specs.declared.ask.Fault.TheVariants as fault
+use Rattle.std.proofs.Common.{ℕ, Bool, Option, None, Some, List}
 use Rattle.gmp_base.specs.declared.cases.Case.{Case}
 use Rattle.gmp_base.specs.declared.cases.Case.TheVariants as case
 use Rattle.gmp_base.specs.declared.number.CNo.{CNo}

@@ -1,5 +1,5 @@
 -- One book call of a machine: what it hands the call, and what becomes of both.
-use Rattle.std.specs.Prelude.{◌≡◌, ℕ, Bool, true, false, Option, Some, None, is_some, if◌then◌else◌, Result, Ok, Err, IfOk, IfErr}
+use Rattle.std.specs.Prelude.{◌≡◌, ℕ, Bool, true, Option, Some, None, is_some, if◌then◌else◌, Result, Ok, Err, IfOk, IfErr}
 use Rattle.gmp_base.specs.declared.number.MNo.{MNo}
 use Rattle.gmp_base.specs.declared.pass.Pass.{Pass}
 use Rattle.gmp_base.specs.declared.refusal.Refusal.{Refusal}
