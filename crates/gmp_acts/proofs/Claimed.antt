@@ -1,11 +1,10 @@
 -- No claim is refused.
-use Rattle.std.proofs.Common.{◌≡◌, Bool, if◌then◌else◌, List, [], ◌∷◌, ◌++◌, refl, ap, ◌∙◌, subst, inl, inr, Option, Some, is_some}
+use Rattle.std.proofs.Common.{◌≡◌, Bool, if◌then◌else◌, List, [], ◌∷◌, ◌++◌, refl, ap, ◌∙◌, subst, inl, inr, Some, is_some}
 use Rattle.gmp_base.specs.declared.number.MNo.{MNo}
 use Rattle.gmp_base.specs.declared.number.Readiness.{Readiness}
 use Rattle.gmp_seq.specs.declared.call.Call.TheVariants as call
 use Rattle.gmp_seq.specs.declared.call.Reply.{Reply}
 use Rattle.gmp_seq.specs.declared.call.Reply.TheVariants as reply
-use Rattle.gmp_seq.specs.declared.status.Mode.{Mode}
 use Rattle.gmp_acts.specs.System.{BookRun, count_of}
 use Rattle.gmp_driver.specs.declared.act.Act.{Act}
 use Rattle.gmp_driver.specs.declared.act.Act.TheVariants as act
@@ -20,13 +19,13 @@ use Rattle.gmp_acts.specs.System.{System, machine_at}
 use Rattle.gmp_acts.specs.Acts.{Acts, Answers, MakesCall, DoesAct}
 use Rattle.gmp_acts.specs.Headline.{EntersClaim, NoClaimIsRefused}
 use Rattle.gmp_acts.specs.Sound.{Agrees, IsSound}
-use Rattle.gmp_acts.proofs.Effects.{effect_reply}
 use Rattle.gmp_acts.proofs.Granted.{granted}
-use Rattle.gmp_acts.proofs.Lands.{CanReply, some_of}
+use Rattle.gmp_acts.proofs.Lands.{some_of}
+use Rattle.gmp_acts.proofs.Replies.{CanReply, replies}
 
-held_reply : (r : Readiness) (answer : Reply) (what : Option Mode) → CanReply (call.Claim r) answer what → answer ≡ reply.Held
-held_reply r reply.Held what h = refl
-held_reply r _ what h = absurd h
+held_reply : (r : Readiness) (answer : Reply) → CanReply (call.Claim r) answer → answer ≡ reply.Held
+held_reply r reply.Held h = refl
+held_reply r _ h = absurd h
 
 pub no_claim_refused : (k : System) (m : MNo) (choice : Choice) (k' : System) → IsSound k → Acts k m choice k' → NoClaimIsRefused k m k'
 no_claim_refused k m choice k' s acts inside at stale goes =
@@ -41,7 +40,7 @@ no_claim_refused k m choice k' s acts inside at stale goes =
     by_answer : (r : Readiness) → (machine_at k m).hand.to_claim ≡ Some r → next_act (machine_at k m) ≡ act.Call (call.Claim r) → (x' : PlainMachine) (book' : BookRun) (own' : List Made)
         → Answers (machine_at k m) m (call.Claim r) k.book k.own x' book' own' → k'.book.history ≡ book'.history → EntersClaim k m k'
     by_answer r has next x' book' own' (inl done) is =
-        let answer : done.answer ≡ reply.Held = held_reply r done.answer _ (effect_reply k.book.limits m (call.Claim r) done.answer k.book.state book'.state done.step.1) in
+        let answer : done.answer ≡ reply.Held = held_reply r done.answer (replies k.book.limits m (call.Claim r) done.answer k.book.state book'.state done.step.1) in
         record {
           ticket = r;
           has_ticket = has;

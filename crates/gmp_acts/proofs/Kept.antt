@@ -51,7 +51,8 @@ use Rattle.gmp_acts.specs.declared.made.Made.{Made}
 use Rattle.gmp_acts.specs.System.{System, machine_at, no_machine, held_number, called_number, in_hand, in_queue, out, made_of}
 use Rattle.gmp_acts.specs.Acts.{Accepted}
 use Rattle.gmp_acts.specs.Sound.{ModeAt, Sees, Agrees, IsSound}
-use Rattle.gmp_acts.proofs.Effects.{effect_reply, effect_gear}
+use Rattle.gmp_acts.proofs.Effects.{effect_gear}
+use Rattle.gmp_acts.proofs.Replies.{awoke, replies}
 use Rattle.gmp_acts.proofs.Gears.{Gear, Standing, MayWake, spins_after, holds_after, others_hold}
 use Rattle.gmp_acts.proofs.Lands.{Lands, lands}
 use Rattle.gmp_driver.proofs.Uses.{uses}
@@ -238,7 +239,7 @@ module _ (k : System) (m : MNo) (c : Call) (answer : Reply) (inside : m.0 < leng
 
   there : Lands (machine_at k m).procs (machine_at k m).place c answer (now_at mine.pass).place (hand_after k.book.state.table c answer (machine_at k m).hand) (slice_get k.book.state.machines.modes m.0)
   there = lands (machine_at k m).procs (machine_at k m).fresh (machine_at k m).turns k.book.state.table (machine_at k m).hand (slice_get k.book.state.machines.modes m.0) (machine_at k m).place c answer acts fits sees.does
-      (effect_reply k.book.limits m c answer k.book.state s' step.1)
+      (replies k.book.limits m c answer k.book.state s' step.1) (awoke k.book.limits m c answer k.book.state s' step.1)
 
   sees_after : (behind : Pass) → Sees s' m (now_at behind)
   sees_after behind = record {

@@ -12,7 +12,6 @@ use Rattle.gmp_seq.specs.declared.call.Reply.{Reply}
 use Rattle.gmp_seq.specs.declared.call.Reply.TheVariants as reply
 use Rattle.gmp_seq.specs.declared.call.Taken.TheVariants as taken
 use Rattle.gmp_seq.specs.declared.status.Mode.{Mode}
-use Rattle.gmp_seq.specs.declared.status.Mode.TheVariants as mode
 use Rattle.gmp_seq.specs.Table.{Table}
 use Rattle.gmp_driver.specs.declared.act.Act.TheVariants as act
 use Rattle.gmp_driver.specs.declared.act.Told.TheVariants as told
@@ -24,70 +23,12 @@ use Rattle.gmp_driver.specs.declared.registers.ProcParts.{ProcParts}
 use Rattle.gmp_driver.specs.Fits.{Fits}
 use Rattle.gmp_acts.specs.Hands.{PlainHand}
 use Rattle.gmp_driver.specs.Seen.{seen_of}
-use Rattle.gmp_driver.specs.Table.{act_at, next_place}
+use Rattle.gmp_driver.specs.Table.{act_at, call_for, next_place}
 use Rattle.gmp_driver.proofs.Uses.{call_is, look_calls, put_calls, claim_calls}
 use Rattle.gmp_acts.specs.Hands.{hand_after, left_by, retold, called_from, running_again}
 use Rattle.gmp_acts.specs.Sound.{HasFewAt, ModeAt, spins_at, IsEnd}
+use Rattle.gmp_acts.proofs.Replies.{Awoke, CanReply, Goes}
 use Rattle.gmp_acts.proofs.Gears.{mode_after, spins_after}
-
--- the answers by which the goroutine that asked goes on, or waits
-abbrev pub Goes : Reply → Type 0
-Goes (reply.Ticket r) = Unit {0}
-Goes (reply.Channel c) = Unit {0}
-Goes (reply.Sent to) = Unit {0}
-Goes (reply.Got v sent from) = Unit {0}
-Goes reply.Waits = Unit {0}
-Goes (reply.Closed n) = Unit {0}
-Goes (reply.Number n) = Unit {0}
-Goes (reply.Chose i how) = Unit {0}
-Goes reply.Default = Unit {0}
-Goes (reply.Fault f) = Unit {0}
-Goes _ = ⊥
-
--- the answers that a call may get, of a machine that does so
-abbrev pub CanReply : Call → Reply → Option Mode → Type 0
-CanReply call.Acquire (reply.Proc p) what = Unit {0}
-CanReply call.Acquire reply.Nothing what = Unit {0}
-CanReply call.Acquire _ what = ⊥
-CanReply call.Take (reply.Ticket r) what = Unit {0}
-CanReply call.Take reply.Nothing what = Unit {0}
-CanReply call.Take _ what = ⊥
-CanReply (call.Put r) reply.Shelf what = Unit {0}
-CanReply (call.Put r) _ what = ⊥
-CanReply (call.Claim r) reply.Held what = Unit {0}
-CanReply (call.Claim r) _ what = ⊥
-CanReply call.Yield (reply.Shelved r) what = Unit {0}
-CanReply call.Yield _ what = ⊥
-CanReply call.Exit reply.Dead what = Unit {0}
-CanReply call.Exit reply.MainEnded what = Unit {0}
-CanReply call.Exit _ what = ⊥
-CanReply call.Enter (reply.Entered p n) what = Unit {0}
-CanReply call.Enter _ what = ⊥
-CanReply (call.Leave number) (reply.Runs p) what = Unit {0}
-CanReply (call.Leave number) (reply.Shelved r) what = Unit {0}
-CanReply (call.Leave number) _ what = ⊥
-CanReply call.Spin (reply.Answer b) what = Unit {0}
-CanReply call.Spin _ what = ⊥
-CanReply call.Woken (reply.Answer true) what = what ≡ Some mode.Awake
-CanReply call.Woken (reply.Answer false) what = Unit {0}
-CanReply call.Woken _ what = ⊥
-CanReply call.Unspin reply.Done what = Unit {0}
-CanReply call.Unspin _ what = ⊥
-CanReply call.Poke (reply.Wakes k) what = Unit {0}
-CanReply call.Poke reply.Nothing what = Unit {0}
-CanReply call.Poke _ what = ⊥
-CanReply call.Declare (reply.Idle p) what = Unit {0}
-CanReply call.Declare _ what = ⊥
-CanReply call.Bare reply.Done what = Unit {0}
-CanReply call.Bare _ what = ⊥
-CanReply call.Park reply.Parked what = Unit {0}
-CanReply call.Park reply.Work what = Unit {0}
-CanReply call.Park (reply.Mind until) what = Unit {0}
-CanReply call.Park reply.AllAsleep what = Unit {0}
-CanReply call.Park _ what = ⊥
-CanReply (call.Tick moment) (reply.Woke n) what = Unit {0}
-CanReply (call.Tick moment) _ what = ⊥
-CanReply _ answer what = Goes answer
 
 -- the next place suits what the machine holds and does
 pub record Lands (procs : ℕ) (here : Place) (c : Call) (answer : Reply) (there : Place) (hand : PlainHand) (what : Option Mode) : Type 0 where
@@ -120,12 +61,12 @@ module _ (procs : ℕ) (fresh : Bool) (turns : ℕ) (t : Table) (hand : PlainHan
   Landing c here answer =
       Lands procs here c answer (next_place (seen_of procs fresh turns (hand_after t c answer hand)) here (told.Replied answer)) (hand_after t c answer hand) what
 
-  at_start : (answer : Reply) → CanReply call.Acquire answer what → Fits place.Start hand → ModeAt place.Start what → Landing call.Acquire place.Start answer
+  at_start : (answer : Reply) → CanReply call.Acquire answer → Fits place.Start hand → ModeAt place.Start what → Landing call.Acquire place.Start answer
   at_start (reply.Proc p) can f does = record { fits = record { has_processor = refl; has_held = f.has_held; has_called = f.has_called; has_to_claim = f.has_to_claim; has_to_store = f.has_to_store }; does = does; spinning = refl; few = tt; ended = λ e. absurd e }
   at_start reply.Nothing can f does = record { fits = f; does = does; spinning = refl; few = tt; ended = λ e. absurd e }
   at_start _ can f does = absurd can
 
-  at_ticking : (now : ℕ) (answer : Reply) → CanReply (call.Tick now) answer what → Fits (place.Ticking now) hand → ModeAt (place.Ticking now) what → Landing (call.Tick now) (place.Ticking now) answer
+  at_ticking : (now : ℕ) (answer : Reply) → CanReply (call.Tick now) answer → Fits (place.Ticking now) hand → ModeAt (place.Ticking now) what → Landing (call.Tick now) (place.Ticking now) answer
   at_ticking now (reply.Woke n) can f does = record { fits = f; does = does; spinning = refl; few = tt; ended = λ e. absurd e }
   at_ticking now _ can f does = absurd can
 
@@ -133,74 +74,74 @@ module _ (procs : ℕ) (fresh : Bool) (turns : ℕ) (t : Table) (hand : PlainHan
   after_global true f does = record { fits = f; does = does; spinning = refl; few = tt; ended = λ e. absurd e }
   after_global false f does = record { fits = f; does = does; spinning = refl; few = tt; ended = λ e. absurd e }
 
-  at_global : (answer : Reply) → CanReply call.Take answer what → Fits place.Global hand → ModeAt place.Global what → Landing call.Take place.Global answer
+  at_global : (answer : Reply) → CanReply call.Take answer → Fits place.Global hand → ModeAt place.Global what → Landing call.Take place.Global answer
   at_global (reply.Ticket r) can f does = record { fits = record { has_processor = f.has_processor; has_held = f.has_held; has_called = f.has_called; has_to_claim = refl; has_to_store = f.has_to_store }; does = does; spinning = refl; few = tt; ended = λ e. absurd e }
   at_global reply.Nothing can f does = after_global (procs == 1) f does
   at_global _ can f does = absurd can
 
-  at_spin : (answer : Reply) → CanReply call.Spin answer what → Fits place.Spin hand → ModeAt place.Spin what → Landing call.Spin place.Spin answer
+  at_spin : (answer : Reply) → CanReply call.Spin answer → Fits place.Spin hand → ModeAt place.Spin what → Landing call.Spin place.Spin answer
   at_spin (reply.Answer true) can f does = record { fits = f; does = does; spinning = refl; few = tt; ended = λ e. absurd e }
   at_spin (reply.Answer false) can f does = record { fits = f; does = does; spinning = refl; few = tt; ended = λ e. absurd e }
   at_spin _ can f does = absurd can
 
-  at_poked : (answer : Reply) → CanReply call.Poke answer what → Fits place.Claim hand → ModeAt place.Claim what → Landing call.Poke place.Claim answer
+  at_poked : (answer : Reply) → CanReply call.Poke answer → Fits place.Claim hand → ModeAt place.Claim what → Landing call.Poke place.Claim answer
   at_poked (reply.Wakes k) can f does = record { fits = f; does = does; spinning = refl; few = tt; ended = λ e. absurd e }
   at_poked reply.Nothing can f does = record { fits = f; does = does; spinning = refl; few = tt; ended = λ e. absurd e }
   at_poked _ can f does = absurd can
 
-  at_claim : (r : Readiness) (answer : Reply) → CanReply (call.Claim r) answer what → Fits place.Claim hand → ModeAt place.Claim what → Landing (call.Claim r) place.Claim answer
+  at_claim : (r : Readiness) (answer : Reply) → CanReply (call.Claim r) answer → Fits place.Claim hand → ModeAt place.Claim what → Landing (call.Claim r) place.Claim answer
   at_claim r reply.Held can f does = record { fits = record { has_processor = f.has_processor; has_held = refl; has_called = f.has_called; has_to_claim = refl; has_to_store = f.has_to_store }; does = does; spinning = refl; few = tt; ended = λ e. absurd e }
   at_claim r _ can f does = absurd can
 
-  at_poke : (answer : Reply) → CanReply call.Poke answer what → Fits place.Poke hand → ModeAt place.Poke what → Landing call.Poke place.Poke answer
+  at_poke : (answer : Reply) → CanReply call.Poke answer → Fits place.Poke hand → ModeAt place.Poke what → Landing call.Poke place.Poke answer
   at_poke (reply.Wakes k) can f does = record { fits = f; does = does; spinning = refl; few = tt; ended = λ e. absurd e }
   at_poke reply.Nothing can f does = record { fits = f; does = does; spinning = refl; few = tt; ended = λ e. absurd e }
   at_poke _ can f does = absurd can
 
-  at_leave : (number : ℕ) (answer : Reply) → CanReply (call.Leave number) answer what → Fits (place.Leave number) hand → ModeAt (place.Leave number) what → Landing (call.Leave number) (place.Leave number) answer
+  at_leave : (number : ℕ) (answer : Reply) → CanReply (call.Leave number) answer → Fits (place.Leave number) hand → ModeAt (place.Leave number) what → Landing (call.Leave number) (place.Leave number) answer
   at_leave number (reply.Runs p) can f does = record { fits = record { has_processor = refl; has_held = returned_some number hand.called ∙ f.has_called; has_called = refl; has_to_claim = f.has_to_claim; has_to_store = f.has_to_store }; does = refl; spinning = refl; few = tt; ended = λ e. absurd e }
   at_leave number (reply.Shelved r) can f does = record { fits = record { has_processor = f.has_processor; has_held = f.has_held; has_called = refl; has_to_claim = f.has_to_claim; has_to_store = f.has_to_store }; does = refl; spinning = refl; few = tt; ended = λ e. absurd e }
   at_leave number _ can f does = absurd can
 
-  at_drop : (answer : Reply) → CanReply call.Declare answer what → Fits place.Drop hand → ModeAt place.Drop what → Landing call.Declare place.Drop answer
+  at_drop : (answer : Reply) → CanReply call.Declare answer → Fits place.Drop hand → ModeAt place.Drop what → Landing call.Declare place.Drop answer
   at_drop (reply.Idle p) can f does = record { fits = record { has_processor = refl; has_held = f.has_held; has_called = f.has_called; has_to_claim = f.has_to_claim; has_to_store = f.has_to_store }; does = does; spinning = refl; few = tt; ended = λ e. absurd e }
   at_drop _ can f does = absurd can
 
-  at_bare : (answer : Reply) → CanReply call.Bare answer what → Fits place.Bare hand → ModeAt place.Bare what → Landing call.Bare place.Bare answer
+  at_bare : (answer : Reply) → CanReply call.Bare answer → Fits place.Bare hand → ModeAt place.Bare what → Landing call.Bare place.Bare answer
   at_bare reply.Done can f does = record { fits = f; does = does; spinning = refl; few = tt; ended = λ e. absurd e }
   at_bare _ can f does = absurd can
 
-  at_have : (answer : Reply) → CanReply call.Acquire answer what → Fits place.Have hand → ModeAt place.Have what → Landing call.Acquire place.Have answer
+  at_have : (answer : Reply) → CanReply call.Acquire answer → Fits place.Have hand → ModeAt place.Have what → Landing call.Acquire place.Have answer
   at_have (reply.Proc p) can f does = record { fits = record { has_processor = refl; has_held = f.has_held; has_called = f.has_called; has_to_claim = f.has_to_claim; has_to_store = f.has_to_store }; does = does; spinning = refl; few = tt; ended = λ e. absurd e }
   at_have reply.Nothing can f does = record { fits = f; does = does; spinning = refl; few = tt; ended = λ e. absurd e }
   at_have _ can f does = absurd can
 
-  at_park : (answer : Reply) → CanReply call.Park answer what → Fits place.Park hand → ModeAt place.Park what → Landing call.Park place.Park answer
+  at_park : (answer : Reply) → CanReply call.Park answer → Fits place.Park hand → ModeAt place.Park what → Landing call.Park place.Park answer
   at_park reply.Parked can f does = record { fits = f; does = inr refl; spinning = refl; few = tt; ended = λ e. absurd e }
   at_park reply.Work can f does = record { fits = f; does = does; spinning = refl; few = tt; ended = λ e. absurd e }
   at_park (reply.Mind until) can f does = record { fits = f; does = does; spinning = refl; few = tt; ended = λ e. absurd e }
   at_park reply.AllAsleep can f does = record { fits = tt; does = does; spinning = refl; few = tt; ended = λ e. inr refl }
   at_park _ can f does = absurd can
 
-  at_rest : (answer : Reply) → CanReply call.Woken answer what → Fits place.Rest hand → ModeAt place.Rest what → Landing call.Woken place.Rest answer
-  at_rest (reply.Answer true) can f does = record { fits = f; does = can; spinning = refl; few = tt; ended = λ e. absurd e }
-  at_rest (reply.Answer false) can f does = record { fits = f; does = does; spinning = refl; few = tt; ended = λ e. absurd e }
-  at_rest _ can f does = absurd can
+  at_rest : (answer : Reply) → CanReply call.Woken answer → Awoke call.Woken answer what → Fits place.Rest hand → ModeAt place.Rest what → Landing call.Woken place.Rest answer
+  at_rest (reply.Answer true) can awoke f does = record { fits = f; does = awoke; spinning = refl; few = tt; ended = λ e. absurd e }
+  at_rest (reply.Answer false) can awoke f does = record { fits = f; does = does; spinning = refl; few = tt; ended = λ e. absurd e }
+  at_rest _ can awoke f does = absurd can
 
-  at_mind : (now : ℕ) (answer : Reply) → CanReply (call.Tick now) answer what → Fits (place.MindTick now) hand → ModeAt (place.MindTick now) what → Landing (call.Tick now) (place.MindTick now) answer
+  at_mind : (now : ℕ) (answer : Reply) → CanReply (call.Tick now) answer → Fits (place.MindTick now) hand → ModeAt (place.MindTick now) what → Landing (call.Tick now) (place.MindTick now) answer
   at_mind now (reply.Woke n) can f does = record { fits = f; does = does; spinning = refl; few = tt; ended = λ e. absurd e }
   at_mind now _ can f does = absurd can
 
-  at_yield : (asked : Ask) (answer : Reply) → CanReply call.Yield answer what → Fits (place.Do asked) hand → ModeAt (place.Do asked) what → Landing call.Yield (place.Do asked) answer
+  at_yield : (asked : Ask) (answer : Reply) → CanReply call.Yield answer → Fits (place.Do asked) hand → ModeAt (place.Do asked) what → Landing call.Yield (place.Do asked) answer
   at_yield asked (reply.Shelved r) can f does = record { fits = record { has_processor = f.has_processor; has_held = refl; has_called = f.has_called; has_to_claim = f.has_to_claim; has_to_store = f.has_to_store }; does = does; spinning = refl; few = tt; ended = λ e. absurd e }
   at_yield asked _ can f does = absurd can
 
-  at_exit : (asked : Ask) (answer : Reply) → CanReply call.Exit answer what → Fits (place.Do asked) hand → ModeAt (place.Do asked) what → Landing call.Exit (place.Do asked) answer
+  at_exit : (asked : Ask) (answer : Reply) → CanReply call.Exit answer → Fits (place.Do asked) hand → ModeAt (place.Do asked) what → Landing call.Exit (place.Do asked) answer
   at_exit asked reply.Dead can f does = record { fits = record { has_processor = f.has_processor; has_held = refl; has_called = f.has_called; has_to_claim = f.has_to_claim; has_to_store = f.has_to_store }; does = does; spinning = refl; few = tt; ended = λ e. absurd e }
   at_exit asked reply.MainEnded can f does = record { fits = tt; does = does; spinning = refl; few = tt; ended = λ e. inl refl }
   at_exit asked _ can f does = absurd can
 
-  at_enter : (asked : Ask) (answer : Reply) → CanReply call.Enter answer what → Fits (place.Do asked) hand → ModeAt (place.Do asked) what → Landing call.Enter (place.Do asked) answer
+  at_enter : (asked : Ask) (answer : Reply) → CanReply call.Enter answer → Fits (place.Do asked) hand → ModeAt (place.Do asked) what → Landing call.Enter (place.Do asked) answer
   at_enter asked (reply.Entered p n) can f does = record { fits = record { has_processor = refl; has_held = refl; has_called = gone_some hand.held ∙ f.has_held; has_to_claim = f.has_to_claim; has_to_store = f.has_to_store }; does = refl; spinning = refl; few = tt; ended = λ e. absurd e }
   at_enter asked _ can f does = absurd can
 
@@ -240,25 +181,25 @@ module _ (procs : ℕ) (fresh : Bool) (turns : ℕ) (t : Table) (what : Option M
   abbrev held_with : Option Readiness → PlainHand
   held_with s = record { processor = p; held = h; called = c; to_claim = found; to_store = s }
 
-  at_put_more : (v : PNo) (goal : ℕ) (r : Readiness) (s : Option Readiness) (answer : Reply) → CanReply (call.Put r) answer what → Fits (place.PutMore v goal) (held_with s) → ModeAt (place.PutMore v goal) what → Landing procs fresh turns t (held_with s) what (call.Put r) (place.PutMore v goal) answer
+  at_put_more : (v : PNo) (goal : ℕ) (r : Readiness) (s : Option Readiness) (answer : Reply) → CanReply (call.Put r) answer → Fits (place.PutMore v goal) (held_with s) → ModeAt (place.PutMore v goal) what → Landing procs fresh turns t (held_with s) what (call.Put r) (place.PutMore v goal) answer
   at_put_more v zero r (Some s) reply.Shelf can f does = record { fits = record { has_processor = f.has_processor; has_held = f.has_held; has_called = f.has_called; has_to_claim = refl; has_to_store = refl }; does = does; spinning = refl; few = tt; ended = λ e. absurd e }
   at_put_more v (suc goal) r (Some s) reply.Shelf can f does = record { fits = record { has_processor = f.has_processor; has_held = f.has_held; has_called = f.has_called; has_to_claim = f.has_to_claim; has_to_store = refl }; does = does; spinning = refl; few = tt; ended = λ e. absurd e }
   at_put_more v goal r None reply.Shelf can f does = absurd (false≢true f.has_to_store)
   at_put_more v goal r s _ can f does = absurd can
 
-  at_put_store : (r : Readiness) (s : Option Readiness) (answer : Reply) → CanReply (call.Put r) answer what → Fits place.PutStore (held_with s) → ModeAt place.PutStore what → Landing procs fresh turns t (held_with s) what (call.Put r) place.PutStore answer
+  at_put_store : (r : Readiness) (s : Option Readiness) (answer : Reply) → CanReply (call.Put r) answer → Fits place.PutStore (held_with s) → ModeAt place.PutStore what → Landing procs fresh turns t (held_with s) what (call.Put r) place.PutStore answer
   at_put_store r (Some s) reply.Shelf can f does = record { fits = record { has_processor = f.has_processor; has_held = f.has_held; has_called = f.has_called; has_to_claim = f.has_to_claim; has_to_store = refl }; does = does; spinning = refl; few = tt; ended = λ e. absurd e }
   at_put_store r None reply.Shelf can f does = absurd (false≢true f.has_to_store)
   at_put_store r s _ can f does = absurd can
 
-  at_put_have : (r : Readiness) (s : Option Readiness) (answer : Reply) → CanReply (call.Put r) answer what → Fits place.PutHave (held_with s) → ModeAt place.PutHave what → Landing procs fresh turns t (held_with s) what (call.Put r) place.PutHave answer
+  at_put_have : (r : Readiness) (s : Option Readiness) (answer : Reply) → CanReply (call.Put r) answer → Fits place.PutHave (held_with s) → ModeAt place.PutHave what → Landing procs fresh turns t (held_with s) what (call.Put r) place.PutHave answer
   at_put_have r None reply.Shelf can f does = record { fits = record { has_processor = f.has_processor; has_held = f.has_held; has_called = f.has_called; has_to_claim = refl; has_to_store = f.has_to_store }; does = does; spinning = refl; few = tt; ended = λ e. absurd e }
   at_put_have r (Some s) reply.Shelf can f does = absurd (false≢true (sym f.has_to_store))
   at_put_have r s _ can f does = absurd can
   -- the ticket to claim decides
 
 at_unspin : (procs : ℕ) (fresh : Bool) (turns : ℕ) (t : Table) (what : Option Mode) (p : Option (ProcParts Unit)) (h : Option (HeldParts Unit)) (c : Option (CalledParts Unit)) (found s : Option Readiness)
-    (answer : Reply) → CanReply call.Unspin answer what → Fits place.Unspin (held_with procs fresh turns t what p h c found s) → ModeAt place.Unspin what
+    (answer : Reply) → CanReply call.Unspin answer → Fits place.Unspin (held_with procs fresh turns t what p h c found s) → ModeAt place.Unspin what
     → Landing procs fresh turns t (held_with procs fresh turns t what p h c found s) what call.Unspin place.Unspin answer
 at_unspin procs fresh turns t what p h c None s reply.Done can f does = record { fits = f; does = does; spinning = refl; few = tt; ended = λ e. absurd e }
 at_unspin procs fresh turns t what p h c (Some r) s reply.Done can f does = record { fits = f; does = does; spinning = refl; few = tt; ended = λ e. absurd e }
@@ -267,50 +208,44 @@ at_unspin procs fresh turns t what p h c found s _ can f does = absurd can
 -- What a call's answer leads to
 module _ (procs : ℕ) (fresh : Bool) (turns : ℕ) (t : Table) (hand : PlainHand) (what : Option Mode) where
   abbrev All : Place → Reply → Call → Type 0
-  All here answer c = CanReply c answer what → Landing procs fresh turns t hand what c here answer
+  All here answer c = CanReply c answer → Awoke c answer what → Landing procs fresh turns t hand what c here answer
+
+  at_do : (asked : Ask) (answer : Reply) → CanReply (call_for asked) answer → Fits (place.Do asked) hand → ModeAt (place.Do asked) what
+      → Landing procs fresh turns t hand what (call_for asked) (place.Do asked) answer
+  at_do ask.Yield answer k f does = at_yield procs fresh turns t hand what ask.Yield answer k f does
+  at_do ask.Exit answer k f does = at_exit procs fresh turns t hand what ask.Exit answer k f does
+  at_do ask.Block answer k f does = at_enter procs fresh turns t hand what ask.Block answer k f does
+  at_do asked answer k f does = at_goes procs fresh turns t hand what (call_for asked) asked answer k f does refl
 
   pub lands : (here : Place) (c : Call) (answer : Reply) → act_at (seen_of procs fresh turns hand) here ≡ act.Call c → Fits here hand → ModeAt here what
-      → CanReply c answer what → Landing procs fresh turns t hand what c here answer
-  lands place.Start c answer is f does can = subst (All place.Start answer) (call_is call.Acquire c is) (λ k. at_start procs fresh turns t hand what answer k f does) can
-  lands place.Look c answer is f does can = absurd (look_calls (nat_le 16 turns) c is)
-  lands (place.Ticking now) c answer is f does can = subst (All (place.Ticking now) answer) (call_is (call.Tick now) c is) (λ k. at_ticking procs fresh turns t hand what now answer k f does) can
-  lands place.Global c answer is f does can = subst (All place.Global answer) (call_is call.Take c is) (λ k. at_global procs fresh turns t hand what answer k f does) can
-  lands place.Spin c answer is f does can = subst (All place.Spin answer) (call_is call.Spin c is) (λ k. at_spin procs fresh turns t hand what answer k f does) can
-  lands (place.PutMore v goal) c answer is f does can = (let w = put_calls hand.to_store c is in subst (All (place.PutMore v goal) answer) w.2 (λ k. at_put_more procs fresh turns t what hand.processor hand.held hand.called hand.to_claim v goal w.0 hand.to_store answer k f does) can)
-  lands place.Unspin c answer is f does can = subst (All place.Unspin answer) (call_is call.Unspin c is) (λ k. at_unspin procs fresh turns t what hand.processor hand.held hand.called hand.to_claim hand.to_store answer k f does) can
-  lands place.Claim c answer is f does can = elim (claim_calls fresh hand.to_claim c is) [ inl w ↦ subst (All place.Claim answer) w (λ k. at_poked procs fresh turns t hand what answer k f does) can | inr w ↦ subst (All place.Claim answer) w.2 (λ k. at_claim procs fresh turns t hand what w.0 answer k f does) can ]
-  lands (place.Do ask.Yield) c answer is f does can = subst (All (place.Do ask.Yield) answer) (call_is call.Yield c is) (λ k. at_yield procs fresh turns t hand what ask.Yield answer k f does) can
-  lands (place.Do ask.Exit) c answer is f does can = subst (All (place.Do ask.Exit) answer) (call_is call.Exit c is) (λ k. at_exit procs fresh turns t hand what ask.Exit answer k f does) can
-  lands (place.Do ask.Block) c answer is f does can = subst (All (place.Do ask.Block) answer) (call_is call.Enter c is) (λ k. at_enter procs fresh turns t hand what ask.Block answer k f does) can
-  lands (place.Do (ask.Go g)) c answer is f does can = subst (All (place.Do (ask.Go g)) answer) (call_is (call.Go g) c is) (λ k. at_goes procs fresh turns t hand what (call.Go g) (ask.Go g) answer k f does refl) can
-  lands (place.Do (ask.Make capacity)) c answer is f does can = subst (All (place.Do (ask.Make capacity)) answer) (call_is (call.Make capacity) c is) (λ k. at_goes procs fresh turns t hand what (call.Make capacity) (ask.Make capacity) answer k f does refl) can
-  lands (place.Do (ask.Send n v)) c answer is f does can = subst (All (place.Do (ask.Send n v)) answer) (call_is (call.Send n v) c is) (λ k. at_goes procs fresh turns t hand what (call.Send n v) (ask.Send n v) answer k f does refl) can
-  lands (place.Do (ask.Recv n)) c answer is f does can = subst (All (place.Do (ask.Recv n)) answer) (call_is (call.Recv n) c is) (λ k. at_goes procs fresh turns t hand what (call.Recv n) (ask.Recv n) answer k f does refl) can
-  lands (place.Do (ask.Close n)) c answer is f does can = subst (All (place.Do (ask.Close n)) answer) (call_is (call.Close n) c is) (λ k. at_goes procs fresh turns t hand what (call.Close n) (ask.Close n) answer k f does refl) can
-  lands (place.Do (ask.Len n)) c answer is f does can = subst (All (place.Do (ask.Len n)) answer) (call_is (call.Len n) c is) (λ k. at_goes procs fresh turns t hand what (call.Len n) (ask.Len n) answer k f does refl) can
-  lands (place.Do (ask.Cap n)) c answer is f does can = subst (All (place.Do (ask.Cap n)) answer) (call_is (call.Cap n) c is) (λ k. at_goes procs fresh turns t hand what (call.Cap n) (ask.Cap n) answer k f does refl) can
-  lands (place.Do (ask.Select cases has_default until)) c answer is f does can = subst (All (place.Do (ask.Select cases has_default until)) answer) (call_is (call.Select cases has_default until) c is) (λ k. at_goes procs fresh turns t hand what (call.Select cases has_default until) (ask.Select cases has_default until) answer k f does refl) can
-  lands (place.Do (ask.Sleep until)) c answer is f does can = subst (All (place.Do (ask.Sleep until)) answer) (call_is (call.Sleep until) c is) (λ k. at_goes procs fresh turns t hand what (call.Sleep until) (ask.Sleep until) answer k f does refl) can
-  lands (place.Do ask.Park) c answer is f does can = subst (All (place.Do ask.Park) answer) (call_is call.Gopark c is) (λ k. at_goes procs fresh turns t hand what call.Gopark ask.Park answer k f does refl) can
-  lands (place.Do (ask.Ready g)) c answer is f does can = subst (All (place.Do (ask.Ready g)) answer) (call_is (call.Ready g) c is) (λ k. at_goes procs fresh turns t hand what (call.Ready g) (ask.Ready g) answer k f does refl) can
-  lands place.PutStore c answer is f does can = (let w = put_calls hand.to_store c is in subst (All place.PutStore answer) w.2 (λ k. at_put_store procs fresh turns t what hand.processor hand.held hand.called hand.to_claim w.0 hand.to_store answer k f does) can)
-  lands place.Poke c answer is f does can = subst (All place.Poke answer) (call_is call.Poke c is) (λ k. at_poke procs fresh turns t hand what answer k f does) can
-  lands (place.Leave number) c answer is f does can = subst (All (place.Leave number) answer) (call_is (call.Leave number) c is) (λ k. at_leave procs fresh turns t hand what number answer k f does) can
-  lands place.Drop c answer is f does can = subst (All place.Drop answer) (call_is call.Declare c is) (λ k. at_drop procs fresh turns t hand what answer k f does) can
-  lands place.Bare c answer is f does can = subst (All place.Bare answer) (call_is call.Bare c is) (λ k. at_bare procs fresh turns t hand what answer k f does) can
-  lands place.Have c answer is f does can = subst (All place.Have answer) (call_is call.Acquire c is) (λ k. at_have procs fresh turns t hand what answer k f does) can
-  lands place.PutHave c answer is f does can = (let w = put_calls hand.to_claim c is in subst (All place.PutHave answer) w.2 (λ k. at_put_have procs fresh turns t what hand.processor hand.held hand.called hand.to_claim w.0 hand.to_store answer k f does) can)
-  lands place.Park c answer is f does can = subst (All place.Park answer) (call_is call.Park c is) (λ k. at_park procs fresh turns t hand what answer k f does) can
-  lands place.Rest c answer is f does can = subst (All place.Rest answer) (call_is call.Woken c is) (λ k. at_rest procs fresh turns t hand what answer k f does) can
-  lands (place.MindTick now) c answer is f does can = subst (All (place.MindTick now) answer) (call_is (call.Tick now) c is) (λ k. at_mind procs fresh turns t hand what now answer k f does) can
-  lands (place.Hunt None) c answer is f does can = absurd (let no : ⊥ = cc in no)
-  lands (place.Hunt (Some r)) c answer is f does can = absurd (let no : ⊥ = cc in no)
-  lands (place.More v goal) c answer is f does can = absurd (let no : ⊥ = cc in no)
-  lands (place.StoreMore v goal) c answer is f does can = absurd (let no : ⊥ = cc in no)
-  lands place.Run c answer is f does can = absurd (let no : ⊥ = cc in no)
-  lands place.Store c answer is f does can = absurd (let no : ⊥ = cc in no)
-  lands place.Block c answer is f does can = absurd (let no : ⊥ = cc in no)
-  lands (place.Scan v) c answer is f does can = absurd (let no : ⊥ = cc in no)
-  lands (place.Mind deadline) c answer is f does can = absurd (let no : ⊥ = cc in no)
-  lands place.Over c answer is f does can = absurd (let no : ⊥ = cc in no)
-  lands place.Done c answer is f does can = absurd (let no : ⊥ = cc in no)
+      → CanReply c answer → Awoke c answer what → Landing procs fresh turns t hand what c here answer
+  lands place.Start c answer is f does can awoke = subst (All place.Start answer) (call_is call.Acquire c is) (λ k a. at_start procs fresh turns t hand what answer k f does) can awoke
+  lands place.Look c answer is f does can awoke = absurd (look_calls (nat_le 16 turns) c is)
+  lands (place.Ticking now) c answer is f does can awoke = subst (All (place.Ticking now) answer) (call_is (call.Tick now) c is) (λ k a. at_ticking procs fresh turns t hand what now answer k f does) can awoke
+  lands place.Global c answer is f does can awoke = subst (All place.Global answer) (call_is call.Take c is) (λ k a. at_global procs fresh turns t hand what answer k f does) can awoke
+  lands place.Spin c answer is f does can awoke = subst (All place.Spin answer) (call_is call.Spin c is) (λ k a. at_spin procs fresh turns t hand what answer k f does) can awoke
+  lands (place.PutMore v goal) c answer is f does can awoke = (let w = put_calls hand.to_store c is in subst (All (place.PutMore v goal) answer) w.2 (λ k a. at_put_more procs fresh turns t what hand.processor hand.held hand.called hand.to_claim v goal w.0 hand.to_store answer k f does) can awoke)
+  lands place.Unspin c answer is f does can awoke = subst (All place.Unspin answer) (call_is call.Unspin c is) (λ k a. at_unspin procs fresh turns t what hand.processor hand.held hand.called hand.to_claim hand.to_store answer k f does) can awoke
+  lands place.Claim c answer is f does can awoke = elim (claim_calls fresh hand.to_claim c is) [ inl w ↦ subst (All place.Claim answer) w (λ k a. at_poked procs fresh turns t hand what answer k f does) can awoke | inr w ↦ subst (All place.Claim answer) w.2 (λ k a. at_claim procs fresh turns t hand what w.0 answer k f does) can awoke ]
+  lands (place.Do asked) c answer is f does can awoke = subst (All (place.Do asked) answer) (call_is (call_for asked) c is) (λ k a. at_do asked answer k f does) can awoke
+  lands place.PutStore c answer is f does can awoke = (let w = put_calls hand.to_store c is in subst (All place.PutStore answer) w.2 (λ k a. at_put_store procs fresh turns t what hand.processor hand.held hand.called hand.to_claim w.0 hand.to_store answer k f does) can awoke)
+  lands place.Poke c answer is f does can awoke = subst (All place.Poke answer) (call_is call.Poke c is) (λ k a. at_poke procs fresh turns t hand what answer k f does) can awoke
+  lands (place.Leave number) c answer is f does can awoke = subst (All (place.Leave number) answer) (call_is (call.Leave number) c is) (λ k a. at_leave procs fresh turns t hand what number answer k f does) can awoke
+  lands place.Drop c answer is f does can awoke = subst (All place.Drop answer) (call_is call.Declare c is) (λ k a. at_drop procs fresh turns t hand what answer k f does) can awoke
+  lands place.Bare c answer is f does can awoke = subst (All place.Bare answer) (call_is call.Bare c is) (λ k a. at_bare procs fresh turns t hand what answer k f does) can awoke
+  lands place.Have c answer is f does can awoke = subst (All place.Have answer) (call_is call.Acquire c is) (λ k a. at_have procs fresh turns t hand what answer k f does) can awoke
+  lands place.PutHave c answer is f does can awoke = (let w = put_calls hand.to_claim c is in subst (All place.PutHave answer) w.2 (λ k a. at_put_have procs fresh turns t what hand.processor hand.held hand.called hand.to_claim w.0 hand.to_store answer k f does) can awoke)
+  lands place.Park c answer is f does can awoke = subst (All place.Park answer) (call_is call.Park c is) (λ k a. at_park procs fresh turns t hand what answer k f does) can awoke
+  lands place.Rest c answer is f does can awoke = subst (All place.Rest answer) (call_is call.Woken c is) (λ k a. at_rest procs fresh turns t hand what answer k a f does) can awoke
+  lands (place.MindTick now) c answer is f does can awoke = subst (All (place.MindTick now) answer) (call_is (call.Tick now) c is) (λ k a. at_mind procs fresh turns t hand what now answer k f does) can awoke
+  lands (place.Hunt None) c answer is f does can awoke = absurd (let no : ⊥ = cc in no)
+  lands (place.Hunt (Some r)) c answer is f does can awoke = absurd (let no : ⊥ = cc in no)
+  lands (place.More v goal) c answer is f does can awoke = absurd (let no : ⊥ = cc in no)
+  lands (place.StoreMore v goal) c answer is f does can awoke = absurd (let no : ⊥ = cc in no)
+  lands place.Run c answer is f does can awoke = absurd (let no : ⊥ = cc in no)
+  lands place.Store c answer is f does can awoke = absurd (let no : ⊥ = cc in no)
+  lands place.Block c answer is f does can awoke = absurd (let no : ⊥ = cc in no)
+  lands (place.Scan v) c answer is f does can awoke = absurd (let no : ⊥ = cc in no)
+  lands (place.Mind deadline) c answer is f does can awoke = absurd (let no : ⊥ = cc in no)
+  lands place.Over c answer is f does can awoke = absurd (let no : ⊥ = cc in no)
+  lands place.Done c answer is f does can awoke = absurd (let no : ⊥ = cc in no)

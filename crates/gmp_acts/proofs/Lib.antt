@@ -1,6 +1,7 @@
 pub mod Tracks
 pub mod Turning
 pub mod Gears
+pub mod Replies
 pub mod Lands
 pub mod Effects
 pub mod Kept

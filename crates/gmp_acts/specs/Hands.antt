@@ -1,5 +1,6 @@
 -- What a machine holds, without bodies and owners, and what it holds after a call of the book: by the call and its reply, not by the place.
 use Rattle.std.specs.Prelude.{ℕ, Option, Some, None}
+use Rattle.std.specs.Option.{option_map}
 use Rattle.gmp_base.specs.declared.ask.Woke.{Woke}
 use Rattle.gmp_base.specs.declared.ask.Woke.TheVariants as woke
 use Rattle.gmp_base.specs.declared.number.Readiness.{Readiness}
@@ -11,6 +12,7 @@ use Rattle.gmp_seq.specs.Step.{ticket_in, woke_after}
 use Rattle.gmp_seq.specs.Table.{Table, stored_at}
 use Rattle.gmp_driver.specs.declared.registers.CalledParts.{CalledParts}
 use Rattle.gmp_driver.specs.declared.registers.HeldParts.{HeldParts}
+use Rattle.gmp_driver.specs.declared.registers.ProcParts.{ProcParts}
 use Rattle.gmp_driver.specs.declared.registers.Registers.{Registers}
 use Rattle.gmp_driver.specs.Machine.{Machine}
 use Rattle.gmp_driver.specs.Registers.{but, put_value}
@@ -21,6 +23,27 @@ PlainHand = Registers Unit Unit
 
 abbrev pub PlainMachine : Type 0
 PlainMachine = Machine Unit Unit
+
+abbrev pub plain_proc : {Q : Type 0} → ProcParts Q → ProcParts Unit
+plain_proc x = record { p = x.p; owner = tt }
+
+abbrev pub plain_held : {T : Type 0} → HeldParts T → HeldParts Unit
+plain_held x = record { g = x.g; woke = x.woke; body = tt }
+
+abbrev pub plain_called : {T : Type 0} → CalledParts T → CalledParts Unit
+plain_called x = record { g = x.g; body = tt }
+
+abbrev pub plain : {T Q : Type 0} → Registers T Q → PlainHand
+plain hand = record {
+  processor = option_map plain_proc hand.processor;
+  held = option_map plain_held hand.held;
+  called = option_map plain_called hand.called;
+  to_claim = hand.to_claim;
+  to_store = hand.to_store;
+}
+
+abbrev pub plain_machine : {T Q : Type 0} → Machine T Q → PlainMachine
+plain_machine x = record { run = x.run; procs = x.procs; place = x.place; fresh = x.fresh; turns = x.turns; pass = x.pass; hand = plain x.hand }
 
 -- Goroutines in hand
 

@@ -1,5 +1,5 @@
 -- What comes back of a call that is answered or refused: of the machine's run, apart from what it holds, and it fits the next place.
-use Rattle.std.proofs.Common.{◌≡◌, inl, inr, ℕ, Bool, true, false, List, Option, None, Some, Result, Ok, Err, refl, sym, ap}
+use Rattle.std.proofs.Common.{◌≡◌, inl, inr, ℕ, Bool, true, false, List, Option, None, Some, Result, Ok, Err, refl, sym, ap, subst, ◌∙◌}
 use Rattle.std.specs.Option.{option_map}
 use Rattle.std.specs.Prelude.{IfErr, IfOk, IfSome, OnErr}
 use Rattle.gmp_base.specs.declared.ask.Woke.{Woke}
@@ -30,14 +30,18 @@ use Rattle.gmp_driver.specs.declared.registers.Registers.{Registers}
 use Rattle.gmp_driver.specs.Fits.{Fits}
 use Rattle.gmp_driver.specs.Loads.{IsOfRun, called_of, held_of, load_of, parts_of, proc_of, ticket_of}
 use Rattle.gmp_driver.specs.Machine.{Machine}
-use Rattle.gmp_driver.specs.Registers.{AreApart, first_of, unused, used}
-use Rattle.gmp_driver.specs.Seen.{seen}
-use Rattle.gmp_driver.specs.Table.{after, next_act}
+use Rattle.gmp_driver.specs.declared.act.Told.TheVariants as told
+use Rattle.gmp_driver.specs.declared.seen.Seen.{Seen}
+use Rattle.gmp_driver.specs.Registers.{AreApart, first_of, joined, unused, used}
+use Rattle.gmp_driver.specs.Seen.{seen, seen_of}
+use Rattle.gmp_driver.specs.Table.{act_at, after, next_act, next_place}
 use Rattle.gmp_driver.proofs.Uses.{uses}
 use Rattle.gmp_turn.specs.Turns.{hand_with, handed_out, is_to_claim, load_back, told_of, values_in}
-use Rattle.gmp_turn.proofs.Back.{Comes, backs, filled}
-use Rattle.gmp_turn.proofs.Landing.{lands, refused}
-use Rattle.gmp_turn.proofs.Replies.{replies}
+use Rattle.gmp_acts.specs.Hands.{PlainHand, hand_after, plain}
+use Rattle.gmp_acts.proofs.Lands.{lands}
+use Rattle.gmp_acts.proofs.Replies.{CanReply, replies}
+use Rattle.gmp_turn.proofs.Back.{backs, filled}
+use Rattle.gmp_turn.proofs.Landing.{awoke_for, fits_plain, mode_for, plain_fits, refused, seen_plain, suits_mode}
 
 -- Of one run
 
@@ -121,8 +125,9 @@ hands_of run c answer given back old now e of k =
 module _ {T Q : Type 0} (run : ℕ) (pass : Pass) where
   abbrev Again : Call → Refusal → Registers T Q → Type 0
   Again c why hand =
-      Comes (filled hand) (unused (act.Call c) hand)
-      (parts_of (load_back pass (is_to_claim c (load_of run pass (used (act.Call c) hand))) (values_back c why (values_in (load_of run pass (used (act.Call c) hand))))))
+      (let left = unused (act.Call c) hand in
+      let came = parts_of (load_back pass (is_to_claim c (load_of run pass (used (act.Call c) hand))) (values_back c why (values_in (load_of run pass (used (act.Call c) hand))))) in
+      (filled (joined came left) ≡ filled hand) × AreApart left came)
 
   abbrev parts : Option (ProcParts Q) → Option (HeldParts T) → Option (CalledParts T) → Option Readiness → Option Readiness → Registers T Q
   parts p h c t s = record { processor = p; held = h; called = c; to_claim = t; to_store = s }
@@ -167,6 +172,16 @@ module _ {T Q : Type 0} (x : Machine T Q) (asked : Call) (before : Pass) (book b
   abbrev given : Values T Q
   given = values_in (handed_out x before asked)
 
+  -- what it holds fits, since it does so in plain parts
+  fits_after : (answer : Reply) (hand : Registers T Q) → CanReply asked answer → plain hand ≡ hand_after book.log.state.table asked answer (plain x.hand) → Fits (after (record x { hand = hand }) (told.Replied answer)).place hand
+  fits_after answer hand can is_so =
+      let next : act_at (seen_of x.procs x.fresh x.turns (plain x.hand)) x.place ≡ act.Call asked = ap (λ (s : Seen). act_at s x.place) (seen_plain x.procs x.fresh x.turns x.hand) ∙ is in
+      let there = lands x.procs x.fresh x.turns book.log.state.table (plain x.hand) (mode_for x.place) x.place asked answer next (fits_plain x.hand x.place fits) (suits_mode x.place) can
+      (awoke_for (seen_of x.procs x.fresh x.turns x.hand) x.place asked answer is) in
+      let plainly : Fits (next_place (seen_of x.procs x.fresh x.turns (plain hand)) x.place (told.Replied answer)) (plain hand) =
+      subst (λ (h : PlainHand). Fits (next_place (seen_of x.procs x.fresh x.turns h) x.place (told.Replied answer)) h) (sym is_so) there.fits in
+      plain_fits hand _ (subst (λ (s : Seen). Fits (next_place s x.place (told.Replied answer)) (plain hand)) (seen_plain x.procs x.fresh x.turns hand) plainly)
+
   pub came : (behind : Pass) (back : Values T Q) (result : Result Reply Refusal) → IfErr result (λ why. back ≡ values_back asked why given) → OnErr result ((book' ≡ book) × (behind ≡ before))
       → IfOk result (λ answer. Records book.log before asked answer book'.log behind) → IfOk result (λ answer. Hands asked answer given back book book') → Came x asked before behind back result
   came behind back (Ok answer) same stays records hands =
@@ -175,7 +190,7 @@ module _ {T Q : Type 0} (x : Machine T Q) (asked : Call) (before : Pass) (book b
       record {
         run = loaded x.run _ behind back (rw records.pass pass) (hands_of x.run asked answer given back book book' (sym run) (given_of x.run before (used (act.Call asked) x.hand)) hands);
         apart = comes.1;
-        fits = lands x.procs x.fresh x.turns x.hand (hand_with asked x.hand (load_back behind (is_to_claim asked (handed_out x before asked)) back)) x.place asked answer is fits can comes.0;
+        fits = fits_after answer (hand_with asked x.hand (load_back behind (is_to_claim asked (handed_out x before asked)) back)) can comes.0;
       }
   came behind back (Err why) same stays records hands =
       let comes = by_parts x.run before asked why x.hand.processor x.hand.held x.hand.called x.hand.to_claim x.hand.to_store in

@@ -1,6 +1,6 @@
-pub mod Replies
 pub mod Given
 pub mod Back
 pub mod Landing
 pub mod Coming
 pub mod Ending
+pub mod Acting

@@ -2,6 +2,7 @@
 #![tactic(auto)]
 
 mod calling;
+pub mod laws;
 mod passing;
 mod surrendering;
 

@@ -1,5 +1,6 @@
 -- How each call may be answered.
-use Rattle.std.proofs.Common.{ℕ, Bool, Option, None, Some, List}
+use Rattle.std.proofs.Common.{◌≡◌, ℕ, Bool, true, false, Option, None, Some, List}
+use Rattle.std.specs.List.{slice_get}
 use Rattle.gmp_base.specs.declared.cases.Case.{Case}
 use Rattle.gmp_base.specs.declared.cases.Case.TheVariants as case
 use Rattle.gmp_base.specs.declared.number.CNo.{CNo}
@@ -10,6 +11,9 @@ use Rattle.gmp_seq.specs.declared.call.Call.TheVariants as call
 use Rattle.gmp_seq.specs.declared.call.Limits.{Limits}
 use Rattle.gmp_seq.specs.declared.call.Reply.{Reply}
 use Rattle.gmp_seq.specs.declared.call.Reply.TheVariants as reply
+use Rattle.gmp_seq.specs.declared.status.Mode.{Mode}
+use Rattle.gmp_seq.specs.declared.status.Mode.TheVariants as mode
+use Rattle.gmp_seq.specs.Machines.{Looks, Machines}
 use Rattle.gmp_seq.specs.State.{State}
 use Rattle.gmp_seq.specs.Step.{Closes, Deals, Effect, Selects}
 
@@ -155,3 +159,17 @@ replies limits m call.Park reply.AllAsleep old new h = tt
 replies limits m call.Park _ old new h = absurd h.1
 replies limits m (call.Tick moment) (reply.Woke n) old new h = tt
 replies limits m (call.Tick moment) _ old new h = absurd h.1.0
+
+-- a machine that is told true by `woken` is awake
+abbrev pub Awoke : Call → Reply → Option Mode → Type 0
+Awoke call.Woken (reply.Answer true) what = what ≡ Some mode.Awake
+Awoke _ answer what = Unit {0}
+
+looks_awoke : (m : MNo) (answer : Reply) (old new : Machines) → Looks m answer old new → Awoke call.Woken answer (slice_get old.modes m.0)
+looks_awoke m (reply.Answer true) old new (awake, is) = awake
+looks_awoke m (reply.Answer false) old new h = tt
+looks_awoke m _ old new h = absurd h
+
+pub awoke : (limits : Limits) (m : MNo) (c : Call) (answer : Reply) (old new : State) → Effect limits m c answer old new → Awoke c answer (slice_get old.machines.modes m.0)
+awoke limits m call.Woken answer old new (h, is, rest) = looks_awoke m answer _ _ h
+awoke limits m _ answer old new h = tt
