@@ -205,12 +205,7 @@ granted k m c inside s acts goes =
     subst (CallState c (slice_get k.book.state.machines.modes m.0)) (sym sees.spinning)
     (call_state (machine_at k m).procs (machine_at k m).fresh (machine_at k m).turns (machine_at k m).hand (slice_get k.book.state.machines.modes m.0) (machine_at k m).place c acts sees.does mine.few) in
     record {
-      pass = mine.pass;
-      has_pass = mine.has_pass;
-      run = mine.run.1;
-      its = mine.its;
-      turn = mine.turn;
-      seen = mine.seen;
+      may = record { pass = mine.pass; has_pass = mine.has_pass; run = mine.run.1; its = mine.its; turn = mine.turn; seen = mine.seen };
       needs = needs k.book.state m (machine_at k m) sees (λ r some. ticket_is_out k m r s inside some) c (uses (machine_at k m) c acts (mine.driver.fits (ap is_some mine.has_pass))) state;
       has = mine.has;
     }

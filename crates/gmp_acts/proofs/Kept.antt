@@ -332,14 +332,14 @@ pub accepted_sound : (k : System) (m : MNo) (c : Call) (x : PlainMachine) (log' 
 accepted_sound k m c x log' own inside s acts done =
     let mine : Agrees k.book m (machine_at k m) = s.each m inside in
     let answer : Reply = done.answer in
-    let same : done.granted.pass ≡ mine.pass = same_pass done.granted.pass mine.pass (machine_at k m).pass done.granted.has_pass mine.has_pass in
+    let same : done.granted.may.pass ≡ mine.pass = same_pass done.granted.may.pass mine.pass (machine_at k m).pass done.granted.may.has_pass mine.has_pass in
     let run : log'.run ≡ k.book.run = ap (λ (l : BookRun). l.run) done.opened in
     let limits : log'.limits ≡ k.book.limits = ap (λ (l : BookRun). l.limits) done.opened in
     let bodies : log'.bodies ≡ k.book.bodies = ap (λ (l : BookRun). l.bodies) done.opened in
     let capacities : log'.capacities ≡ k.book.capacities = ap (λ (l : BookRun). l.capacities) done.opened in
     let e : Entry = record { m = m; k = count_of k.book m; call = c; reply = answer } in
     let longer : count_of_all k.book ≤ count_of_all log' = (let n = one_more k m c answer inside s acts log'.state done.step in omega (arith, n)) in
-    let behind : Pass = record done.granted.pass { calls = done.granted.pass.calls + 1; seen = count_of_all log' } in
+    let behind : Pass = record done.granted.may.pass { calls = done.granted.may.pass.calls + 1; seen = count_of_all log' } in
     let is : behind ≡ record mine.pass { calls = mine.pass.calls + 1; seen = count_of_all log' } =
     ap (λ (p : Pass). let q : Pass = record p { calls = p.calls + 1; seen = count_of_all log' } in q) same in
     let here : Agrees log' m x = subst (Agrees log' m) (sym done.machine) (caller k m c answer inside s acts log'.state done.step log' behind run limits refl is) in

@@ -53,7 +53,7 @@ module _ (k : System) (m : MNo) (inside : m.0 < length k.machines) (s : IsSound 
       → Answers (machine_at k m) m c k.book k.own (told_of c answer s') (record k.book { history = entered c answer; state = s' }) (k.own ++ record { m = m; call = c; reply = answer } ∷ [])
   by_step c answer s' acts step =
       let g = granted k m c inside s acts step.0 in
-      let same : mine.pass ≡ g.pass = same_pass mine.pass g.pass (machine_at k m).pass mine.has_pass g.has_pass in
+      let same : mine.pass ≡ g.may.pass = same_pass mine.pass g.may.pass (machine_at k m).pass mine.has_pass g.may.has_pass in
       inl (record {
         granted = g;
         answer = answer;

@@ -29,15 +29,18 @@ use Rattle.gmp_driver.specs.Table.{after, next_act}
 
 -- Book calls
 
--- The scheduler grants the call: the machine's pass is of the run, its own and its latest, what the call needs is met, and what the machine
--- holds is its own.
-pub record IsGranted (x : PlainMachine) (m : MNo) (asked : Call) (book : BookRun) : Type 0 where
+-- The machine's pass is of the run, its own and its latest.
+pub record MayCall (x : PlainMachine) (m : MNo) (book : BookRun) : Type 0 where
   pub pass : Pass
   pub has_pass : x.pass ≡ Some pass
   pub run : pass.run ≡ book.run
   pub its : pass.m ≡ m
   pub turn : pass.calls ≡ count_of book m
   pub seen : pass.seen ≤ count_of_all book
+
+-- The scheduler grants the call: the machine may call, what the call needs is met, and what the machine holds is its own.
+pub record IsGranted (x : PlainMachine) (m : MNo) (asked : Call) (book : BookRun) : Type 0 where
+  pub may : MayCall x m book
   pub needs : Needs m asked book.state
   pub has : Has book.state m x.hand
 
@@ -50,7 +53,7 @@ pub record Accepted (x : PlainMachine) (m : MNo) (asked : Call) (book : BookRun)
   pub opened : book' ≡ record book { history = book'.history; state = book'.state }
   pub made : own' ≡ own ++ record { m = m; call = asked; reply = answer } ∷ []
   pub machine : x'
-      ≡ after (record x { pass = Some (record granted.pass { calls = granted.pass.calls + 1; seen = count_of_all book' }); hand = hand_after book.state.table asked answer x.hand }) (told.Replied answer)
+      ≡ after (record x { pass = Some (record granted.may.pass { calls = granted.may.pass.calls + 1; seen = count_of_all book' }); hand = hand_after book.state.table asked answer x.hand }) (told.Replied answer)
 
 -- The run is over: there is no entry, and the machine is told so.
 pub record Stopped (x : PlainMachine) (book : BookRun) (own : List Made) (x' : PlainMachine) (book' : BookRun) (own' : List Made) : Type 0 where

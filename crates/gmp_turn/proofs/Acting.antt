@@ -23,21 +23,21 @@ use Rattle.gmp_turn.specs.Turns.{Turns, hand_with, handed_out, is_to_claim, load
 use Rattle.gmp_turn.proofs.Back.{backs}
 use Rattle.gmp_turn.proofs.Landing.{after_plain}
 
-same_pass : (p q : Pass) (o : Option Pass) → o ≡ Some p → o ≡ Some q → p ≡ q
+pub same_pass : (p q : Pass) (o : Option Pass) → o ≡ Some p → o ≡ Some q → p ≡ q
 same_pass p q o a b = cc
 
 module _ {T Q : Type 0} (x x' : Machine T Q) (book book' : BookContents T Q) (m : MNo) (asked : Call) (word : ℕ) (answer : Reply) (own : List Made) (is : next_act x ≡ act.Call asked) (fits : Fits x.place x.hand)
     (granted : IsGranted (plain_machine x) m asked (run_of book.log)) (turned : Turns x book asked word (Ok answer) x' book') where
-  same : turned.before ≡ granted.pass
-  same = same_pass turned.before granted.pass x.pass turned.pass granted.has_pass
+  same : turned.before ≡ granted.may.pass
+  same = same_pass turned.before granted.may.pass x.pass turned.pass granted.may.has_pass
 
   its : turned.before.m ≡ m
-  its = ap (λ (p : Pass). p.m) same ∙ granted.its
+  its = ap (λ (p : Pass). p.m) same ∙ granted.may.its
 
   abbrev entry_of : MNo → ℕ → Entry
   entry_of i n = record { m = i; k = n; call = asked; reply = answer }
 
-  number : turned.before.calls ≡ granted.pass.calls
+  number : turned.before.calls ≡ granted.may.pass.calls
   number = ap (λ (p : Pass). p.calls) same
 
   abbrev hand : PlainHand
@@ -57,7 +57,7 @@ module _ {T Q : Type 0} (x x' : Machine T Q) (book book' : BookContents T Q) (m 
     granted = granted;
     answer = answer;
     step = subst (λ (i : MNo). Step book.log.limits i asked answer book.log.state book'.log.state) its turned.records.step;
-    entry = turned.records.entry ∙ ap (λ (e : Entry). book.log.history ++ e ∷ []) (ap (λ (i : MNo). entry_of i turned.before.calls) its ∙ ap (entry_of m) (number ∙ granted.turn));
+    entry = turned.records.entry ∙ ap (λ (e : Entry). book.log.history ++ e ∷ []) (ap (λ (i : MNo). entry_of i turned.before.calls) its ∙ ap (entry_of m) (number ∙ granted.may.turn));
     opened = ap run_of turned.records.opened;
     made = refl;
     machine = ap plain_machine turned.machine ∙ after_plain _ (told.Replied answer) ∙ ap (told_so turned.behind) holds

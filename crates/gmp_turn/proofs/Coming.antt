@@ -3,6 +3,7 @@ use Rattle.std.proofs.Common.{◌≡◌, inl, inr, ℕ, Bool, true, false, List,
 use Rattle.std.specs.Option.{option_map}
 use Rattle.std.specs.Prelude.{IfErr, IfOk, IfSome, OnErr}
 use Rattle.gmp_base.specs.declared.ask.Woke.{Woke}
+use Rattle.gmp_base.specs.declared.ask.Woke.TheVariants as woke
 use Rattle.gmp_base.specs.declared.number.GNo.{GNo}
 use Rattle.gmp_base.specs.declared.number.Readiness.{Readiness}
 use Rattle.gmp_base.specs.declared.pass.Pass.{Pass}
@@ -37,11 +38,11 @@ use Rattle.gmp_driver.specs.Seen.{seen, seen_of}
 use Rattle.gmp_driver.specs.Table.{act_at, after, next_act, next_place}
 use Rattle.gmp_driver.proofs.Uses.{uses}
 use Rattle.gmp_turn.specs.Turns.{hand_with, handed_out, is_to_claim, load_back, told_of, values_in}
-use Rattle.gmp_acts.specs.Hands.{PlainHand, hand_after, plain}
-use Rattle.gmp_acts.proofs.Lands.{lands}
+use Rattle.gmp_acts.specs.Hands.{PlainHand, hand_after, hand_unmade, plain, plain_called, plain_held, plain_proc}
+use Rattle.gmp_acts.proofs.Lands.{lands, retold_some}
 use Rattle.gmp_acts.proofs.Replies.{CanReply, replies}
 use Rattle.gmp_turn.proofs.Back.{backs, filled}
-use Rattle.gmp_turn.proofs.Landing.{awoke_for, fits_plain, mode_for, plain_fits, refused, seen_plain, suits_mode}
+use Rattle.gmp_turn.proofs.Landing.{awoke_for, fits_plain, mapped, mode_for, plain_fits, refused, seen_plain, suits_mode}
 
 -- Of one run
 
@@ -122,17 +123,22 @@ hands_of run c answer given back old now e of k =
 
 -- Refused: what was handed in comes back
 
+-- in plain parts
+abbrev pub plain_back : Call → Refusal → PlainHand → PlainHand
+plain_back (call.Make capacity) OutOfMemory hand = hand_unmade hand
+plain_back c why hand = hand
+
 module _ {T Q : Type 0} (run : ℕ) (pass : Pass) where
-  abbrev Again : Call → Refusal → Registers T Q → Type 0
+  abbrev pub Again : Call → Refusal → Registers T Q → Type 0
   Again c why hand =
       (let left = unused (act.Call c) hand in
       let came = parts_of (load_back pass (is_to_claim c (load_of run pass (used (act.Call c) hand))) (values_back c why (values_in (load_of run pass (used (act.Call c) hand))))) in
-      (filled (joined came left) ≡ filled hand) × AreApart left came)
+      (plain (joined came left) ≡ plain_back c why (plain hand)) × AreApart left came)
 
-  abbrev parts : Option (ProcParts Q) → Option (HeldParts T) → Option (CalledParts T) → Option Readiness → Option Readiness → Registers T Q
+  abbrev pub parts : Option (ProcParts Q) → Option (HeldParts T) → Option (CalledParts T) → Option Readiness → Option Readiness → Registers T Q
   parts p h c t s = record { processor = p; held = h; called = c; to_claim = t; to_store = s }
 
-  by_parts : (c : Call) (why : Refusal) (p : Option (ProcParts Q)) (h : Option (HeldParts T)) (l : Option (CalledParts T)) (t s : Option Readiness) → Again c why (parts p h l t s)
+  pub by_parts : (c : Call) (why : Refusal) (p : Option (ProcParts Q)) (h : Option (HeldParts T)) (l : Option (CalledParts T)) (t s : Option Readiness) → Again c why (parts p h l t s)
   by_parts (call.Put r) why p h l t (Some x) = (refl, record { processor = inr refl; held = inr refl; called = inr refl; to_claim = inr refl; to_store = inl refl })
   by_parts (call.Put r) why p h l (Some x) None = (refl, record { processor = inr refl; held = inr refl; called = inr refl; to_claim = inl refl; to_store = inr refl })
   by_parts (call.Put r) why p h l None None = (refl, record { processor = inr refl; held = inr refl; called = inr refl; to_claim = inl refl; to_store = inr refl })
@@ -155,8 +161,23 @@ module _ {T Q : Type 0} (run : ℕ) (pass : Pass) where
   by_parts call.Bare why p h l t s = (refl, record { processor = inr refl; held = inr refl; called = inr refl; to_claim = inr refl; to_store = inr refl })
   by_parts call.Park why p h l t s = (refl, record { processor = inr refl; held = inr refl; called = inr refl; to_claim = inr refl; to_store = inr refl })
   by_parts (call.Tick moment) why p h l t s = (refl, record { processor = inr refl; held = inr refl; called = inr refl; to_claim = inr refl; to_store = inr refl })
+  by_parts (call.Make capacity) OutOfMemory p (Some x) l t s = (refl, record { processor = inr refl; held = inl refl; called = inr refl; to_claim = inr refl; to_store = inr refl })
+  by_parts (call.Make capacity) _ p (Some x) l t s = (refl, record { processor = inr refl; held = inl refl; called = inr refl; to_claim = inr refl; to_store = inr refl })
   by_parts _ why p (Some x) l t s = (refl, record { processor = inr refl; held = inl refl; called = inr refl; to_claim = inr refl; to_store = inr refl })
+  by_parts (call.Make capacity) OutOfMemory p None l t s = (refl, record { processor = inr refl; held = inl refl; called = inr refl; to_claim = inr refl; to_store = inr refl })
+  by_parts (call.Make capacity) _ p None l t s = (refl, record { processor = inr refl; held = inl refl; called = inr refl; to_claim = inr refl; to_store = inr refl })
   by_parts _ why p None l t s = (refl, record { processor = inr refl; held = inl refl; called = inr refl; to_claim = inr refl; to_store = inr refl })
+
+filled_plain : {T Q : Type 0} (hand : Registers T Q) → filled (plain hand) ≡ filled hand
+filled_plain hand = rw (mapped plain_proc hand.processor, mapped plain_held hand.held, mapped plain_called hand.called) refl
+
+filled_back : (c : Call) (why : Refusal) (hand : PlainHand) → filled (plain_back c why hand) ≡ filled hand
+filled_back (call.Make capacity) OutOfMemory hand = rw (retold_some woke.NoMemory hand.held) refl
+filled_back (call.Make capacity) _ hand = refl
+filled_back _ why hand = refl
+
+same_filled : {T Q : Type 0} (c : Call) (why : Refusal) (hand hand' : Registers T Q) → plain hand' ≡ plain_back c why (plain hand) → filled hand' ≡ filled hand
+same_filled c why hand hand' e = sym (filled_plain hand') ∙ ap filled e ∙ filled_back c why (plain hand) ∙ filled_plain hand
 
 -- Both
 
@@ -198,7 +219,7 @@ module _ {T Q : Type 0} (x : Machine T Q) (asked : Call) (before : Pass) (book b
       rw (same, stays.1) (record {
         run = loaded x.run _ before (values_back asked why given) pass (back_of x.run (is_make asked) why given (given_of x.run before (used (act.Call asked) x.hand)));
         apart = comes.1;
-        fits = refused x.procs x.fresh x.turns x.hand hand (seen (record x { hand = hand })) x.place why fits comes.0;
+        fits = refused x.procs x.fresh x.turns x.hand hand (seen (record x { hand = hand })) x.place why fits (same_filled asked why x.hand hand comes.0);
       })
 
 pub all_of : (A B : Type 0) (C : Refusal → Type 0) (result : Result Reply Refusal) → OnErr result (A × B) → IfErr result C → IfErr result (λ why. A × B × C why)

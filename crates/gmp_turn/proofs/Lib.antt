@@ -4,3 +4,4 @@ pub mod Landing
 pub mod Coming
 pub mod Ending
 pub mod Acting
+pub mod Refusing

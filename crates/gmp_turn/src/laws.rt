@@ -1,6 +1,7 @@
-//! What a turn is among the acts of several machines. The law is the contract of a function that does nothing.
-ghost use Rattle.std.specs.Prelude.{◌≡◌, ℕ, List, [], ◌∷◌, ◌++◌, Ok};
+//! What a turn is among the acts of several machines. Each law is the contract of a function that does nothing.
+ghost use Rattle.std.specs.Prelude.{◌≡◌, ◌≢◌, ◌<◌, ℕ, List, [], ◌∷◌, ◌++◌, None, Ok, Err};
 ghost use Rattle.gmp_base.specs.declared.number.MNo.{MNo};
+ghost use Rattle.gmp_base.specs.declared.refusal.Refusal.{Refusal};
 ghost use Rattle.gmp_seq.specs.declared.call.Call.{Call};
 ghost use Rattle.gmp_seq.specs.declared.call.Reply.{Reply};
 ghost use Rattle.gmp_book.specs.Book.{BookContents};
@@ -9,7 +10,7 @@ ghost use Rattle.gmp_driver.specs.Fits.{Fits};
 ghost use Rattle.gmp_driver.specs.Machine.{Machine};
 ghost use Rattle.gmp_driver.specs.Table.{next_act};
 ghost use Rattle.gmp_acts.specs.declared.made.Made.{Made};
-ghost use Rattle.gmp_acts.specs.Acts.{Accepted, IsGranted};
+ghost use Rattle.gmp_acts.specs.Acts.{Accepted, IsGranted, MayCall, Stopped, Unmade};
 ghost use Rattle.gmp_acts.specs.Hands.{plain_machine};
 ghost use Rattle.gmp_turn.specs.Acts.{run_of};
 ghost use Rattle.gmp_turn.specs.Turns.{Turns};
@@ -20,4 +21,15 @@ pub fn answers_are_acts<T, Q>()
     ensures { (x x' : Machine T Q) (book book' : BookContents T Q) (m : MNo) (asked : Call) (word : ℕ) (answer : Reply) (own : List Made) → next_act x ≡ Act.Call asked → Fits x.place x.hand
         → IsGranted (plain_machine x) m asked (run_of book.log) → Turns x book asked word (Ok answer) x' book'
         → Accepted (plain_machine x) m asked (run_of book.log) own (plain_machine x') (run_of book'.log) (own ++ record { m = m; call = asked; reply = answer } ∷ []) }
+{}
+
+/// A turn that is refused is the book call of gmp_acts's definitions too, of a machine that may call: where the run is over it is told so;
+/// and while it lasts, where the call is granted, it is a make that was refused memory. Nothing else has changed.
+pub fn refusals_are_acts<T, Q>()
+    ensures over { (x x' : Machine T Q) (book book' : BookContents T Q) (m : MNo) (asked : Call) (word : ℕ) (why : Refusal) (own : List Made) → next_act x ≡ Act.Call asked → Fits x.place x.hand
+        → x.run ≡ book.log.run → m.0 < book.log.limits.machines → MayCall (plain_machine x) m (run_of book.log) → Turns x book asked word (Err why) x' book' → book.log.state.outcome ≢ None
+        → Stopped (plain_machine x) (run_of book.log) own (plain_machine x') (run_of book'.log) own }
+    ensures wanted { (x x' : Machine T Q) (book book' : BookContents T Q) (m : MNo) (asked : Call) (word : ℕ) (why : Refusal) (own : List Made) → next_act x ≡ Act.Call asked → Fits x.place x.hand
+        → x.run ≡ book.log.run → m.0 < book.log.limits.machines → IsGranted (plain_machine x) m asked (run_of book.log) → Turns x book asked word (Err why) x' book' → book.log.state.outcome ≡ None
+        → Unmade (plain_machine x) m asked (run_of book.log) own (plain_machine x') (run_of book'.log) own }
 {}
