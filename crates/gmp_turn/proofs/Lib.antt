@@ -5,3 +5,4 @@ pub mod Coming
 pub mod Ending
 pub mod Acting
 pub mod Refusing
+pub mod Giving
