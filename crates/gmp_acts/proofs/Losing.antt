@@ -1,5 +1,5 @@
 -- What acts leave as it was, and what a machine is told.
-use Rattle.std.proofs.Common.{◌≡◌, ◌≢◌, ◌⊎◌, inl, inr, ℕ, ◌+◌, ◌<◌, Bool, true, false, List, [], ◌∷◌, ◌++◌, length, get_or, set, refl, sym, ap, ◌∙◌, subst, arith, Option, Some, None, sum_by, get_or-set_same, get_or-set_other}
+use Rattle.std.proofs.Common.{◌≡◌, ◌≢◌, ◌⊎◌, inl, inr, ℕ, ◌+◌, ◌<◌, Bool, true, false, List, [], ◌∷◌, ◌++◌, length, get_or, set, refl, sym, ap, ◌∙◌, subst, arith, Option, Some, None, sum_by, get_or-set_same, get_or-set_other, if◌then◌else◌, nat_le}
 use Rattle.gmp_base.specs.declared.number.MNo.{MNo}
 use Rattle.gmp_base.specs.declared.number.PNo.{PNo}
 use Rattle.gmp_base.specs.declared.number.Readiness.{Readiness}
@@ -187,6 +187,11 @@ module _ (k : System) (m : MNo) (choice : Choice) (k' : System) (inside : m.0 < 
 
   pub number_at : (machine_at k m).place ≡ place.Block → (machine_at k' m).place ≡ place.Leave choice.number
   number_at at = told_place k m choice k' place.Block (told.Number choice.number) inside at (does place.Block at)
+
+  pub moment_at : (machine_at k m).place ≡ place.Look → nat_le 16 (machine_at k m).turns ≡ true → (machine_at k' m).place ≡ place.Ticking choice.moment
+  moment_at at full =
+      let d = subst (λ (a : Act). DoesAct a k m choice k') (ap (λ (b : Bool). if b then act.Clock None else act.Pop) full) (does place.Look at) in
+      told_place k m choice k' place.Look (told.Moment choice.moment) inside at d
 
   pub minded_at : (deadline : ℕ) → (machine_at k m).place ≡ place.Mind deadline → (machine_at k' m).place ≡ place.MindTick choice.moment
   minded_at deadline at = told_place k m choice k' (place.Mind deadline) (told.Moment choice.moment) inside at (does (place.Mind deadline) at)

@@ -7,7 +7,7 @@ use Rattle.gmp_driver.specs.declared.act.Act.TheVariants as act
 use Rattle.gmp_driver.specs.Seen.{own_processor}
 use Rattle.gmp_acts.specs.System.{System, elsewhere, machine_at}
 
--- the act is on a queue, a body or the clock
+-- the act is no call of the book and gives nothing back: it is on a queue, a body or the clock, or does nothing
 abbrev pub IsLocal : Act → Type 0
 IsLocal (act.Call asked) = ⊥
 IsLocal (act.Surrender which) = ⊥

@@ -1,5 +1,5 @@
 //! What holds of all machines together, whatever they do. Each law is the contract of a function that does nothing.
-ghost use Rattle.std.specs.Prelude.{◌≡◌, ◌≢◌, ◌⊎◌, ◌<◌, ◌≤◌, ℕ, List, [], ◌∷◌, ◌++◌, All, None, Some, length};
+ghost use Rattle.std.specs.Prelude.{◌≡◌, ◌≢◌, ◌⊎◌, ◌<◌, ◌≤◌, ℕ, List, [], ◌∷◌, ◌++◌, All, None, Some, length, nat_le, true};
 ghost use Rattle.gmp_base.specs.declared.number.MNo.{MNo};
 ghost use Rattle.gmp_base.specs.declared.number.PNo.{PNo};
 ghost use Rattle.gmp_base.specs.declared.number.Readiness.{Readiness};
@@ -63,7 +63,7 @@ pub fn calls_are_granted()
 
 /// An act on a queue, a body or the clock changes nothing of the run, of other machines, or of what the machine holds but for tickets, and
 /// each ticket stands in as many places as before. So does a call that finds the run over, and its machine is at Over then.
-pub fn nothing_is_lost()
+pub fn acts_lose_nothing()
     ensures local { (k : System) (m : MNo) (choice : Choice) (end : System) → IsSound k → m.0 < length k.machines → IsLocal (next_act (machine_at k m)) → Acts k m choice end → KeepsAll k m end }
     ensures over { (k : System) (m : MNo) (choice : Choice) (asked : Call) (end : System) → IsSound k → m.0 < length k.machines → next_act (machine_at k m) ≡ Act.Call asked
         → k.book.state.outcome ≢ None → Acts k m choice end → KeepsAll k m end × ((machine_at end m).hand ≡ (machine_at k m).hand) × ((machine_at end m).place ≡ Place.Over) }
@@ -77,6 +77,8 @@ pub fn machines_are_told()
         → (machine_at end m).place ≡ Place.Do choice.ask }
     ensures number { (k : System) (m : MNo) (choice : Choice) (end : System) → m.0 < length k.machines → (machine_at k m).place ≡ Place.Block → Acts k m choice end
         → (machine_at end m).place ≡ Place.Leave choice.number }
+    ensures moment { (k : System) (m : MNo) (choice : Choice) (end : System) → m.0 < length k.machines → (machine_at k m).place ≡ Place.Look → nat_le 16 (machine_at k m).turns ≡ true → Acts k m choice end
+        → (machine_at end m).place ≡ Place.Ticking choice.moment }
     ensures minded { (k : System) (m : MNo) (choice : Choice) (deadline : ℕ) (end : System) → m.0 < length k.machines → (machine_at k m).place ≡ Place.Mind deadline → Acts k m choice end
         → (machine_at end m).place ≡ Place.MindTick choice.moment }
 {}

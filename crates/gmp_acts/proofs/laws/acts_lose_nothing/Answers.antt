@@ -1,5 +1,5 @@
 use Rattle.gmp_acts.proofs.Losing.{local_keeps, over_keeps, surrender_gives}
-use Rattle.gmp_acts.proofs.laws.nothing_is_lost.Goals as goal
+use Rattle.gmp_acts.proofs.laws.acts_lose_nothing.Goals as goal
 
 pub returns-clause-local : goal.returns-clause-local
 returns-clause-local c = local_keeps
