@@ -6,3 +6,4 @@ pub mod Ending
 pub mod Acting
 pub mod Refusing
 pub mod Giving
+pub mod Keeping
