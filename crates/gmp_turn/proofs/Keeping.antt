@@ -1,5 +1,5 @@
 -- Values stay, in the hand or in their places, where nothing moves, where one goes home, and where one comes out.
-use Rattle.std.proofs.Common.{◌≡◌, ℕ, ◌==◌, ◌<◌, List, length, get_or, set, Option, None, Some, IsSome, is_some, if◌then◌else◌, Bool, true, false, inl, inr, refl, sym, ap, subst, slice_get, ◌∙◌}
+use Rattle.std.proofs.Common.{◌≡◌, ℕ, ◌<◌, List, length, get_or, set, Option, None, Some, is_some, inl, inr, refl, sym, ap, subst, slice_get, ◌∙◌}
 use Rattle.std.proofs.lemmas.Bool.{cases_eq, eq-eqb, false≢true, ne_eqb}
 use Rattle.std.proofs.lemmas.List.{get_or-set_other, get_or-set_same, length-set}
 use Rattle.std.proofs.lemmas.Option.{get_or_from_slice_get, slice_get_within}

@@ -7,3 +7,5 @@ pub mod Acting
 pub mod Refusing
 pub mod Giving
 pub mod Keeping
+pub mod Moving
+pub mod Kept
