@@ -13,3 +13,4 @@ pub mod Claimed
 pub mod Room
 pub mod Onward
 pub mod Losing
+pub mod Plain

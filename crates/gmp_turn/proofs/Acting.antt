@@ -21,7 +21,7 @@ use Rattle.gmp_acts.proofs.Replies.{replies}
 use Rattle.gmp_turn.specs.Acts.{run_of}
 use Rattle.gmp_turn.specs.Turns.{Turns, hand_with, handed_out, is_to_claim, load_back}
 use Rattle.gmp_turn.proofs.Back.{backs}
-use Rattle.gmp_turn.proofs.Landing.{after_plain}
+use Rattle.gmp_acts.proofs.Plain.{after_plain}
 
 pub same_pass : (p q : Pass) (o : Option Pass) → o ≡ Some p → o ≡ Some q → p ≡ q
 same_pass p q o a b = cc

@@ -42,7 +42,8 @@ use Rattle.gmp_acts.specs.Hands.{PlainHand, hand_after, hand_unmade, plain, plai
 use Rattle.gmp_acts.proofs.Lands.{lands, retold_some}
 use Rattle.gmp_acts.proofs.Replies.{CanReply, replies}
 use Rattle.gmp_turn.proofs.Back.{backs, filled}
-use Rattle.gmp_turn.proofs.Landing.{awoke_for, fits_plain, mapped, mode_for, plain_fits, refused, seen_plain, suits_mode}
+use Rattle.gmp_turn.proofs.Landing.{awoke_for, mode_for, refused, suits_mode}
+use Rattle.gmp_acts.proofs.Plain.{fits_plain, mapped, plain_fits, seen_plain}
 
 -- Of one run
 

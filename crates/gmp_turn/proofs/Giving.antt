@@ -14,7 +14,7 @@ use Rattle.gmp_acts.specs.Hands.{PlainHand, PlainMachine, plain, plain_machine}
 use Rattle.gmp_turn.specs.Acts.{run_of}
 use Rattle.gmp_turn.specs.Surrenders.{Surrenders, left_after, surrendered, told_back}
 use Rattle.gmp_turn.proofs.Ending.{log_after}
-use Rattle.gmp_turn.proofs.Landing.{after_plain}
+use Rattle.gmp_acts.proofs.Plain.{after_plain}
 
 module _ {T Q : Type 0} (x : Machine T Q) (pass : Pass) where
   holds : (which : Option Value) → plain (joined (parts_of (left_after which (Ok tt) (surrendered x pass which))) (unused (act.Surrender which) x.hand)) ≡ but which (plain x.hand)

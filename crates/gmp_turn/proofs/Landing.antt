@@ -1,8 +1,6 @@
--- The registers that are filled suit the next place: in plain parts as in full ones, and where a call was refused.
-use Rattle.std.proofs.Common.{◌≡◌, inl, ℕ, Bool, true, false, is_some, Option, None, Some, refl, sym, ap, ◌∙◌}
-use Rattle.std.specs.Option.{option_map}
+-- The registers that are filled suit the next place where a call was refused, and the mode suits the place.
+use Rattle.std.proofs.Common.{◌≡◌, inl, ℕ, Bool, true, false, is_some, Option, Some, refl, ap, ◌∙◌}
 use Rattle.gmp_base.specs.declared.ask.Ask.TheVariants as ask
-use Rattle.gmp_base.specs.declared.number.Readiness.{Readiness}
 use Rattle.gmp_base.specs.declared.refusal.Refusal.{Refusal}
 use Rattle.gmp_base.specs.declared.refusal.Refusal.TheVariants as refusal
 use Rattle.gmp_seq.specs.declared.call.Call.{Call}
@@ -12,21 +10,13 @@ use Rattle.gmp_seq.specs.declared.call.Reply.TheVariants as reply
 use Rattle.gmp_seq.specs.declared.status.Mode.{Mode}
 use Rattle.gmp_seq.specs.declared.status.Mode.TheVariants as mode
 use Rattle.gmp_driver.specs.declared.act.Act.TheVariants as act
-use Rattle.gmp_driver.specs.declared.act.Told.{Told}
 use Rattle.gmp_driver.specs.declared.act.Told.TheVariants as told
 use Rattle.gmp_driver.specs.declared.place.Place.{Place}
 use Rattle.gmp_driver.specs.declared.place.Place.TheVariants as place
-use Rattle.gmp_driver.specs.declared.registers.CalledParts.{CalledParts}
-use Rattle.gmp_driver.specs.declared.registers.HeldParts.{HeldParts}
-use Rattle.gmp_driver.specs.declared.registers.ProcParts.{ProcParts}
 use Rattle.gmp_driver.specs.declared.registers.Registers.{Registers}
 use Rattle.gmp_driver.specs.declared.seen.Seen.{Seen}
 use Rattle.gmp_driver.specs.Fits.{Fits, IsFilled}
-use Rattle.gmp_driver.specs.Machine.{Machine}
-use Rattle.gmp_driver.specs.Registers.{first_value}
-use Rattle.gmp_driver.specs.Seen.{number_of, seen_of}
 use Rattle.gmp_driver.specs.Table.{act_at, after, next_place}
-use Rattle.gmp_acts.specs.Hands.{plain, plain_called, plain_held, plain_machine, plain_proc}
 use Rattle.gmp_acts.specs.Sound.{ModeAt}
 use Rattle.gmp_acts.proofs.Replies.{Awoke}
 use Rattle.gmp_turn.proofs.Back.{Filled, filled}
@@ -68,59 +58,6 @@ module _ {T Q : Type 0} (procs : ℕ) (fresh : Bool) (turns : ℕ) (hand hand' :
   refused x place.Unspin why f e = at_its (is_some hand.to_claim) (same f e)
   refused x (place.Do (ask.Make capacity)) refusal.OutOfMemory f e = same f e
   refused x _ why f e = same f e
-
--- In plain parts
-
-pub mapped : {A B : Type 0} (f : A → B) (o : Option A) → is_some (option_map f o) ≡ is_some o
-mapped f None = refl
-mapped f (Some x) = refl
-
-number_plain : {Q : Type 0} (o : Option (ProcParts Q)) → number_of (option_map plain_proc o) ≡ number_of o
-number_plain None = refl
-number_plain (Some x) = refl
-
-first_plain : {T Q : Type 0} (p : Option (ProcParts Q)) (h : Option (HeldParts T)) (c : Option (CalledParts T)) (t s : Option Readiness)
-    → (let hand : Registers T Q = record { processor = p; held = h; called = c; to_claim = t; to_store = s } in first_value (plain hand) ≡ first_value hand)
-first_plain p (Some x) c t s = refl
-first_plain p None (Some x) t s = refl
-first_plain p None None (Some x) s = refl
-first_plain p None None None (Some x) = refl
-first_plain (Some x) None None None None = refl
-first_plain None None None None None = refl
-
-pub seen_plain : {T Q : Type 0} (procs : ℕ) (fresh : Bool) (turns : ℕ) (hand : Registers T Q) → seen_of procs fresh turns (plain hand) ≡ seen_of procs fresh turns hand
-seen_plain procs fresh turns hand = rw (number_plain hand.processor, first_plain hand.processor hand.held hand.called hand.to_claim hand.to_store) refl
-
--- told something in plain parts
-pub after_plain : {T Q : Type 0} (x : Machine T Q) (what : Told) → plain_machine (after x what) ≡ after (plain_machine x) what
-after_plain x what = rw (seen_plain x.procs x.fresh x.turns x.hand) refl
-
-module _ {T Q : Type 0} (hand : Registers T Q) where
-  to_plain : {p h c t s : Bool} → IsFilled p h c t s hand → IsFilled p h c t s (plain hand)
-  to_plain f = record {
-    has_processor = mapped plain_proc hand.processor ∙ f.has_processor;
-    has_held = mapped plain_held hand.held ∙ f.has_held;
-    has_called = mapped plain_called hand.called ∙ f.has_called;
-    has_to_claim = f.has_to_claim;
-    has_to_store = f.has_to_store;
-  }
-
-  from_plain : {p h c t s : Bool} → IsFilled p h c t s (plain hand) → IsFilled p h c t s hand
-  from_plain f = record {
-    has_processor = sym (mapped plain_proc hand.processor) ∙ f.has_processor;
-    has_held = sym (mapped plain_held hand.held) ∙ f.has_held;
-    has_called = sym (mapped plain_called hand.called) ∙ f.has_called;
-    has_to_claim = f.has_to_claim;
-    has_to_store = f.has_to_store;
-  }
-
-  pub fits_plain : (here : Place) → Fits here hand → Fits here (plain hand)
-  fits_plain place.Over f = tt
-  fits_plain _ f = to_plain f
-
-  pub plain_fits : (here : Place) → Fits here (plain hand) → Fits here hand
-  plain_fits place.Over f = tt
-  plain_fits _ f = from_plain f
 
 -- A mode that suits the place
 

@@ -6,3 +6,6 @@ pub mod Ending
 pub mod Acting
 pub mod Refusing
 pub mod Giving
+pub mod Keeping
+pub mod Moving
+pub mod Kept

@@ -53,7 +53,7 @@ use Rattle.gmp_turn.specs.Turns.{Turns, hand_with, handed_out, is_to_claim, load
 use Rattle.gmp_turn.proofs.Acting.{same_pass}
 use Rattle.gmp_turn.proofs.Coming.{by_parts, plain_back}
 use Rattle.gmp_turn.proofs.Given.{some_of, suits}
-use Rattle.gmp_turn.proofs.Landing.{after_plain}
+use Rattle.gmp_acts.proofs.Plain.{after_plain}
 
 -- What a machine hands out is of its run
 

@@ -1,3 +1,4 @@
 pub mod Turns
 pub mod Surrenders
 pub mod Acts
+pub mod Values

@@ -1,0 +1,9 @@
+pub mod Rings
+pub mod Landing
+pub mod Stealing
+pub mod Owning
+pub mod Stock
+pub mod Apart
+pub mod Tying
+pub mod Keeping
+pub mod Together

@@ -1,0 +1,100 @@
+-- An act at a machine's desk, for the core as a whole.
+use Rattle.std.proofs.Common.{rules, ◌≡◌, ◌≢◌, ◌⊎◌, inl, inr, ℕ, ◌<◌, ◌≤◌, true, [], length, get_or, refl, sym, ap, ◌∙◌, subst, arith, Option, Some, None, IfSome, IsSome, is_some, Result, Ok, Err}
+use Rattle.std.specs.List.{slice_get}
+use Rattle.gmp_base.specs.declared.number.MNo.{MNo}
+use Rattle.gmp_base.specs.declared.number.PNo.{PNo}
+use Rattle.gmp_base.specs.declared.number.Readiness.{Readiness}
+use Rattle.gmp_base.specs.declared.refusal.Refusal.{Refusal}
+use Rattle.gmp_seq.specs.Table.{is_outstanding}
+use Rattle.gmp_book.specs.Book.{BookContents}
+use Rattle.gmp_driver.specs.declared.act.Act.TheVariants as act
+use Rattle.gmp_driver.specs.declared.act.Value.{Value}
+use Rattle.gmp_driver.specs.Machine.{Machine}
+use Rattle.gmp_driver.specs.Seen.{own_processor}
+use Rattle.gmp_driver.specs.Table.{next_act}
+use Rattle.gmp_acts.specs.declared.choice.Choice.{Choice}
+use Rattle.gmp_acts.specs.declared.made.Made.{Made}
+use Rattle.gmp_acts.specs.Acts.{Acts, HasFewCases}
+use Rattle.gmp_acts.specs.Hands.{PlainMachine, plain_machine}
+use Rattle.gmp_acts.specs.Headline.{NoClaimIsRefused, SameOpening}
+use Rattle.gmp_acts.specs.Sound.{Agrees, IsSound}
+use Rattle.gmp_acts.specs.System.{System, machine_at}
+use Rattle.gmp_acts.proofs.Claimed.{no_claim_refused}
+use Rattle.gmp_acts.proofs.Moving.{own_within}
+use Rattle.gmp_acts.proofs.Onward.{act_opened}
+use Rattle.gmp_acts.proofs.Plain.{number_plain, plain_fits}
+use Rattle.gmp_acts.proofs.Room.{push_has_room}
+use Rattle.gmp_acts.proofs.Whole.{headline_of}
+use Rattle.gmp_turn.specs.Surrenders.{Surrenders}
+use Rattle.gmp_turn.specs.Turns.{Turns}
+use Rattle.gmp_turn.specs.Values.{AreOut, body_in, owner_in}
+use Rattle.gmp_turn.proofs.Kept.{kept_at_end, turned}
+use Rattle.gmp_core.specs.Doing.{Desk, Does}
+use Rattle.gmp_core.specs.Inside.{IsCore, Parts, system_of}
+use Rattle.gmp_core.specs.Whole.{HeadlineOf, stock_of}
+use Rattle.gmp_core.proofs.Keeping.{kept_after, one_in_hand, room_for}
+use Rattle.gmp_core.proofs.Tying.{agrees, does, is_there, machine_is, over, parts_after, tickets}
+
+surrender_taken : {T Q : Type 0} (x x' : Machine T Q) (book book' : BookContents T Q) (which : Option Value) (result : Result Unit Refusal) → x.run ≡ book.log.run → book.log.state.outcome ≢ None
+    → AreOut (body_in x.hand) book.bodies → AreOut (owner_in x.hand) book.owners
+    → ((r : Readiness) → (x.hand.to_claim ≡ Some r) ⊎ (x.hand.to_store ≡ Some r) → is_outstanding book.log.state.table r ≡ true)
+    → Surrenders x book which result x' book' → result ≡ Ok tt
+surrender_taken x x' book book' which result run over out out' tickets s = search rules
+
+module _ {T : Type 0} (c : Parts T) (m : MNo) (x : Machine T Unit) (is : slice_get c.machines m.0 ≡ Some x) (core : IsCore c) where
+  abbrev k : System
+  k = system_of c
+
+  mine : Agrees k.book m (plain_machine x)
+  mine = agrees c m x is core.sound
+
+  pub has_pass : IsSome x.pass
+  has_pass = ap is_some mine.has_pass
+
+  pub same_run : x.run ≡ c.book.log.run
+  same_run = mine.run.0
+
+  pub finds_room : (r : Readiness) → x.hand.to_store ≡ Some r → (p : PNo) → own_processor x.hand ≡ Some p → (p.0 < length c.rings.queues) × (length (get_or c.rings.queues p.0 []) < c.rings.room)
+  finds_room r stored p own =
+      let at = machine_is c m x is in
+      let within : p.0 < length k.queues = own_within k m (is_there c m x is) core.sound p (ap (λ (y : PlainMachine). own_processor y.hand) at ∙ number_plain x.hand.processor ∙ own) in
+      let few : length (get_or c.rings.queues p.0 []) < k.book.bodies = push_has_room k m p r core.sound (is_there c m x is) within (ap (λ (y : PlainMachine). y.hand.to_store) at ∙ stored) in
+      let room = core.tickets_room in
+      (within, omega (arith, few, room))
+
+  module _ (choice : Choice) (now : Desk T) (made : Option Made) (few : HasFewCases choice.ask) (d : Does (next_act x) m choice (record { machine = x; book = c.book; rings = c.rings }) now made) where
+    abbrev c' : Parts T
+    c' = parts_after c m now made
+
+    taken : (which : Option Value) (result : Result Unit Refusal) → next_act x ≡ act.Surrender which → Surrenders x c.book which result now.machine now.book → result ≡ Ok tt
+    taken which result next s =
+        surrender_taken x now.machine c.book now.book which result same_run (over c m x choice now made is core.sound which next) (core.bodies m.0 x is) (core.owners m.0 x is) (tickets c m x choice now made is core.sound) s
+
+    pub acts_so : Acts k m choice (system_of c')
+    acts_so = does c m x choice now made is core.sound taken few d
+
+    both : IsCore c' × (stock_of c'.machines c'.book.bodies ≡ stock_of c.machines c.book.bodies)
+    both =
+        kept_after c m x choice now made is core
+        (λ asked result next t. turned x now.machine c.book now.book asked choice.word next (plain_fits x.hand x.place (mine.driver.fits has_pass)) (core.bodies m.0 x is) (core.owners m.0 x is) result t)
+        (λ which result next s. kept_at_end x c.book (one_in_hand k m x core.sound mine) (core.bodies m.0 x is) (core.owners m.0 x is) now.machine now.book which result s)
+        acts_so d
+
+    pub core_so : IsCore c'
+    core_so = both.0
+
+    pub stock_so : stock_of c'.machines c'.book.bodies ≡ stock_of c.machines c.book.bodies
+    stock_so = both.1
+
+    pub claims_so : NoClaimIsRefused k m (system_of c')
+    claims_so = no_claim_refused k m choice (system_of c') core.sound acts_so
+
+    pub headline_so : HeadlineOf (system_of c')
+    headline_so = headline_of (system_of c') core_so.sound
+
+    pub opened_so : SameOpening k.book (system_of c').book
+    opened_so = act_opened k m choice (system_of c') acts_so
+
+  pub room_so : (choice : Choice) (now : Desk T) (made : Option Made) → Does (next_act x) m choice (record { machine = x; book = c.book; rings = c.rings }) now made → IfSome made (λ _. length c.calls < c.room)
+  room_so choice now None d = tt
+  room_so choice now (Some mk) d = room_for c core m x choice now mk (next_act x) d

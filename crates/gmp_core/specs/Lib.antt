@@ -1,0 +1,5 @@
+pub mod Queues
+pub mod Local
+pub mod Whole
+pub mod Doing
+pub mod Inside

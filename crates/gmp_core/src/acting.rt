@@ -1,0 +1,62 @@
+//! One act of a machine.
+ghost use Rattle.std.specs.Prelude.{◌≡◌, ◌<◌, ℕ, [], IsSome, Some, length, slice_index_or};
+ghost use Rattle.gmp_base.specs.declared.number.PNo.{PNo};
+ghost use Rattle.gmp_base.specs.declared.number.Readiness.{Readiness};
+ghost use Rattle.gmp_driver.specs.Seen.{own_processor};
+ghost use Rattle.gmp_driver.specs.Table.{next_act};
+ghost use Rattle.gmp_core.specs.Doing.{Does};
+
+use crate::copies::{copied_ask, copied_call};
+use crate::local::{pop, push, steal, tell};
+use crate::queues::Queues;
+use gmp_acts::{Choice, Made};
+use gmp_base::MNo;
+use gmp_book::Book;
+use gmp_driver::{Act, Driver, Told};
+use gmp_turn::{surrender, turn};
+use std::alloc::Global;
+
+/// Makes the act that machine m's program names next, and answers the call that the book accepted, if it was one.
+pub(crate) fn act<T>(
+    alloc: Global,
+    driver: &mut Driver<T, ()>,
+    book: &mut Book<T, ()>,
+    queues: &mut Queues,
+    m: MNo,
+    choice: &Choice,
+) -> Option<Made>
+    requires pass { IsSome driver.old.pass }
+    requires run { driver.old.run ≡ book.old.log.run }
+    // A ticket to store finds room.
+    requires room { (r : Readiness) → driver.old.hand.to_store ≡ Some r → (p : PNo) → own_processor driver.old.hand ≡ Some p
+        → (p.0 < length queues.old.queues) × (length (slice_index_or queues.old.queues p.0 []) < queues.old.room) }
+    ensures does { Does (next_act driver.old) m choice.now (record { machine = driver.old; book = book.old; rings = queues.old })
+        (record { machine = driver.new; book = book.new; rings = queues.new }) result }
+{
+    match driver.next() {
+        Act::Call(call) => {
+            let asked = copied_call(&call);
+            let reply = turn(alloc, driver, book, call, choice.word).ok()?;
+            return Some(Made {
+                m,
+                call: asked,
+                reply,
+            });
+        }
+        Act::Pop => pop(driver, queues),
+        Act::Push => push(driver, queues, choice.push_refused),
+        Act::Hunt => {
+            let victim = driver.first_victim(choice.word);
+            steal(driver, queues, Some(choice.word), victim, choice.unsure);
+        }
+        Act::Steal(victim) => steal(driver, queues, None, victim, choice.unsure),
+        Act::Resume => tell(driver, Told::Asked(copied_ask(&choice.ask))),
+        Act::Block => tell(driver, Told::Number(choice.number)),
+        Act::Clock(_) => tell(driver, Told::Moment(choice.moment)),
+        Act::Surrender(which) => {
+            let _ = surrender(driver, book, which);
+        }
+        Act::Nothing => {}
+    }
+    None
+}

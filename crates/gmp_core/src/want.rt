@@ -1,0 +1,14 @@
+//! What an act needs of whoever makes it.
+
+/// What the next act of a machine reads of a choice.
+#[derive(Clone, Copy, Debug, PartialEq, Eq)]
+pub enum Want {
+    /// What its body asks.
+    Ask,
+    /// What its body's blocking call answers.
+    Number,
+    /// What the clock shows; it minds this deadline, in nanoseconds, where there is one.
+    Moment(Option<u64>),
+    /// Nothing.
+    Nothing,
+}
