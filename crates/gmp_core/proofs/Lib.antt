@@ -7,3 +7,4 @@ pub mod Apart
 pub mod Tying
 pub mod Keeping
 pub mod Together
+pub mod Opened
