@@ -8,3 +8,4 @@ pub mod Tying
 pub mod Keeping
 pub mod Together
 pub mod Opened
+pub mod Moves

@@ -29,8 +29,8 @@ listed : {X : Type 0} (xs : List X) (d : X) → map (λ (i : ℕ). get_or xs i d
 listed xs d =
     same_lists _ xs (length-map-range_with_len (λ (i : ℕ). get_or xs i d) 0 (length xs))
     (λ k e within.
-      let inside : k < length xs = (let l = length-map-range_with_len (λ (i : ℕ). get_or xs i d) 0 (length xs) in omega (arith, l, within)) in
-      get_or-map-range_with_len (λ (i : ℕ). get_or xs i d) 0 (length xs) k k e inside (omega arith) ∙ get_or_default xs k d e inside)
+    let inside : k < length xs = (let l = length-map-range_with_len (λ (i : ℕ). get_or xs i d) 0 (length xs) in omega (arith, l, within)) in
+    get_or-map-range_with_len (λ (i : ℕ). get_or xs i d) 0 (length xs) k k e inside (omega arith) ∙ get_or_default xs k d e inside)
 
 -- Machines at their start
 
@@ -84,5 +84,5 @@ module _ {T : Type 0} (run : ℕ) (limits : Limits) (capacities : List ℕ) (bod
   opening_stock =
       map_same _ _ (range_with_len 0 (length (map Some bodies)))
       (λ i. ap (λ (o : Option T). first_of o (get_or (map Some bodies) i None))
-        (none_has (λ (x : Machine T Unit). body_in x.hand i) machines (λ n y at. ap (λ h. body_in h i) (hand_empty limits.procs (opening_passes run limits.machines) n y at))))
+      (none_has (λ (x : Machine T Unit). body_in x.hand i) machines (λ n y at. ap (λ h. body_in h i) (hand_empty limits.procs (opening_passes run limits.machines) n y at))))
       ∙ listed (map Some bodies) None

@@ -1,5 +1,6 @@
 -- An act at a machine's desk, for the core as a whole.
-use Rattle.std.proofs.Common.{rules, ◌≡◌, ◌≢◌, ◌⊎◌, inl, inr, ℕ, ◌<◌, ◌≤◌, true, [], length, get_or, refl, sym, ap, ◌∙◌, subst, arith, Option, Some, None, IfSome, IsSome, is_some, Result, Ok, Err}
+use Rattle.std.proofs.Common.{rules, All, ◌≡◌, ◌≢◌, ◌⊎◌, inl, inr, ℕ, ◌<◌, ◌≤◌, true, [], length, get_or, refl, sym, ap, ◌∙◌, subst, arith, Option, Some, None, IfSome, IsSome, is_some, Result, Ok, Err}
+use Rattle.std.proofs.lemmas.Option.{slice_get-get_or}
 use Rattle.std.specs.List.{slice_get}
 use Rattle.std.specs.Option.{option_map}
 use Rattle.gmp_base.specs.declared.number.MNo.{MNo}
@@ -117,3 +118,7 @@ held_at_is c m x is = sym (ap (λ (p : PlainMachine). held_at p.place p.hand.hel
 
 pub next_is : {T : Type 0} (c : Parts T) (m : MNo) (x : Machine T Unit) → slice_get c.machines m.0 ≡ Some x → next_act (machine_at (system_of c) m) ≡ next_act x
 next_is c m x is = ap next_act (machine_is c m x is) ∙ next_plain x
+
+-- every machine has its pass
+pub passes_in : {T : Type 0} (c : Parts T) → IsCore c → All (λ (x : Machine T Unit). IsSome x.pass) c.machines
+passes_in c core = λ i d within. has_pass c (record { 0 = i }) (get_or c.machines i d) (slice_get-get_or c.machines i d within) core

@@ -9,7 +9,7 @@ ghost use Rattle.gmp_core.specs.Whole.{wanted_by};
 
 use crate::acting::act;
 use crate::copies::has_few;
-use crate::opening::starting;
+use crate::opening::{let_go, starting};
 use crate::queues::Queues;
 use crate::want::Want;
 use gmp_acts::{Choice, Made};
@@ -70,7 +70,7 @@ fn note(calls: &mut Vec<Made>, made: Option<Made>)
 }
 
 impl<T> Core<T> {
-    ghost use Rattle.gmp_acts.specs.Acts.{Acts};
+    ghost use Rattle.gmp_acts.specs.Acts.{Acts, ActsAll};
     ghost use Rattle.gmp_acts.specs.Headline.{NoClaimIsRefused, SameOpening, opening_system};
     ghost use Rattle.gmp_acts.specs.System.{machine_at};
     ghost use Rattle.gmp_driver.specs.Machine.{held_at, is_done};
@@ -147,6 +147,26 @@ impl<T> Core<T> {
         note(&mut self.calls, made);
     }
 
+    /// The headline holds: the type keeps it.
+    fn keeps(&self)
+        ensures { HeadlineOf self.now.system }
+    {
+        let _ = &self.book;
+    }
+
+    /// Acts in a row, each of the machine beside it. Whatever they are, the headline holds after them.
+    pub fn run(&mut self, moves: &[(MNo, Choice)])
+        ensures acts { ActsAll self.old.system moves.now self.new.system }
+        ensures stock { self.new.stock ≡ self.old.stock }
+        ensures headline { HeadlineOf self.new.system }
+        ensures opened { SameOpening self.old.system.book self.new.system.book }
+    {
+        for (m, choice) in moves {
+            self.act(*m, choice);
+        }
+        self.keeps();
+    }
+
     /// At Run what the machine's body is to be told; at Block Done, which has no meaning; else nothing.
     pub fn held(&self, m: MNo) -> Option<Woke>
         ensures { result ≡ held_at (machine_at self.now.system m).place (machine_at self.now.system m).hand.held }
@@ -202,5 +222,23 @@ impl<T> Core<T> {
         ensures { result ≡ self.now.system.book.state.outcome }
     {
         self.book.outcome()
+    }
+}
+
+impl<T: Drop> Core<T> {
+    /// Lets all go, and tells how the run ended, if it did. It takes no memory.
+    pub fn close(self) -> Option<Outcome>
+        ensures { result ≡ self.system.book.state.outcome }
+    {
+        let outcome = self.outcome();
+        let Core {
+            alloc: _,
+            book: _,
+            queues: _,
+            drivers,
+            calls: _,
+        } = self;
+        let_go(drivers);
+        outcome
     }
 }

@@ -1,5 +1,6 @@
-//! The machines at their start.
-ghost use Rattle.std.specs.Prelude.{◌≡◌, ◌≤◌, [], length, map, vec_capacity};
+//! The machines at their start, and at their end.
+ghost use Rattle.std.specs.Prelude.{◌≡◌, ◌≤◌, [], All, IsSome, length, map, vec_capacity};
+ghost use Rattle.gmp_driver.specs.Machine.{Machine};
 ghost use Rattle.gmp_core.specs.Opening.{at_start};
 
 use gmp_base::Pass;
@@ -25,4 +26,15 @@ pub(crate) fn starting<T>(
     passes.destroy_empty();
     drivers.reverse();
     drivers
+}
+
+/// Spends the passes, and lets all else go.
+pub(crate) fn let_go<T: Drop>(drivers: Vec<Driver<T, ()>>)
+    requires { All (λ x. IsSome x.pass) drivers.items }
+{
+    let mut drivers = drivers;
+    while let Some(driver) = drivers.pop() {
+        driver.into_pass().open();
+    }
+    drivers.destroy_empty();
 }

@@ -21,11 +21,11 @@ loop-pass-preserved g c =
         c.push_reserved.ensures.items ∙ rw (done.2, c.new.ensures) (sym (reverse-append (at_start c.args.procs c.in-Some.pass ∷ []) (map (at_start c.args.procs) done.0))),
       );
       room =
-        let passes = ap (λ (l : List Pass). length l) c.in-Some.ensures.items ∙ length-append c.pop.new.self.items (c.in-Some.pass ∷ []) in
-        let drivers = ap (λ (l : List (Machine _ _)). length l) c.push_reserved.ensures.items ∙ length-append c.loop-pass.drivers.items (c.new.result ∷ []) in
-        let capacity = c.push_reserved.ensures.capacity in
-        let room = c.loop-pass.invariant.room in
-        omega (arith, passes, drivers, capacity, room);
+          let passes = ap (λ (l : List Pass). length l) c.in-Some.ensures.items ∙ length-append c.pop.new.self.items (c.in-Some.pass ∷ []) in
+          let drivers = ap (λ (l : List (Machine _ _)). length l) c.push_reserved.ensures.items ∙ length-append c.loop-pass.drivers.items (c.new.result ∷ []) in
+          let capacity = c.push_reserved.ensures.capacity in
+          let room = c.loop-pass.invariant.room in
+          omega (arith, passes, drivers, capacity, room);
     }
 
 pub returns : goal.returns
