@@ -1,10 +1,11 @@
 -- The channels' records stay those of the waiters of the table, and the list says who runs on each machine, by each change of the table.
 use Rattle.gmp_goroutines.proofs.Common.{◌≡◌, ℕ, zero, suc, ◌+◌, ◌-◌, ◌<◌, ◌≤◌, Bool, true, false, inl, inr, Option, Some, None, List, [], ◌∷◌, ◌++◌, length, set, slice_get, refl, sym, ap, subst, ◌∙◌, arith, false≢true, eqb-true, cases_eq, Case, GNo, MNo, Goroutine, Kind, Offer, Status, Running, Waiting, Wait, Waiter, Table, IsRunning, status_at, status_of, as_waiters, first_waiters, waiters}
-use Rattle.std.proofs.Common.{replicate, length-set}
+use Rattle.std.proofs.Common.{count_by, replicate, length-set}
 use Rattle.std.proofs.lemmas.List.{length-replicate}
 use Rattle.std.specs.Prelude.{IfNone, IfSome}
 use Rattle.gmp_base.specs.declared.cases.Case.TheVariants as case
-use Rattle.gmp_chan.specs.Contents.{without, without_served}
+use Rattle.gmp_chan.specs.Contents.{is_of, without, without_served}
+use Rattle.gmp_chan.specs.Order.{is_later}
 use Rattle.gmp_chan.specs.Served.{served}
 use Rattle.gmp_seq.proofs.Epochs.{at_set}
 use Rattle.gmp_seq.proofs.Manned.{free_runs_none}
@@ -19,9 +20,8 @@ use Rattle.gmp_seq.specs.Step.{served_by}
 use Rattle.gmp_seq.specs.Table.{IsOffShelf, RunsNothing, epoch_at, is_running_on, is_waiting, made_wait, some_status}
 use Rattle.gmp_seq.specs.Waits.{Channel, Proceeds}
 use Rattle.gmp_table.proofs.Listing.{slice_get-set_same, slice_get-set_other}
-use Rattle.gmp_goroutines.specs.Served.{IsWayOf}
 use Rattle.gmp_goroutines.specs.Tied.{IsTied}
-use Rattle.gmp_goroutines.proofs.Arrivals.{OffersNone, none_listed, unwaiting_none, wait_waiters, written_waiters}
+use Rattle.gmp_goroutines.proofs.Arrivals.{OffersNone, later_now, none_listed, unwaiting_none, wait_waiters, written_waiters}
 
 abbrev pub is_idle : Status → Bool
 is_idle (Running m) = false
@@ -39,6 +39,16 @@ unwaiting _ e = refl
 stood : (t : Table) (g h : GNo) (y : Goroutine) (s : Status) → (y.status ≡ s → ⊥) → status_of (slice_get (set t.goroutines g.0 y) h.0) ≡ Some s → status_at t h ≡ Some s
 stood t g h y s other =
     at_set (λ (o : Option Goroutine). status_of o ≡ Some s → status_at t h ≡ Some s) t.goroutines g.0 h.0 y (λ same e. let is : y.status ≡ s = cc in absurd (other is)) (λ e. e)
+
+-- who is served waits
+served_waits : (t : Table) (old new : List Channel) (c : Case) (how : Transfer) (w : Waiter) → Proceeds old (waiters t) c how new → served how ≡ Some w → IsWaiter t w
+served_waits t old new (case.Send (Some c) v) (Handed u) w h e = let is : u ≡ w = cc in subst (IsWaiter t) is (first_waits t c Receiving u h.1).0
+served_waits t old new (case.Recv (Some c)) (Relayed v u) w h e = let is : u ≡ w = cc in subst (IsWaiter t) is (first_waits t c Sending u h.1).0
+served_waits t old new c Failed w h e = absurd cc
+served_waits t old new c Stored w h e = absurd cc
+served_waits t old new c (First v) w h e = absurd cc
+served_waits t old new c Drained w h e = absurd cc
+served_waits t old new _ how w h e = absurd h
 
 module _ {t : Table} {records : List Waiter} {bodies : ℕ} {runners : List GNo} (tied : IsTied t records bodies runners) where
   -- one that waited is idle, and has no record
@@ -96,6 +106,14 @@ module _ {t : Table} {records : List Waiter} {bodies : ℕ} {runners : List GNo}
       mine n h same = at_set (λ (o : Option Goroutine). status_of o ≡ Some (Running n) → g.0 ≡ h.0) t.goroutines g.0 h.0 _ (λ here e. here)
           (λ e. absurd (free_runs_none t m n h.0 none e same))
 
+  -- it runs, and has no record
+  pub runner_unlisted : (m : MNo) (g : GNo) → IsRunning t g m → count_by (is_of g) records ≡ 0
+  runner_unlisted m g runs = rw tied.same (none_listed t g (unwaiting_none t g (Running m) runs refl)).0
+
+  -- who begins to wait now is later than all who wait
+  pub latest : is_later t.arrivals records ≡ true
+  latest = rw tied.same (later_now t tied.early)
+
   -- it ran, and waits from now on
   pub waits_kept : (m : MNo) (g : GNo) (why : Kind) (offers : List Offer) (until : Option ℕ) (new : Table) → IsRunning t g m → (why ≡ kind.Parked → offers ≡ [])
       → new ≡ made_wait t g why offers until → IsTied new (records ++ as_waiters g t.arrivals why offers) bodies runners
@@ -114,34 +132,15 @@ module _ {t : Table} {records : List Waiter} {bodies : ℕ} {runners : List GNo}
         ran = λ n h runs. tied.ran n h (stood t g h y (Running n) (λ it. absurd cc) runs);
       })
 
--- Who is served waits
+  -- who is served is not on the shelf
+  pub served_off : (old new : List Channel) (c : Case) (how : Transfer) (w : Waiter) → Proceeds old records c how new → served how ≡ Some w → IsOffShelf t w.g
+  served_off old new c how w proceeds is = let waits = served_waits t old new c how w (rw tied.same at proceeds) is in rw waits.status refl
 
-pub served_waits : (t : Table) (old new : List Channel) (c : Case) (how : Transfer) (w : Waiter) → Proceeds old (waiters t) c how new → served how ≡ Some w → IsWaiter t w
-served_waits t old new (case.Send (Some c) v) (Handed u) w h e = let is : u ≡ w = cc in subst (IsWaiter t) is (first_waits t c Receiving u h.1).0
-served_waits t old new (case.Recv (Some c)) (Relayed v u) w h e = let is : u ≡ w = cc in subst (IsWaiter t) is (first_waits t c Sending u h.1).0
-served_waits t old new c Failed w h e = absurd cc
-served_waits t old new c Stored w h e = absurd cc
-served_waits t old new c (First v) w h e = absurd cc
-served_waits t old new c Drained w h e = absurd cc
-served_waits t old new _ how w h e = absurd h
-
-pub waiter_off : (t : Table) (w : Waiter) → IsWaiter t w → IsOffShelf t w.g
-waiter_off t w is = rw is.status refl
-
--- a case proceeds in a way of its own
-pub way_is : (old new : List Channel) (records : List Waiter) (c : Case) (how : Transfer) → Proceeds old records c how new → IsWayOf c how
-way_is old new records (case.Send None v) how h = absurd h
-way_is old new records (case.Recv None) how h = absurd h
-way_is old new records (case.Recv (Some c)) (Handed w) h = absurd h
-way_is old new records (case.Send (Some c) v) (Relayed x w) h = absurd h
-way_is old new records _ how h = tt
-
-module _ {t : Table} {bodies : ℕ} {runners : List GNo} (tied : IsTied t (waiters t) bodies runners) where
   -- a communication proceeds
-  pub proceeds_kept : (old channels : List Channel) (c : Case) (how : Transfer) (new : Table) → Proceeds old (waiters t) c how channels → new ≡ served_by t c how
-      → IsTied new (without_served how (waiters t)) bodies runners
-  proceeds_kept old channels (case.Send (Some c) v) (Handed w) new proceeds is = served_kept tied w.g _ new refl is
-  proceeds_kept old channels (case.Recv (Some c)) (Relayed v w) new proceeds is = served_kept tied w.g _ new refl is
+  pub proceeds_kept : (old channels : List Channel) (c : Case) (how : Transfer) (new : Table) → Proceeds old records c how channels → new ≡ served_by t c how
+      → IsTied new (without_served how records) bodies runners
+  proceeds_kept old channels (case.Send (Some c) v) (Handed w) new proceeds is = served_kept w.g _ new refl is
+  proceeds_kept old channels (case.Recv (Some c)) (Relayed v w) new proceeds is = served_kept w.g _ new refl is
   proceeds_kept old channels (case.Send (Some c) v) Failed new proceeds is = rw is tied
   proceeds_kept old channels (case.Send (Some c) v) Stored new proceeds is = rw is tied
   proceeds_kept old channels (case.Recv (Some c)) (First v) new proceeds is = rw is tied

@@ -21,6 +21,7 @@ mod communicating;
 
 use gmp_base::{Fault, GNo, MNo, Readiness, Woke};
 use gmp_chan::Channels;
+use gmp_select::withdraw_all;
 use gmp_seq::{Goroutine, Kind, Offers, Reply, Status};
 use gmp_table::{Candidate, Rank, StatusTable, Wake};
 use std::alloc::{AllocError, Global};
@@ -331,7 +332,7 @@ impl Goroutines {
         let mut count = 0;
         while let Some(next) = next_to_wake(&self.table, &self.channels, wake) {
             self.table.requeue(next.g, next.woke);
-            self.channels.withdraw(next.g);
+            withdraw_all(&mut self.channels, next.g);
             count += 1;
             prove!(count <= bodies);
         }

@@ -1,5 +1,5 @@
 //! What a running goroutine does with channels. A send, a receive or a case of a select proceeds and serves who waits for it, or the
-//! goroutine waits itself.
+//! goroutine waits itself: a plain one by gmp_chan, a select by gmp_select.
 ghost use Rattle.std.specs.Prelude.{◌≡◌, ◌<◌, ◌≤◌, ◌^◌, Some, None, IfNone, IfOk, IfSome, OnErr, OnOk, is_some, true, false, length, slice_get};
 ghost use Rattle.gmp_base.specs.declared.cases.Case.{Case};
 ghost use Rattle.gmp_base.specs.declared.number.GNo.{GNo};
@@ -8,11 +8,12 @@ ghost use Rattle.gmp_base.specs.declared.number.CNo.{CNo};
 ghost use Rattle.gmp_seq.specs.declared.call.Call.{Call};
 ghost use Rattle.gmp_seq.specs.declared.call.Limits.{Limits};
 ghost use Rattle.gmp_seq.specs.declared.call.Reply.{Reply};
+ghost use Rattle.gmp_seq.specs.declared.status.Kind.{Kind};
 ghost use Rattle.gmp_seq.specs.declared.status.Waiter.{Waiter};
 ghost use Rattle.gmp_seq.specs.Channels.{capacity_at, items_at};
 ghost use Rattle.gmp_seq.specs.Step.{Closes, Communicates, Deals, Makes, Selects, Tells, none_missing, served_by, some_can, told_of};
-ghost use Rattle.gmp_seq.specs.Table.{IsOffShelf, IsRunning, epoch_at};
-ghost use Rattle.gmp_seq.specs.Waits.{can, channel_of, names_no_missing, waiters};
+ghost use Rattle.gmp_seq.specs.Table.{IsOffShelf, IsRunning, epoch_at, made_wait};
+ghost use Rattle.gmp_seq.specs.Waits.{can, channel_of, names_no_missing, offers_of, waiters};
 ghost use Rattle.gmp_chan.specs.Served.{served};
 ghost use Rattle.gmp_goroutines.specs.Choice.{IsChoice, choice};
 ghost use Rattle.gmp_goroutines.specs.Present.{state_of};
@@ -21,7 +22,7 @@ ghost use Rattle.gmp_goroutines.specs.Shelf.{Shelves};
 
 use crate::goroutines::Goroutines;
 use gmp_base::{CNo, Case, Cases, Fault, GNo};
-use gmp_select::{are_made, choose, ready_cases};
+use gmp_select::{are_made, choose, complete, ready_cases, register};
 use gmp_seq::{Kind, MOST_CAPACITY, Offers, Relay, Reply, Taken, Transfer, channel_of};
 use gmp_table::{StatusTable, Wake};
 use std::alloc::{AllocError, Global};
@@ -131,8 +132,8 @@ impl Goroutines {
         }
     }
 
-    /// A case does its send or receive, if it can proceed. Who is served is made ready.
-    pub(super) fn proceed(&mut self, case: Case) -> Option<Taken>
+    /// A plain send or receive proceeds, if it can. Who is served is made ready.
+    fn proceed(&mut self, case: Case) -> Option<Taken>
         requires made { names_no_missing self.old.channels (channel_of case) ≡ true }
         requires young { (h : GNo) → epoch_at self.old.table h < 2 ^ 63 }
         ensures exact { is_some result ≡ can self.old.channels (waiters self.old.table) case }
@@ -174,6 +175,30 @@ impl Goroutines {
         choose(ready_cases(&self.channels, cases), word)
     }
 
+    /// A case of a select, which can proceed, does so. Who is served is made ready.
+    fn take_case(&mut self, case: Case) -> Taken
+        requires made { names_no_missing self.old.channels (channel_of case) ≡ true }
+        requires able { can self.old.channels (waiters self.old.table) case ≡ true }
+        requires young { (h : GNo) → epoch_at self.old.table h < 2 ^ 63 }
+        ensures communicates { Communicates case result (state_of self.old) (state_of self.new) }
+        ensures rest { self.new ≡ record self.old { table = self.new.table; channels = self.new.channels } }
+    {
+        let how = complete(&mut self.channels, case).unwrap();
+        serve(&mut self.table, case, how)
+    }
+
+    /// g, which runs, begins to wait for any of these cases, until this moment.
+    fn wait_for_any(&mut self, g: GNo, cases: &Cases, until: Option<u64>)
+        requires runs { (m : MNo) × IsRunning self.old.table g m }
+        requires few { self.old.table.arrivals < 2 ^ 63 }
+        requires made { none_missing (state_of self.old) cases.now ≡ true }
+        ensures table { self.new.table ≡ made_wait self.old.table g Kind.Select (offers_of cases.now) until }
+        ensures rest { self.new ≡ record self.old { table = self.new.table } }
+    {
+        let offers = register(&mut self.channels, g, self.table.arrivals(), cases);
+        self.table.wait(g, Kind::Select, offers, until);
+    }
+
     /// g, which runs, takes one of the cases that can proceed, or else the default, where it has one, or else waits for any of
     /// them, until this moment.
     pub fn select(
@@ -196,10 +221,10 @@ impl Goroutines {
             return Reply::Fault(Fault::NoSuchChannel);
         }
         match self.chosen(cases, word) {
-            Some(i) => Reply::Chose(i, self.proceed(cases.as_slice()[i as usize]).unwrap()),
+            Some(i) => Reply::Chose(i, self.take_case(cases.as_slice()[i as usize])),
             None if has_default => Reply::Default,
             None => {
-                self.wait(g, Kind::Select, Offers::of(cases.as_slice()), until);
+                self.wait_for_any(g, cases, until);
                 Reply::Waits
             }
         }

@@ -23,10 +23,10 @@ loop-next-preserved c =
         woken.0 ++ next.g ∷ [],
         next_more c.args.wake c.self.inside.table i.table c.requeue.new.self woken.0 c.loop-next.count next woken.1 first c.requeue.ensures.table c.requeue.ensures.last,
       );
-      tied = rw c.withdraw.ensures (served_kept c.loop-next.invariant.tied next.g _ _ refl c.requeue.ensures.table);
+      tied = rw c.withdraw_all.ensures.rest (served_kept c.loop-next.invariant.tied next.g _ _ refl c.requeue.ensures.table);
       same = c.loop-next.invariant.same;
-      channels = ap (λ v. v.channels) c.withdraw.ensures ∙ c.loop-next.invariant.channels;
-      limit = ap (λ v. v.limit) c.withdraw.ensures ∙ c.loop-next.invariant.limit;
+      channels = ap (λ v. v.channels) c.withdraw_all.ensures.rest ∙ c.loop-next.invariant.channels;
+      limit = ap (λ v. v.limit) c.withdraw_all.ensures.rest ∙ c.loop-next.invariant.limit;
     }
 
 -- who is woken is one of the goroutines
