@@ -13,3 +13,6 @@ mod want;
 
 pub use engine::Core;
 pub use want::Want;
+
+#[cfg(test)]
+mod tests;
