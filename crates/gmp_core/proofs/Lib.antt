@@ -7,3 +7,5 @@ pub mod Apart
 pub mod Tying
 pub mod Keeping
 pub mod Together
+pub mod Opened
+pub mod Moves

@@ -27,7 +27,7 @@ module _ {M X : Type 0} (f : M → Option X) where
   first_same (y ∷ ys) zero x x' is same = (let its : Some y ≡ Some x = is in let e : y ≡ x = cc in ap (λ (o : Option X). first_of o (first_with f ys)) (same ∙ ap f (sym e)))
   first_same (y ∷ ys) (suc m) x x' is same = ap (first_of (f y)) (first_same ys m x x' is same)
 
-  none_has : (ms : List M) → ((n : ℕ) (y : M) → slice_get ms n ≡ Some y → f y ≡ None) → first_with f ms ≡ None
+  pub none_has : (ms : List M) → ((n : ℕ) (y : M) → slice_get ms n ≡ Some y → f y ≡ None) → first_with f ms ≡ None
   none_has [] none = refl
   none_has (y ∷ ys) none = rw (none 0 y refl) (none_has ys (λ n z is. none (suc n) z is))
 
@@ -58,7 +58,7 @@ same_at [] m x y is = absurd (let no : None ≡ Some y = is in cc)
 same_at (z ∷ ms) zero x y is = refl
 same_at (z ∷ ms) (suc m) x y is = same_at ms m x y is
 
-map_same : {A B : Type 0} (f g : A → B) (xs : List A) → ((a : A) → f a ≡ g a) → map f xs ≡ map g xs
+pub map_same : {A B : Type 0} (f g : A → B) (xs : List A) → ((a : A) → f a ≡ g a) → map f xs ≡ map g xs
 map_same f g [] e = refl
 map_same f g (x ∷ xs) e = rw (e x) (ap (λ l. g x ∷ l) (map_same f g xs e))
 

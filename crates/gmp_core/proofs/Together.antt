@@ -1,6 +1,8 @@
 -- An act at a machine's desk, for the core as a whole.
-use Rattle.std.proofs.Common.{rules, ◌≡◌, ◌≢◌, ◌⊎◌, inl, inr, ℕ, ◌<◌, ◌≤◌, true, [], length, get_or, refl, sym, ap, ◌∙◌, subst, arith, Option, Some, None, IfSome, IsSome, is_some, Result, Ok, Err}
+use Rattle.std.proofs.Common.{rules, All, ◌≡◌, ◌≢◌, ◌⊎◌, inl, inr, ℕ, ◌<◌, ◌≤◌, true, [], length, get_or, refl, sym, ap, ◌∙◌, subst, arith, Option, Some, None, IfSome, IsSome, is_some, Result, Ok, Err}
+use Rattle.std.proofs.lemmas.Option.{slice_get-get_or}
 use Rattle.std.specs.List.{slice_get}
+use Rattle.std.specs.Option.{option_map}
 use Rattle.gmp_base.specs.declared.number.MNo.{MNo}
 use Rattle.gmp_base.specs.declared.number.PNo.{PNo}
 use Rattle.gmp_base.specs.declared.number.Readiness.{Readiness}
@@ -9,13 +11,16 @@ use Rattle.gmp_seq.specs.Table.{is_outstanding}
 use Rattle.gmp_book.specs.Book.{BookContents}
 use Rattle.gmp_driver.specs.declared.act.Act.TheVariants as act
 use Rattle.gmp_driver.specs.declared.act.Value.{Value}
-use Rattle.gmp_driver.specs.Machine.{Machine}
+use Rattle.gmp_driver.specs.declared.place.Place.{Place}
+use Rattle.gmp_driver.specs.declared.place.Place.TheVariants as place
+use Rattle.gmp_driver.specs.declared.registers.HeldParts.{HeldParts}
+use Rattle.gmp_driver.specs.Machine.{Machine, held_at}
 use Rattle.gmp_driver.specs.Seen.{own_processor}
 use Rattle.gmp_driver.specs.Table.{next_act}
 use Rattle.gmp_acts.specs.declared.choice.Choice.{Choice}
 use Rattle.gmp_acts.specs.declared.made.Made.{Made}
 use Rattle.gmp_acts.specs.Acts.{Acts, HasFewCases}
-use Rattle.gmp_acts.specs.Hands.{PlainMachine, plain_machine}
+use Rattle.gmp_acts.specs.Hands.{PlainMachine, plain_held, plain_machine}
 use Rattle.gmp_acts.specs.Headline.{NoClaimIsRefused, SameOpening}
 use Rattle.gmp_acts.specs.Sound.{Agrees, IsSound}
 use Rattle.gmp_acts.specs.System.{System, machine_at}
@@ -33,7 +38,7 @@ use Rattle.gmp_core.specs.Doing.{Desk, Does}
 use Rattle.gmp_core.specs.Inside.{IsCore, Parts, system_of}
 use Rattle.gmp_core.specs.Whole.{HeadlineOf, stock_of}
 use Rattle.gmp_core.proofs.Keeping.{kept_after, one_in_hand, room_for}
-use Rattle.gmp_core.proofs.Tying.{agrees, does, is_there, machine_is, over, parts_after, tickets}
+use Rattle.gmp_core.proofs.Tying.{agrees, does, is_there, machine_is, next_plain, over, parts_after, tickets}
 
 surrender_taken : {T Q : Type 0} (x x' : Machine T Q) (book book' : BookContents T Q) (which : Option Value) (result : Result Unit Refusal) → x.run ≡ book.log.run → book.log.state.outcome ≢ None
     → AreOut (body_in x.hand) book.bodies → AreOut (owner_in x.hand) book.owners
@@ -98,3 +103,22 @@ module _ {T : Type 0} (c : Parts T) (m : MNo) (x : Machine T Unit) (is : slice_g
   pub room_so : (choice : Choice) (now : Desk T) (made : Option Made) → Does (next_act x) m choice (record { machine = x; book = c.book; rings = c.rings }) now made → IfSome made (λ _. length c.calls < c.room)
   room_so choice now None d = tt
   room_so choice now (Some mk) d = room_for c core m x choice now mk (next_act x) d
+
+-- What a reader is told
+
+held_plain : {T : Type 0} (here : Place) (h : Option (HeldParts T)) → held_at here (option_map plain_held h) ≡ held_at here h
+held_plain place.Run None = refl
+held_plain place.Run (Some x) = refl
+held_plain place.Block h = refl
+held_plain here h = refl
+
+pub held_at_is : {T : Type 0} (c : Parts T) (m : MNo) (x : Machine T Unit) → slice_get c.machines m.0 ≡ Some x
+    → held_at x.place x.hand.held ≡ held_at (machine_at (system_of c) m).place (machine_at (system_of c) m).hand.held
+held_at_is c m x is = sym (ap (λ (p : PlainMachine). held_at p.place p.hand.held) (machine_is c m x is) ∙ held_plain x.place x.hand.held)
+
+pub next_is : {T : Type 0} (c : Parts T) (m : MNo) (x : Machine T Unit) → slice_get c.machines m.0 ≡ Some x → next_act (machine_at (system_of c) m) ≡ next_act x
+next_is c m x is = ap next_act (machine_is c m x is) ∙ next_plain x
+
+-- every machine has its pass
+pub passes_in : {T : Type 0} (c : Parts T) → IsCore c → All (λ (x : Machine T Unit). IsSome x.pass) c.machines
+passes_in c core = λ i d within. has_pass c (record { 0 = i }) (get_or c.machines i d) (slice_get-get_or c.machines i d within) core

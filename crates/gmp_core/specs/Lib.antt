@@ -3,3 +3,4 @@ pub mod Local
 pub mod Whole
 pub mod Doing
 pub mod Inside
+pub mod Opening

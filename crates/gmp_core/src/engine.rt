@@ -1,14 +1,22 @@
 //! The core.
-ghost use Rattle.std.specs.Prelude.{◌≡◌, ◌<◌, length, vec_capacity, IfSome};
+ghost use Rattle.std.specs.Prelude.{◌≡◌, ◌<◌, Some, false, length, map, slice_get, vec_capacity, IfErr, IfOk, IfSome, OnOk};
+ghost use Rattle.std.specs.Option.{option_map_or};
+ghost use Rattle.gmp_seq.specs.Fits.{AreLimits};
+ghost use Rattle.gmp_seq.specs.Machines.{is_parked};
+ghost use Rattle.gmp_book.specs.Book.{WhyUnopened};
 ghost use Rattle.gmp_core.specs.Doing.{with_made};
+ghost use Rattle.gmp_core.specs.Whole.{wanted_by};
 
 use crate::acting::act;
 use crate::copies::has_few;
+use crate::opening::{let_go, starting};
 use crate::queues::Queues;
+use crate::want::Want;
 use gmp_acts::{Choice, Made};
-use gmp_base::MNo;
-use gmp_book::Book;
-use gmp_driver::Driver;
+use gmp_base::{MNo, Refusal, Refused, Woke};
+use gmp_book::{Book, Unopened};
+use gmp_driver::{Act, Driver};
+use gmp_seq::{Entry, Limits, Outcome};
 use std::alloc::Global;
 use std::marker::Model;
 
@@ -38,6 +46,18 @@ impl<T> Model for Core<T> {
     ghost invariant = { λ c. IsCore (record { book = c.book; rings = c.queues; machines = c.drivers.items; calls = c.calls.items; room = vec_capacity c.calls }) };
 }
 
+/// What an act reads of a choice.
+fn wanted(act: Act) -> Want
+    ensures { result ≡ wanted_by act }
+{
+    match act {
+        Act::Resume => Want::Ask,
+        Act::Block => Want::Number,
+        Act::Clock(minded) => Want::Moment(minded),
+        _ => Want::Nothing,
+    }
+}
+
 /// Adds a call that was made.
 fn note(calls: &mut Vec<Made>, made: Option<Made>)
     requires room { IfSome made (λ _. length calls.old.items < vec_capacity calls.old) }
@@ -50,9 +70,59 @@ fn note(calls: &mut Vec<Made>, made: Option<Made>)
 }
 
 impl<T> Core<T> {
-    ghost use Rattle.gmp_acts.specs.Acts.{Acts};
-    ghost use Rattle.gmp_acts.specs.Headline.{NoClaimIsRefused, SameOpening};
+    ghost use Rattle.gmp_acts.specs.Acts.{Acts, ActsAll};
+    ghost use Rattle.gmp_acts.specs.Headline.{NoClaimIsRefused, SameOpening, opening_system};
+    ghost use Rattle.gmp_acts.specs.System.{machine_at};
+    ghost use Rattle.gmp_driver.specs.Machine.{held_at, is_done};
+    ghost use Rattle.gmp_driver.specs.Table.{next_act};
     ghost use Rattle.gmp_core.specs.Whole.{HeadlineOf};
+
+    /// Machines that have made no act, each at its start with nothing in hand. There is a body for each goroutine. It takes all the memory
+    /// that acts need, but for a make. Refused, it hands the bodies back.
+    pub fn open(
+        alloc: Global,
+        run: u64,
+        limits: Limits,
+        capacities: &[u32],
+        bodies: Vec<T>,
+    ) -> Result<Self, Refused<Vec<T>>>
+        ensures within { OnOk result (AreLimits limits (length bodies.items) capacities.now) }
+        ensures why { IfErr result (λ r. WhyUnopened (AreLimits limits (length bodies.items) capacities.now) r.why) }
+        ensures back { IfErr result (λ r. r.back.items ≡ bodies.items) }
+        ensures system { IfOk result (λ k. k.system ≡ opening_system run limits (length bodies.items) capacities.now) }
+        ensures stock { IfOk result (λ k. k.stock ≡ map Some bodies.items) }
+    {
+        if !limits.allow(bodies.len(), capacities) {
+            return Err(Refused::of(Refusal::BadLimits, bodies));
+        }
+        let why = Refusal::OutOfMemory;
+        let Ok(queues) = Queues::open(alloc, limits.procs, bodies.len() as u16) else {
+            return Err(Refused::of(why, bodies));
+        };
+        let Ok(calls) = Vec::with_capacity(alloc, limits.entries as usize) else {
+            return Err(Refused::of(why, bodies));
+        };
+        let Ok(owners) = vec![in alloc; (); limits.procs as usize] else {
+            return Err(Refused::of(why, bodies));
+        };
+        let Ok(room) = Vec::with_capacity(alloc, limits.machines as usize) else {
+            return Err(Refused::of(why, bodies));
+        };
+        match Book::open(alloc, run, limits, capacities, bodies, owners) {
+            Err(unopened) => {
+                let Unopened { why, bodies, .. } = unopened;
+                room.destroy_empty();
+                Err(Refused::of(why, bodies))
+            }
+            Ok((book, passes)) => Ok(Core {
+                alloc,
+                book,
+                queues,
+                drivers: starting(room, passes, limits.procs),
+                calls,
+            }),
+        }
+    }
 
     /// One act of machine m, which the place of its program names. An act of a machine that isn't there changes nothing.
     pub fn act(&mut self, m: MNo, choice: &Choice)
@@ -75,5 +145,100 @@ impl<T> Core<T> {
             choice,
         );
         note(&mut self.calls, made);
+    }
+
+    /// The headline holds: the type keeps it.
+    fn keeps(&self)
+        ensures { HeadlineOf self.now.system }
+    {
+        let _ = &self.book;
+    }
+
+    /// Acts in a row, each of the machine beside it. Whatever they are, the headline holds after them.
+    pub fn run(&mut self, moves: &[(MNo, Choice)])
+        ensures acts { ActsAll self.old.system moves.now self.new.system }
+        ensures stock { self.new.stock ≡ self.old.stock }
+        ensures headline { HeadlineOf self.new.system }
+        ensures opened { SameOpening self.old.system.book self.new.system.book }
+    {
+        for (m, choice) in moves {
+            self.act(*m, choice);
+        }
+        self.keeps();
+    }
+
+    /// At Run what the machine's body is to be told; at Block Done, which has no meaning; else nothing.
+    pub fn held(&self, m: MNo) -> Option<Woke>
+        ensures { result ≡ held_at (machine_at self.now.system m).place (machine_at self.now.system m).hand.held }
+    {
+        self.drivers.get(m.0 as usize)?.held()
+    }
+
+    /// What the machine's next act reads of a choice. One that isn't there reads nothing.
+    pub fn wants(&self, m: MNo) -> Want
+        ensures { result ≡ wanted_by (next_act (machine_at self.now.system m)) }
+    {
+        match self.drivers.get(m.0 as usize) {
+            Some(driver) => wanted(driver.next()),
+            None => Want::Nothing,
+        }
+    }
+
+    /// Whether the book has parked the machine.
+    pub fn parked(&self, m: MNo) -> bool
+        ensures { result ≡ option_map_or is_parked (slice_get self.now.system.book.state.machines.modes m.0) false }
+    {
+        self.book.is_parked(m)
+    }
+
+    /// Whether the machine's program is done. That of one that isn't there is not.
+    pub fn done(&self, m: MNo) -> bool
+        ensures { result ≡ is_done (machine_at self.now.system m).place }
+    {
+        match self.drivers.get(m.0 as usize) {
+            Some(driver) => driver.is_done(),
+            None => false,
+        }
+    }
+
+    /// Every call that the book accepted with its reply, in order.
+    pub fn history(&self) -> &[Entry]
+        ensures entries { result.now ≡ self.now.system.book.history }
+        ensures headline { HeadlineOf self.now.system }
+    {
+        self.book.history()
+    }
+
+    /// Every call that the machines made, in order, each with its machine and the reply that this was told.
+    pub fn own(&self) -> &[Made]
+        ensures made { result.now ≡ self.now.system.own }
+        ensures headline { HeadlineOf self.now.system }
+    {
+        self.calls.as_slice()
+    }
+
+    /// How the run ended, if it did.
+    pub fn outcome(&self) -> Option<Outcome>
+        ensures { result ≡ self.now.system.book.state.outcome }
+    {
+        self.book.outcome()
+    }
+}
+
+impl<T: Drop> Core<T> {
+    /// Lets all go, and tells how the run ended, if it did. It takes no memory.
+    pub fn close(self) -> Option<Outcome>
+        ensures { result ≡ self.system.book.state.outcome }
+    {
+        let outcome = self.outcome();
+        let Core {
+            alloc: _,
+            book: _,
+            queues: _,
+            drivers,
+            calls: _,
+        } = self;
+        let_go(drivers);
+        outcome
     }
 }
