@@ -4,3 +4,4 @@ pub mod Whole
 pub mod Doing
 pub mod Inside
 pub mod Opening
+pub mod Lending

@@ -1,10 +1,12 @@
 -- The core as a contract sees it: its state, and the bodies of all goroutines, wherever each is.
-use Rattle.std.specs.Prelude.{ℕ, List, [], ◌∷◌, map, length, Option, None, Some, slice_index_or}
+use Rattle.std.specs.Prelude.{◌≡◌, ◌⊎◌, ℕ, ◌<◌, List, [], ◌∷◌, ◌++◌, map, length, Option, None, Some, slice_get, slice_index_or, slice_set}
 use Rattle.std.specs.List.{range_with_len}
 use Rattle.gmp_base.specs.declared.ask.Woke.{Woke}
 use Rattle.gmp_base.specs.declared.number.GNo.{GNo}
 use Rattle.gmp_base.specs.declared.number.MNo.{MNo}
-use Rattle.gmp_seq.specs.declared.call.Limits.{Limits}
+use Rattle.gmp_seq.specs.declared.call.Call.{Call}
+use Rattle.gmp_seq.specs.declared.call.Reply.{Reply}
+use Rattle.gmp_seq.specs.Needs.{WantsMemory}
 use Rattle.gmp_core.specs.declared.want.Want.{Want}
 use Rattle.gmp_core.specs.declared.want.Want.TheVariants as want
 use Rattle.gmp_driver.specs.declared.act.Act.{Act}
@@ -13,9 +15,11 @@ use Rattle.gmp_driver.specs.declared.place.Place.{Place}
 use Rattle.gmp_driver.specs.declared.place.Place.TheVariants as place
 use Rattle.gmp_driver.specs.Machine.{Machine}
 use Rattle.gmp_driver.specs.Registers.{first_of}
+use Rattle.gmp_driver.specs.Table.{next_act}
 use Rattle.gmp_turn.specs.Values.{body_in}
-use Rattle.gmp_acts.specs.Headline.{Headline}
-use Rattle.gmp_acts.specs.System.{System, called_number, held_number, machine_at}
+use Rattle.gmp_acts.specs.Hands.{PlainHand}
+use Rattle.gmp_acts.specs.Headline.{Headline, Lasts}
+use Rattle.gmp_acts.specs.System.{System, called_number, count_of, held_number, machine_at}
 
 -- the state, and the stock of bodies: body g is that of goroutine g, in the book or with a machine
 pub record Whole (T : Type 0) : Type 0 where
@@ -45,3 +49,40 @@ wanted_by act.Resume = want.Ask
 wanted_by act.Block = want.Number
 wanted_by (act.Clock deadline) = want.Moment deadline
 wanted_by _ = want.Nothing
+
+-- Refusals
+
+-- machine m makes this call: that is the one entry more, with some reply
+abbrev pub EntersCall : System → MNo → Call → System → Type 0
+EntersCall k m asked k' = (answer : Reply) × (k'.book.history ≡ k.book.history ++ record { m = m; k = count_of k.book m; call = asked; reply = answer } ∷ [])
+
+-- While the run lasts, a call that the machine's program names makes its entry. A make may want memory, and then the book is as it was.
+abbrev pub NoCallIsRefused : System → MNo → System → Type 0
+NoCallIsRefused k m k' = (asked : Call) → m.0 < length k.machines → next_act (machine_at k m) ≡ act.Call asked
+    → Lasts k (EntersCall k m asked k' ⊎ (WantsMemory k.book.limits asked k.book.state × (k'.book ≡ k.book)))
+
+-- The body in hand
+
+-- the goroutine whose body is lent: the one that runs, at Run, or the one in its blocking call, at Block
+abbrev pub goroutine_at : Place → PlainHand → Option GNo
+goroutine_at place.Run hand = held_number hand.held
+goroutine_at place.Block hand = called_number hand.called
+goroutine_at here hand = None
+
+abbrev pub goroutine_in_hand : System → MNo → Option GNo
+goroutine_in_hand k m = goroutine_at (machine_at k m).place (machine_at k m).hand
+
+-- this is the stock's body of the goroutine in machine m's hand
+pub record IsBodyInHand {T : Type 0} (k : Whole T) (m : MNo) (body : T) : Type 0 where
+  pub g : GNo
+  pub in_hand : goroutine_in_hand k.system m ≡ Some g
+  pub its : slice_get k.stock g.0 ≡ Some (Some body)
+
+-- the stock with another body of this goroutine
+abbrev pub stock_with : {T : Type 0} → Option GNo → T → List (Option T) → List (Option T)
+stock_with None body stock = stock
+stock_with (Some g) body stock = slice_set stock g.0 (Some body)
+
+-- the core with another body in machine m's hand: the state is the same, and the stock but for that body
+abbrev pub with_body_in_hand : {T : Type 0} → Whole T → MNo → T → Whole T
+with_body_in_hand k m body = record k { stock = stock_with (goroutine_in_hand k.system m) body k.stock }

@@ -1,5 +1,6 @@
 //! The core.
-ghost use Rattle.std.specs.Prelude.{◌≡◌, ◌<◌, Some, false, length, map, slice_get, vec_capacity, IfErr, IfOk, IfSome, OnOk};
+ghost use Rattle.std.specs.Borrow.{sem};
+ghost use Rattle.std.specs.Prelude.{◌≡◌, ◌<◌, Some, false, is_some, length, map, slice_get, vec_capacity, IfErr, IfOk, IfSome, OnOk};
 ghost use Rattle.std.specs.Option.{option_map_or};
 ghost use Rattle.gmp_seq.specs.Fits.{AreLimits};
 ghost use Rattle.gmp_seq.specs.Machines.{is_parked};
@@ -75,7 +76,8 @@ impl<T> Core<T> {
     ghost use Rattle.gmp_acts.specs.System.{machine_at};
     ghost use Rattle.gmp_driver.specs.Machine.{held_at, is_done};
     ghost use Rattle.gmp_driver.specs.Table.{next_act};
-    ghost use Rattle.gmp_core.specs.Whole.{HeadlineOf};
+    ghost use Rattle.gmp_core.specs.Lending.{lends_body};
+    ghost use Rattle.gmp_core.specs.Whole.{HeadlineOf, IsBodyInHand, NoCallIsRefused};
 
     /// Machines that have made no act, each at its start with nothing in hand. There is a body for each goroutine. It takes all the memory
     /// that acts need, but for a make. Refused, it hands the bodies back.
@@ -129,6 +131,7 @@ impl<T> Core<T> {
         ensures acts { Acts self.old.system m choice.now self.new.system }
         ensures stock { self.new.stock ≡ self.old.stock }
         ensures claims { NoClaimIsRefused self.old.system m self.new.system }
+        ensures calls { NoCallIsRefused self.old.system m self.new.system }
         ensures headline { HeadlineOf self.new.system }
         ensures opened { SameOpening self.old.system.book self.new.system.book }
     {
@@ -172,6 +175,16 @@ impl<T> Core<T> {
         ensures { result ≡ held_at (machine_at self.now.system m).place (machine_at self.now.system m).hand.held }
     {
         self.drivers.get(m.0 as usize)?.held()
+    }
+
+    /// Lends the body in the machine's hand, exactly where `held` is some. Whatever is left behind the loan, the state stays, and the
+    /// stock has that body in this one's place.
+    pub fn body(&mut self, m: MNo) -> Option<&mut T>
+        ensures* lends { sem 𝓛 (lends_body T.row self.entry m result) }
+        ensures some { is_some result ≡ is_some (held_at (machine_at self.old.system m).place (machine_at self.old.system m).hand.held) }
+        ensures body { IfSome result (λ b. IsBodyInHand self.old m b.now) }
+    {
+        self.drivers.get_mut(m.0 as usize)?.body()
     }
 
     /// What the machine's next act reads of a choice. One that isn't there reads nothing.

@@ -7,3 +7,4 @@ pub mod Table
 pub mod Fits
 pub mod Uses
 pub mod Local
+pub mod Bodies

@@ -1,5 +1,7 @@
 //! A machine's program, and what the machine holds.
 ghost use Rattle.std.specs.Prelude.{◌≡◌, ◌≤◌, None, Some, IsNone, IsSome, false, is_some};
+ghost use Rattle.std.specs.Borrow.{sem};
+ghost use Rattle.std.specs.Option.{option_copied_mut};
 
 use crate::act::{Act, Told};
 use crate::hunt::victim_of;
@@ -37,6 +39,7 @@ impl<T, Q> Model for Driver<T, Q> {
 }
 
 impl<T, Q> Driver<T, Q> {
+    ghost use Rattle.gmp_driver.specs.Bodies.{body_at, lends_body};
     ghost use Rattle.gmp_driver.specs.Fits.{Fits, IsDriver};
     ghost use Rattle.gmp_driver.specs.Hunt.{begun, victim_of};
     ghost use Rattle.gmp_driver.specs.Loads.{IsOfRun, load_of, parts_of};
@@ -94,6 +97,14 @@ impl<T, Q> Driver<T, Q> {
             (Place::Block, _) => Some(Woke::Done),
             _ => None,
         }
+    }
+
+    /// Lends the body in hand: at Run that of the goroutine that runs, at Block that of the one in its blocking call, else none.
+    pub fn body(&mut self) -> Option<&mut T>
+        ensures* lends { sem 𝓛 (lends_body T.row Q.row self.entry result) }
+        ensures body { option_copied_mut result ≡ body_at self.old.place self.old.hand }
+    {
+        self.hand.body(&self.place)
     }
 
     /// Whether there is nothing left to do.

@@ -1,8 +1,11 @@
 //! What a machine holds, in plain parts.
 ghost use Rattle.std.specs.Prelude.{◌≡◌, ◌⊎◌, IsNone, Some};
+ghost use Rattle.std.specs.Borrow.{sem};
+ghost use Rattle.std.specs.Option.{option_copied_mut};
 ghost use Rattle.gmp_driver.specs.Registers.{AreApart, but, first_of, first_value, joined, nothing, one_used, only, unused, used};
 
 use crate::act::{Act, Value};
+use crate::place::Place;
 use gmp_base::{GNo, PNo, Readiness, Woke};
 use gmp_seq::Call;
 use std::mem;
@@ -62,6 +65,8 @@ fn fill_if<X>(register: &mut Option<X>, value: Option<X>)
 }
 
 impl<T, Q> Registers<T, Q> {
+    ghost use Rattle.gmp_driver.specs.Bodies.{body_at, lends_at};
+
     pub(crate) fn empty() -> Self
         ensures { result ≡ nothing }
     {
@@ -173,5 +178,22 @@ impl<T, Q> Registers<T, Q> {
         fill_if(&mut self.called, called);
         fill_if(&mut self.to_claim, to_claim);
         fill_if(&mut self.to_store, to_store);
+    }
+    /// Lends the body that is in hand at this place.
+    pub(crate) fn body(&mut self, here: &Place) -> Option<&mut T>
+        ensures* lends { sem 𝓛 (lends_at T.row Q.row self.entry here.now result) }
+        ensures body { option_copied_mut result ≡ body_at here.now self.old }
+    {
+        match here {
+            Place::Run => match &mut self.held {
+                Some(parts) => Some(&mut parts.body),
+                None => None,
+            },
+            Place::Block => match &mut self.called {
+                Some(parts) => Some(&mut parts.body),
+                None => None,
+            },
+            _ => None,
+        }
     }
 }
