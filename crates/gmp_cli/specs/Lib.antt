@@ -1,6 +1,6 @@
 pub mod Clock
 pub mod Said
 pub mod Words
-pub mod Driven
+pub mod Plays
+pub mod Staged
 pub mod Step
-pub mod Program

@@ -13,10 +13,10 @@ text_of BadLimits = codes "gmp: bad limits" ++ 10 ∷ []
 text_of OutOfMemory = codes "gmp: out of memory" ++ 10 ∷ []
 text_of (Usage text) = string_bytes text
 
--- the program may end so with this status: 0 main ended, 2 all asleep, 3 book full; 1 input, output
+-- the program may end so with this status: 0 main ended, 2 all asleep, 3 book full, 4 no end yet; 1 input, output
 -- or script, 5 memory, 64 limits or command line; help that was asked for is 0
 abbrev pub goes_with : Said → ℕ → Bool
-goes_with Nothing status = status == 0 || (status == 2 || status == 3)
+goes_with Nothing status = status == 0 || (status == 2 || (status == 3 || status == 4))
 goes_with (BadLine line) status = status == 1
 goes_with InputTooLong status = status == 1
 goes_with InputUnreadable status = status == 1
@@ -37,6 +37,14 @@ abbrev pub is_of_script : Said → Bool
 is_of_script (BadLine line) = true
 is_of_script OutOfMemory = true
 is_of_script _ = false
+
+-- what may be said of a script that was read
+abbrev pub is_of_run : Said → Bool
+is_of_run Nothing = true
+is_of_run OutputFailed = true
+is_of_run BadLimits = true
+is_of_run OutOfMemory = true
+is_of_run _ = false
 
 -- what may be said at the end of a run: no text of the command line's parser
 abbrev pub is_of_step : Said → Bool

@@ -1,6 +1,6 @@
 //! How the program ends.
 
-ghost use Rattle.std.specs.Prelude.{◌≡◌, ◌≢◌, true};
+ghost use Rattle.std.specs.Prelude.{◌≡◌, true};
 ghost use Rattle.gmp_cli.specs.Step.{status_of};
 ghost use Rattle.gmp_cli.specs.Said.{goes_with};
 
@@ -30,7 +30,6 @@ fn status_of(end: End) -> u8
 impl Ended {
     /// The trace was written, and the run ended so.
     pub fn traced(end: End) -> Self
-        requires { end ≢ End.Running }
         ensures status { result.status ≡ status_of end }
         ensures said { result.said ≡ Said.Nothing }
     {

@@ -3,10 +3,10 @@
 
 mod clock;
 mod ended;
-mod machine;
 mod numeric;
 mod options;
 mod parsing;
+mod playing;
 mod reading;
 mod said;
 mod stepping;

@@ -23,8 +23,11 @@ pub struct Settings {
     pub entries: u32,
     /// The word that every choice draws.
     pub word: u64,
+    /// The most acts that the machines may make: 1 to 1,000,000,000.
+    pub acts: u32,
     pub ghost procs_in_range: { (1 ≤ procs) × (procs ≤ 32) },
     pub ghost machines_in_range: { (1 ≤ machines) × (machines ≤ 64) },
     pub ghost channels_in_range: { channels ≤ 1024 },
     pub ghost entries_in_range: { (16 ≤ entries) × (entries ≤ 1000000) },
+    pub ghost acts_in_range: { (1 ≤ acts) × (acts ≤ 1000000000) },
 }

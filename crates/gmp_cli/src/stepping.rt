@@ -1,22 +1,22 @@
 //! One run of a script.
 
-ghost use Rattle.std.specs.Prelude.{◌≡◌, ◌≢◌, ◌<◌, ◌⊎◌, ℕ, true, length, IfOk, IfErr, IfSome};
+ghost use Rattle.std.specs.Prelude.{◌≡◌, ◌<◌, ℕ, true, length, IfSome};
 ghost use Rattle.gmp_cli.specs.declared.said.Said.TheVariants.{BadLine, InputTooLong, BadLimits};
 ghost use Rattle.gmp_script.specs.Lines.{lines, IsFirstBad};
-ghost use Rattle.gmp_cli.specs.Said.{is_of_step, is_before_writing};
-ghost use Rattle.gmp_cli.specs.Step.{limits_of, RunsOnOne, IsOutOfLimits, IsTraceOf, IsStockOf, WritesTrace};
-ghost use Rattle.gmp_trace.specs.Text.{content};
+ghost use Rattle.gmp_seq.specs.Fits.{AreLimits};
+ghost use Rattle.gmp_cli.specs.Said.{is_before_writing, is_of_run, is_of_step};
+ghost use Rattle.gmp_cli.specs.Step.{limits_of, IsOutOfLimits, WritesRun, WritesTrace};
 
 use crate::ended::Ended;
-use crate::machine::Machine;
 use crate::options::Settings;
 use crate::parsing::script;
+use crate::playing::Player;
 use crate::reading::MAX_INPUT;
 use crate::said::Said;
 use gmp_base::Refusal;
 use gmp_script::Script;
 use gmp_seq::Limits;
-use gmp_trace::{End, Trace, WriteError, write};
+use gmp_trace::{End, TraceView, WriteError, write_view};
 use std::alloc::Global;
 use std::io::{Read, Write};
 
@@ -31,68 +31,45 @@ fn limits_of(settings: &Settings) -> Limits
     }
 }
 
-/// Runs the script on one machine with one processor, each choice drawing this word.
-fn run(alloc: Global, limits: Limits, script: Script, word: u64) -> Result<Trace, Ended>
-    ensures ok { IfOk result (λ x. IsTraceOf limits (content x)) }
-    ensures stock { IfOk result (λ x. x.bodies ≡ length script.bodies.items) }
-    ensures channels { IfOk result (λ x. x.capacities.items ≡ script.capacities.items) }
-    ensures over { IfOk result (λ x. x.end ≢ End.Running) }
-    ensures one { IfOk result (λ _. (limits.procs ≡ 1) × (limits.machines ≡ 1)) }
-    ensures err { IfErr result (λ e. (e.said ≡ BadLimits) ⊎ (e.said ≡ Said.OutOfMemory)) }
-    ensures limits { IfErr result (λ e. e.said ≡ BadLimits → ¬ (RunsOnOne limits (length script.bodies.items) script.capacities.items)) }
+/// Plays the script, and writes the trace.
+fn run<W: Write>(alloc: Global, settings: &Settings, script: Script, writer: &mut W) -> Ended
+    ensures traced { result.said ≡ Said.Nothing
+        → WritesRun settings.now script.capacities.items script.readings.items script.bodies.items result.status (W.contents writer.old) (W.contents writer.new) }
+    ensures kinds { is_of_run result.said ≡ true }
+    ensures quiet { is_before_writing result.said ≡ true → W.contents writer.new ≡ W.contents writer.old }
+    ensures limits { result.said ≡ BadLimits → ¬ (AreLimits (limits_of settings.now) (length script.bodies.items) script.capacities.items) }
 {
-    if limits.procs != 1 || limits.machines != 1 {
-        return Err(Ended::bad_limits());
-    }
     let Script {
         capacities,
         bodies,
         readings,
     } = script;
-    let machine = match Machine::open(alloc, limits, &capacities, bodies, readings, word) {
-        Ok(machine) => machine,
-        Err(Refusal::BadLimits) => return Err(Ended::bad_limits()),
-        Err(_) => return Err(Ended::out_of_memory()),
+    let limits = limits_of(settings);
+    let count = bodies.len();
+    let mut player = match Player::open(alloc, limits, &capacities, bodies, readings) {
+        Ok(player) => player,
+        Err(Refusal::BadLimits) => return Ended::bad_limits(),
+        Err(_) => return Ended::out_of_memory(),
     };
-    let Ok(report) = machine.run(alloc) else {
-        return Err(Ended::out_of_memory());
+    player.play(settings.acts, settings.word);
+    let end = End::of(player.outcome());
+    let trace = TraceView {
+        limits,
+        bodies: count as u16,
+        capacities: &capacities,
+        entries: player.history(),
+        end,
     };
-    Ok(Trace {
-        limits: report.limits,
-        bodies: report.bodies.len() as u16,
-        capacities: report.capacities,
-        entries: report.history,
-        end: End::of(Some(report.outcome)),
-    })
-}
-
-/// The trace of the script that is read.
-pub(crate) fn traced<R: Read>(
-    alloc: Global,
-    settings: &Settings,
-    reader: &mut R,
-) -> Result<Trace, Ended>
-    ensures ok { IfOk result (λ x. IsTraceOf (limits_of settings.now) (content x)) }
-    ensures script { IfOk result (λ x. IfSome (R.remaining reader.old) (λ all. IsStockOf all (content x))) }
-    ensures over { IfOk result (λ x. x.end ≢ End.Running) }
-    ensures one { IfOk result (λ _. (settings.now.procs ≡ 1) × (settings.now.machines ≡ 1)) }
-
-    ensures err { IfErr result (λ e. e.said ≢ Said.Nothing) }
-    ensures kinds { IfErr result (λ e. is_of_step e.said ≡ true) }
-    ensures first { IfErr result (λ e. (line : ℕ) → e.said ≡ BadLine line
-        → IfSome (R.remaining reader.old) (λ all. IsFirstBad (lines all) line)) }
-    ensures too_long { IfErr result (λ e. e.said ≡ InputTooLong
-        → IfSome (R.remaining reader.old) (λ all. MAX_INPUT < length all)) }
-    ensures limits { IfErr result (λ e. e.said ≡ BadLimits
-        → IfSome (R.remaining reader.old) (λ all. IsOutOfLimits (limits_of settings.now) all)) }
-{
-    match script(alloc, reader) {
-        Ok(script) => run(alloc, limits_of(settings), script, settings.word),
-        Err(ended) => Err(ended),
+    let written = write_view(alloc, trace, writer);
+    player.close();
+    match written {
+        Ok(()) => Ended::traced(end),
+        Err(WriteError::Device) => Ended::output_failed(),
+        Err(WriteError::OutOfMemory) => Ended::out_of_memory(),
     }
 }
 
-/// Reads a script, runs it on one machine with one processor, and writes the trace.
+/// Reads a script, plays it by several machines over one core, and writes the trace.
 ///
 /// It ends with what is wrong where something is: the input, the script's first bad line, the limits, the output, or memory.
 pub fn step<R: Read, W: Write>(
@@ -102,7 +79,7 @@ pub fn step<R: Read, W: Write>(
     writer: &mut W,
 ) -> Ended
     ensures traced { result.said ≡ Said.Nothing
-        → WritesTrace (limits_of settings.now) (R.remaining reader.old) result.status (W.contents writer.old) (W.contents writer.new) }
+        → WritesTrace settings.now (R.remaining reader.old) result.status (W.contents writer.old) (W.contents writer.new) }
 
     // What is wrong is said by one of the program's own texts, and nothing is written but where the output or memory fails.
     ensures kinds { is_of_step result.said ≡ true }
@@ -115,13 +92,8 @@ pub fn step<R: Read, W: Write>(
     ensures limits { result.said ≡ BadLimits
         → IfSome (R.remaining reader.old) (λ all. IsOutOfLimits (limits_of settings.now) all) }
 {
-    let trace = match traced(alloc, settings, reader) {
-        Ok(trace) => trace,
-        Err(ended) => return ended,
-    };
-    match write(alloc, &trace, writer) {
-        Ok(()) => Ended::traced(trace.end),
-        Err(WriteError::Device) => Ended::output_failed(),
-        Err(WriteError::OutOfMemory) => Ended::out_of_memory(),
+    match script(alloc, reader) {
+        Ok(script) => run(alloc, settings, script, writer),
+        Err(ended) => ended,
     }
 }

@@ -58,6 +58,15 @@ const WORD: Numeric = Numeric {
     default: 0,
 };
 
+const ACTS: Numeric = Numeric {
+    id: "acts",
+    option: "--acts",
+    help: "The most acts of machines, 1 to 1000000000 [default: 10000000]",
+    least: 1,
+    most: 1_000_000_000,
+    default: 10_000_000,
+};
+
 fn command<'a>(alloc: Global) -> Result<Command<'a>, AllocError> {
     let step = Command::new(alloc, "step")
         .about("Runs a script and prints the trace")
@@ -65,7 +74,8 @@ fn command<'a>(alloc: Global) -> Result<Command<'a>, AllocError> {
         .arg(MACHINES.arg(alloc))?
         .arg(CHANNELS.arg(alloc))?
         .arg(ENTRIES.arg(alloc))?
-        .arg(WORD.arg(alloc))?;
+        .arg(WORD.arg(alloc))?
+        .arg(ACTS.arg(alloc))?;
     Command::new(alloc, "gmp")
         .subcommand_required(true)
         .subcommand(step)
@@ -96,6 +106,7 @@ pub fn settings<'a>(alloc: Global, words: &'a [String]) -> Result<Settings, Ende
     ensures machines { IfOk result (λ s. (1 ≤ s.machines) × (s.machines ≤ 64)) }
     ensures channels { IfOk result (λ s. s.channels ≤ 1024) }
     ensures entries { IfOk result (λ s. (16 ≤ s.entries) × (s.entries ≤ 1000000)) }
+    ensures acts { IfOk result (λ s. (1 ≤ s.acts) × (s.acts ≤ 1000000000)) }
 
     // Each is the number that the words give, or the default where they don't give the option.
     ensures procs_given { IfOk result (λ s. number_given string_bytes words.now (codes "--procs") 1 ≡ Some s.procs) }
@@ -103,6 +114,7 @@ pub fn settings<'a>(alloc: Global, words: &'a [String]) -> Result<Settings, Ende
     ensures channels_given { IfOk result (λ s. number_given string_bytes words.now (codes "--channels") 16 ≡ Some s.channels) }
     ensures entries_given { IfOk result (λ s. number_given string_bytes words.now (codes "--entries") 10000 ≡ Some s.entries) }
     ensures word_given { IfOk result (λ s. number_given string_bytes words.now (codes "--word") 0 ≡ Some s.word) }
+    ensures acts_given { IfOk result (λ s. number_given string_bytes words.now (codes "--acts") 10000000 ≡ Some s.acts) }
 
     ensures err { IfErr result (λ e. is_of_words e.said ≡ true) }
 {
@@ -110,12 +122,20 @@ pub fn settings<'a>(alloc: Global, words: &'a [String]) -> Result<Settings, Ende
     if let Err(error) = command.try_get_matches_from_mut(words) {
         return Err(refused(alloc, &error));
     }
-    let (Some(procs), Some(machines), Some(channels), Some(entries), Some(word)) = (
+    let (
+        Some(procs),
+        Some(machines),
+        Some(channels),
+        Some(entries),
+        Some(word),
+        Some(acts),
+    ) = (
         PROCS.read(words),
         MACHINES.read(words),
         CHANNELS.read(words),
         ENTRIES.read(words),
         WORD.read(words),
+        ACTS.read(words),
     ) else {
         let error = command.error(
             ErrorKind::InvalidValue,
@@ -130,5 +150,6 @@ pub fn settings<'a>(alloc: Global, words: &'a [String]) -> Result<Settings, Ende
         channels: channels as u16,
         entries: entries as u32,
         word,
+        acts: acts as u32,
     })
 }

@@ -26,6 +26,7 @@ use Rattle.gmp_seq.specs.declared.call.Taken.TheVariants as taken
 use Rattle.gmp_trace.specs.declared.trace.End.{End}
 use Rattle.gmp_trace.specs.declared.trace.End.TheVariants as end_
 use Rattle.gmp_trace.specs.declared.trace.Trace.{Trace}
+use Rattle.gmp_trace.specs.declared.trace.TraceView.{TraceView}
 
 -- Words of a line
 
@@ -237,6 +238,9 @@ pub record Content : Type 0 where
 
 abbrev pub content : Trace → Content
 content x = record { limits = x.limits; bodies = x.bodies; capacities = x.capacities.items; entries = x.entries.items; end = x.end }
+
+abbrev pub content_of : TraceView → Content
+content_of x = record { limits = x.limits; bodies = x.bodies; capacities = x.capacities.now; entries = x.entries.now; end = x.end }
 
 -- the lines before the entries
 unfoldable pub opening_text : Limits → ℕ → List ℕ → List ℕ

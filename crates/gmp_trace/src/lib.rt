@@ -22,8 +22,8 @@ mod writing;
 
 pub use line::{put_end, put_entry};
 pub use reading::{read_call, read_capacities, read_entry, read_limits};
-pub use trace::{End, Trace};
-pub use writing::{WriteError, write};
+pub use trace::{End, Trace, TraceView};
+pub use writing::{WriteError, write, write_view};
 
 #[cfg(test)]
 mod tests;

@@ -1,7 +1,7 @@
 //! A whole trace.
 
 ghost use Rattle.std.specs.Prelude.{◌≡◌};
-ghost use Rattle.gmp_trace.specs.Text.{end_of};
+ghost use Rattle.gmp_trace.specs.Text.{content, content_of, end_of};
 
 use gmp_seq::{Entry, Limits, Outcome};
 
@@ -40,4 +40,32 @@ pub struct Trace {
     /// The calls in order, each with its reply.
     pub entries: Vec<Entry>,
     pub end: End,
+}
+
+/// The same of a run that lies elsewhere.
+#[derive(Clone, Copy, Debug)]
+pub struct TraceView<'a> {
+    pub limits: Limits,
+    /// How many goroutines there are.
+    pub bodies: u16,
+    /// The capacities of the channels that were there at the opening.
+    pub capacities: &'a [u32],
+    /// The calls in order, each with its reply.
+    pub entries: &'a [Entry],
+    pub end: End,
+}
+
+impl Trace {
+    /// The trace where it lies.
+    pub fn view(&self) -> TraceView<'_>
+        ensures { content_of result ≡ content self.now }
+    {
+        TraceView {
+            limits: self.limits,
+            bodies: self.bodies,
+            capacities: &self.capacities,
+            entries: &self.entries,
+            end: self.end,
+        }
+    }
 }

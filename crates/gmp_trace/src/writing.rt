@@ -3,10 +3,10 @@
 ghost use Rattle.std.specs.Prelude.{◌≡◌, [], OnOk, IfErr};
 ghost use Rattle.std.specs.Io.KnownBytes.{Appends};
 ghost use Rattle.gmp_trace.specs.declared.writing.WriteError.TheVariants.{Device, OutOfMemory};
-ghost use Rattle.gmp_trace.specs.Text.{text, content, AppendsStart};
+ghost use Rattle.gmp_trace.specs.Text.{text, content, content_of, AppendsStart};
 
 use crate::line::{put_end, put_entry, put_opening};
-use crate::trace::Trace;
+use crate::trace::{Trace, TraceView};
 use std::alloc::{AllocError, Global};
 use std::io::Write;
 use thiserror::Error;
@@ -56,8 +56,20 @@ pub fn write<W: Write>(alloc: Global, trace: &Trace, writer: &mut W) -> Result<(
     ensures written { OnOk result (Appends (W.contents writer.old) (W.contents writer.new) (text (content trace.now))) }
     ensures begun { IfErr result (λ e. e ≡ OutOfMemory → AppendsStart (W.contents writer.old) (W.contents writer.new) (text (content trace.now))) }
 {
+    write_view(alloc, trace.view(), writer)
+}
+
+/// Writes the same text of a trace that lies elsewhere.
+pub fn write_view<W: Write>(
+    alloc: Global,
+    trace: TraceView,
+    writer: &mut W,
+) -> Result<(), WriteError>
+    ensures written { OnOk result (Appends (W.contents writer.old) (W.contents writer.new) (text (content_of trace.entry))) }
+    ensures begun { IfErr result (λ e. e ≡ OutOfMemory → AppendsStart (W.contents writer.old) (W.contents writer.new) (text (content_of trace.entry))) }
+{
     let mut out = Vec::with_capacity(alloc, GATHERED + LONGEST)?;
-    put_opening(&mut out, &trace.limits, trace.bodies, &trace.capacities)?;
+    put_opening(&mut out, &trace.limits, trace.bodies, trace.capacities)?;
     for (number, entry) in trace.entries.iter().enumerate() {
         put_entry(&mut out, number as u64, entry)?;
         if out.len() >= GATHERED {

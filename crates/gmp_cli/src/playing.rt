@@ -1,0 +1,217 @@
+//! A run of a script over the core: the machines act in turn, and what their bodies and the clock say is the script's.
+ghost use Rattle.std.specs.Prelude.{◌≡◌, ◌<◌, ◌≤◌, ◌⊎◌, ◌↔◌, ◌%◌, ◌+◌, ℕ, true, false, IsTrue, IfOk, IfErr, IfSome, OnNone, length};
+ghost use Rattle.gmp_base.specs.declared.refusal.Refusal.TheVariants.{BadLimits, OutOfMemory};
+ghost use Rattle.gmp_base.specs.declared.number.MNo.{MNo};
+ghost use Rattle.gmp_seq.specs.Fits.{AreLimits};
+ghost use Rattle.gmp_acts.specs.Acts.{Acts};
+ghost use Rattle.gmp_acts.specs.System.{machine_at};
+ghost use Rattle.gmp_driver.specs.Table.{next_act};
+ghost use Rattle.gmp_core.specs.Whole.{HeadlineOf, wanted_by};
+
+use crate::clock::Clock;
+use gmp_acts::Choice;
+use gmp_base::{Ask, Body, MNo, Refusal, Refused};
+use gmp_core::{Core, Want};
+use gmp_script::ScriptBody;
+use gmp_seq::{Entry, Limits, Outcome};
+use std::alloc::Global;
+
+/// The number of the run: there is one.
+const RUN: u64 = 0;
+
+/// The core with a script's bodies, and the script's clock.
+pub(crate) struct Player {
+    core: Core<ScriptBody>,
+    clock: Clock,
+    /// How many machines there are.
+    machines: u8,
+    /// The machine whose turn it is; behind the last comes the first.
+    turn: u8,
+}
+
+impl Player {
+    ghost use Rattle.gmp_cli.specs.Clock.{unread};
+    ghost use Rattle.gmp_cli.specs.Plays.{Answers, AreParked, Asks, Deals, IsNext, IsOver, IsPlayed, IsSettled, PlaysOne, opening_stage};
+    ghost use Rattle.gmp_cli.specs.Staged.{IsManned, SameRun, TriesOne, stage};
+
+    /// The core before its first act.
+    pub(crate) fn open(
+        alloc: Global,
+        limits: Limits,
+        capacities: &[u32],
+        bodies: Vec<ScriptBody>,
+        readings: Vec<u64>,
+    ) -> Result<Self, Refusal>
+        ensures within { IfOk result (λ _. AreLimits limits (length bodies.items) capacities.now) }
+        ensures stage { IfOk result (λ p. stage p ≡ opening_stage limits capacities.now readings.items bodies.items) }
+        ensures manned { IfOk result IsManned }
+        ensures why { IfErr result (λ why. (why ≡ BadLimits) ⊎ (why ≡ OutOfMemory)) }
+        ensures limits { IfErr result (λ why. why ≡ BadLimits → ¬ (AreLimits limits (length bodies.items) capacities.now)) }
+    {
+        match Core::open(alloc, RUN, limits, capacities, bodies) {
+            Ok(core) => Ok(Player {
+                core,
+                clock: Clock::of(readings),
+                machines: limits.machines,
+                turn: 0,
+            }),
+            Err(Refused { why, back: _ }) => Err(why),
+        }
+    }
+
+    /// Acts in turn until the run is over and each machine that isn't parked is done, or so many acts were made, or all are parked. Each
+    /// choice draws this word.
+    pub(crate) fn play(&mut self, acts: u32, word: u64)
+        requires manned { IsManned self.old }
+        ensures played { IsPlayed acts word (stage self.old) (stage self.new) }
+        ensures same { SameRun self.old self.new }
+    {
+        for made in 0..acts {
+            let _ = made;
+            if !self.act(word) {
+                return;
+            }
+        }
+    }
+
+    /// One act of the machine whose turn it is, unless the run is over or no machine is left to act.
+    fn act(&mut self, word: u64) -> bool
+        requires manned { IsManned self.old }
+        ensures tries { TriesOne result self.old self.new word }
+        ensures same { SameRun self.old self.new }
+    {
+        if self.is_over() {
+            return false;
+        }
+        match self.next() {
+            Some(m) => {
+                self.advance(m, word);
+                true
+            }
+            None => false,
+        }
+    }
+
+    /// The first machine that isn't parked, from the one whose turn it is on.
+    fn next(&self) -> Option<MNo>
+        requires manned { IsManned self.now }
+        ensures next { IfSome result (IsNext (stage self.now)) }
+        ensures none { OnNone result (AreParked self.now.core.system) }
+    {
+        for passed in 0..self.machines {
+            let m = ((self.turn as u16 + passed as u16) % self.machines as u16) as u8;
+            if !self.core.parked(MNo(m)) {
+                return Some(MNo(m));
+            }
+        }
+        None
+    }
+
+    /// Whether the run has an outcome, and each machine that isn't parked is done.
+    fn is_over(&self) -> bool
+        requires manned { IsManned self.now }
+        ensures { IsTrue result ↔ IsOver self.now.core.system }
+    {
+        if self.core.outcome().is_none() {
+            return false;
+        }
+        for m in 0..self.machines {
+            if !self.core.parked(MNo(m)) && !self.core.done(MNo(m)) {
+                return false;
+            }
+        }
+        true
+    }
+
+    /// The machine makes its act, and the next one's turn comes.
+    fn advance(&mut self, m: MNo, word: u64)
+        requires there { m.0 < self.old.machines }
+        requires goes_on { ¬ (IsOver self.old.core.system) }
+        requires next { IsNext (stage self.old) m }
+        ensures plays { PlaysOne word (stage self.old) (stage self.new) }
+        ensures same { SameRun self.old self.new }
+    {
+        let choice = self.choose(m, word);
+        self.core.act(m, &choice);
+        self.turn = m.0 + 1;
+    }
+
+    /// What the machine's next act reads: what its body asks or answers, or what the clock shows.
+    fn choose(&mut self, m: MNo, word: u64) -> Choice
+        ensures deals { Deals (wanted_by (next_act (machine_at self.old.core.system m))) (stage self.old) m result (stage self.new) }
+        ensures settled { IsSettled word result }
+        ensures system { self.new.core.system ≡ self.old.core.system }
+        ensures machines { self.new.machines ≡ self.old.machines }
+        ensures turn { self.new.turn ≡ self.old.turn }
+    {
+        let mut choice = Choice {
+            ask: Ask::Exit,
+            number: 0,
+            word,
+            moment: 0,
+            push_refused: false,
+            unsure: false,
+        };
+        match self.core.wants(m) {
+            Want::Ask => choice.ask = self.ask(m),
+            Want::Number => choice.number = self.number(m),
+            Want::Moment(minded) => choice.moment = self.clock.read(minded),
+            Want::Nothing => {}
+        }
+        choice
+    }
+
+    /// What the body in the machine's hand asks, which is resumed.
+    fn ask(&mut self, m: MNo) -> Ask
+        requires { wanted_by (next_act (machine_at self.old.core.system m)) ≡ Want.Ask }
+        ensures asks { Asks (stage self.old) m result (stage self.new) }
+        ensures system { self.new.core.system ≡ self.old.core.system }
+        ensures machines { self.new.machines ≡ self.old.machines }
+        ensures turn { self.new.turn ≡ self.old.turn }
+    {
+        match (self.core.held(m), self.core.body(m)) {
+            (Some(woke), Some(body)) => body.resume(woke),
+            _ => unreachable!(),
+        }
+    }
+
+    /// What the blocking call of the body in the machine's hand answers.
+    fn number(&mut self, m: MNo) -> u64
+        requires { wanted_by (next_act (machine_at self.old.core.system m)) ≡ Want.Number }
+        ensures answers { Answers (stage self.old) m result (stage self.new) }
+        ensures system { self.new.core.system ≡ self.old.core.system }
+        ensures machines { self.new.machines ≡ self.old.machines }
+        ensures turn { self.new.turn ≡ self.old.turn }
+    {
+        match self.core.body(m) {
+            Some(body) => body.blocking(),
+            None => unreachable!(),
+        }
+    }
+
+    /// Every call so far.
+    pub(crate) fn history(&self) -> &[Entry]
+        ensures entries { result.now ≡ self.now.core.system.book.history }
+        ensures headline { HeadlineOf self.now.core.system }
+    {
+        self.core.history()
+    }
+
+    /// How the run ended, if it did.
+    pub(crate) fn outcome(&self) -> Option<Outcome>
+        ensures { result ≡ self.now.core.system.book.state.outcome }
+    {
+        self.core.outcome()
+    }
+
+    /// Lets all go.
+    pub(crate) fn close(self) {
+        let Player {
+            core,
+            clock: _,
+            machines: _,
+            turn: _,
+        } = self;
+        let _ = core.close();
+    }
+}
