@@ -1,5 +1,5 @@
 -- The core as a contract sees it: its state, and the bodies of all goroutines, wherever each is.
-use Rattle.std.specs.Prelude.{◌≡◌, ◌⊎◌, ℕ, ◌<◌, List, [], ◌∷◌, ◌++◌, map, length, Option, None, Some, slice_get, slice_index_or, slice_set}
+use Rattle.std.specs.Prelude.{◌≡◌, ◌⊎◌, ℕ, ◌<◌, Bool, true, false, List, [], ◌∷◌, ◌++◌, map, length, Option, None, Some, slice_get, slice_index_or, slice_set}
 use Rattle.std.specs.List.{range_with_len}
 use Rattle.gmp_base.specs.declared.ask.Woke.{Woke}
 use Rattle.gmp_base.specs.declared.number.GNo.{GNo}
@@ -49,6 +49,12 @@ wanted_by act.Resume = want.Ask
 wanted_by act.Block = want.Number
 wanted_by (act.Clock deadline) = want.Moment deadline
 wanted_by _ = want.Nothing
+
+-- it is of the body in hand
+abbrev pub is_of_body : Want → Bool
+is_of_body want.Ask = true
+is_of_body want.Number = true
+is_of_body _ = false
 
 -- Refusals
 

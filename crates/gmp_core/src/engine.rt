@@ -77,7 +77,7 @@ impl<T> Core<T> {
     ghost use Rattle.gmp_driver.specs.Machine.{held_at, is_done};
     ghost use Rattle.gmp_driver.specs.Table.{next_act};
     ghost use Rattle.gmp_core.specs.Lending.{lends_body};
-    ghost use Rattle.gmp_core.specs.Whole.{HeadlineOf, IsBodyInHand, NoCallIsRefused};
+    ghost use Rattle.gmp_core.specs.Whole.{HeadlineOf, IsBodyInHand, NoCallIsRefused, is_of_body};
 
     /// Machines that have made no act, each at its start with nothing in hand. There is a body for each goroutine. It takes all the memory
     /// that acts need, but for a make. Refused, it hands the bodies back.
@@ -187,9 +187,10 @@ impl<T> Core<T> {
         self.drivers.get_mut(m.0 as usize)?.body()
     }
 
-    /// What the machine's next act reads of a choice. One that isn't there reads nothing.
+    /// What the machine's next act reads of a choice: an ask or a number exactly where a body is in hand. One that isn't there reads nothing.
     pub fn wants(&self, m: MNo) -> Want
-        ensures { result ≡ wanted_by (next_act (machine_at self.now.system m)) }
+        ensures wants { result ≡ wanted_by (next_act (machine_at self.now.system m)) }
+        ensures body { is_of_body result ≡ is_some (held_at (machine_at self.now.system m).place (machine_at self.now.system m).hand.held) }
     {
         match self.drivers.get(m.0 as usize) {
             Some(driver) => wanted(driver.next()),
