@@ -1,0 +1,47 @@
+-- Turns go round, and what an act is dealt stays with the bodies and the clock.
+use Rattle.std.proofs.Common.{◌≡◌, ℕ, ◌+◌, ◌-◌, ◌%◌, ◌<◌, ◌≤◌, Bool, true, false, sym, ap, ◌∙◌, subst, arith, inl, inr}
+use Rattle.std.proofs.Math.Nat.{add-mod_right, mod-add-mod, mod-eq_of_lt, mod-lt}
+use Rattle.std.proofs.lemmas.Bool.{cases_lt}
+use Rattle.gmp_base.specs.declared.number.MNo.{MNo}
+use Rattle.gmp_acts.specs.declared.choice.Choice.{Choice}
+use Rattle.gmp_acts.specs.System.{System}
+use Rattle.gmp_core.specs.declared.want.Want.{Want}
+use Rattle.gmp_core.specs.declared.want.Want.TheVariants as want
+use Rattle.gmp_core.proofs.Moves.{opened_on}
+use Rattle.gmp_cli.specs.declared.playing.Player.{Player}
+use Rattle.gmp_cli.specs.Plays.{AreParked, Deals, Stage, machines_of, parked}
+use Rattle.gmp_cli.specs.Staged.{IsManned, SameRun}
+
+-- going round so many, each comes
+comes : (turn n m : ℕ) → m < n → (d : ℕ) × (d < n) × ((turn + d) % n ≡ m)
+comes turn n m here =
+    let few : turn % n < n = mod-lt turn (omega arith) in
+    elim (cases_lt m (turn % n)) [
+      | inl before ↦
+          let d = m + n - turn % n in
+          (d, omega arith, sym (mod-add-mod turn n d) ∙ (let e : turn % n + d ≡ m + n = omega arith in ap (λ (x : ℕ). x % n) e) ∙ add-mod_right m n ∙ mod-eq_of_lt here)
+      | inr behind ↦
+          let d = m - turn % n in
+          (d, omega arith, sym (mod-add-mod turn n d) ∙ (let e : turn % n + d ≡ m = omega arith in ap (λ (x : ℕ). x % n) e) ∙ mod-eq_of_lt here)
+    ]
+
+pub all_parked : (k : System) (turn : ℕ) → ((i : ℕ) → i < machines_of k → parked k ((turn + i) % machines_of k) ≡ true) → AreParked k
+all_parked k turn round m within =
+    let at = comes turn (machines_of k) m.0 within in
+    subst (λ (x : ℕ). parked k x ≡ true) at.2 (round at.0 at.1)
+
+pub deals_on : (w : Want) (s : Stage) (m : MNo) (choice : Choice) (mid s' : Stage) → s'.bodies ≡ mid.bodies → s'.clock ≡ mid.clock → Deals w s m choice mid → Deals w s m choice s'
+deals_on want.Ask s m choice mid s' b c d =
+    record { g = d.g; in_hand = d.in_hand; before = d.before; has = d.has; after = d.after; asks = d.asks; bodies = b ∙ d.bodies; clock = c ∙ d.clock }
+deals_on want.Number s m choice mid s' b c d =
+    record { g = d.g; in_hand = d.in_hand; body = d.body; has = d.has; answers = d.answers; bodies = b ∙ d.bodies; clock = c ∙ d.clock }
+deals_on (want.Moment minded) s m choice mid s' b c d = record { reads = d.reads; bodies = b ∙ d.bodies; clock = c ∙ d.clock }
+deals_on want.Nothing s m choice mid s' b c d = record { bodies = b ∙ d.bodies; clock = c ∙ d.clock }
+
+pub same_on : (a b c : Player) → SameRun a b → SameRun b c → SameRun a c
+same_on a b c x y =
+    record { machines = y.machines ∙ x.machines; opened = opened_on a.core.system.book b.core.system.book c.core.system.book x.opened y.opened }
+
+-- the player goes on to know how many machines there are
+pub manned_on : (a b : Player) → IsManned a → SameRun a b → IsManned b
+manned_on a b known same = same.machines ∙ known ∙ sym (ap (λ (l : _). l.machines) same.opened.limits)
