@@ -17,9 +17,10 @@ fn faults_come_in_order(rt: HostRuntime) -> Result<(), Fail> {
             1,
             "gmp: line 2: bad script line\n",
         ),
+        ("gmp step --procs 2", "body", 64, "gmp: bad limits\n"),
         (
-            "gmp step --procs 2 --machines 2",
-            "body",
+            "gmp step --machines 2 --channels 0",
+            "chan 1\nbody",
             64,
             "gmp: bad limits\n",
         ),
@@ -71,6 +72,50 @@ fn bodies_have_a_limit(rt: HostRuntime) -> Result<(), Fail> {
         assert_eq!(rt; ended.status, status, "{bodies}");
         assert_eq!(rt; writer.lines, lines, "{bodies}");
     }
+    Ok(())
+}
+
+/// A script in which main starts all others, of so many bodies, and receives what each of them sends.
+fn senders(alloc: Global, bodies: usize) -> Result<Vec<u8>, Fail> {
+    let mut text = Vec::new(alloc);
+    text.extend_from_slice(b"chan 0\nbody\n")?;
+    for k in 1..bodies {
+        text.extend_from_slice(format!(in alloc; "go {k}\n")?.as_bytes())?;
+    }
+    for _ in 1..bodies {
+        text.extend_from_slice(b"recv 0\n")?;
+    }
+    for k in 1..bodies {
+        text.extend_from_slice(format!(in alloc; "body\nsend 0 {k}\n")?.as_bytes())?;
+    }
+    Ok(text)
+}
+
+#[test]
+fn many_machines(rt: HostRuntime) -> Result<(), Fail> {
+    let alloc = rt.alloc();
+    let line = "gmp step --procs 32 --machines 64 --entries 1000000";
+    let settings = settings_of(&rt, alloc, line)?;
+    let text = senders(alloc, 4096)?;
+    let mut out = Vec::new(alloc);
+    let ended = step(alloc, &settings, &mut text.as_slice(), &mut out);
+    assert_eq!(rt; ended.status, 0);
+    let trace = str::from_utf8(&out).ok().unwrap_or("");
+    assert!(rt; trace.ends_with("exit -> main ended\nend main ended\n"));
+    // Each other body was started, and its value was taken up and received, once each.
+    for (part, times) in [
+        (" go ", 4095),
+        (" send 0 ", 4095),
+        (" recv 0 ", 4095),
+        (" claim 1.1 -> held", 1),
+        (" claim 4095.1 -> held", 1),
+        (" claim 0.1 -> held", 1),
+    ] {
+        assert_eq!(rt; trace.matches(part).count(), times, "{part}");
+    }
+    // Several machines did so.
+    assert!(rt; trace.matches(" 1.0 acquire -> proc 1").count() == 1);
+    assert!(rt; trace.matches(" 63.0 acquire -> none").count() == 1);
     Ok(())
 }
 

@@ -26,17 +26,28 @@ pub(crate) fn settings_of(rt: &impl Abort, alloc: Global, line: &str) -> Result<
 #[test]
 fn options_are_read(rt: HostRuntime) -> Result<(), Fail> {
     for (line, want) in [
-        ("gmp step", (1, 1, 16, 10_000, 0)),
-        ("gmp step --procs=32 --machines 64", (32, 64, 16, 10_000, 0)),
-        ("gmp step --channels 0 --entries 16", (1, 1, 0, 16, 0)),
+        ("gmp step", (1, 1, 16, 10_000, 0, 10_000_000)),
+        (
+            "gmp step --procs=32 --machines 64 --acts 1",
+            (32, 64, 16, 10_000, 0, 1),
+        ),
+        (
+            "gmp step --channels 0 --entries 16 --acts=1000000000",
+            (1, 1, 0, 16, 0, 1_000_000_000),
+        ),
         (
             "gmp step --entries=1000000 --channels=1024 --word 18446744073709551615",
-            (1, 1, 1024, 1_000_000, u64::MAX),
+            (1, 1, 1024, 1_000_000, u64::MAX, 10_000_000),
         ),
-        ("gmp step --machines 007", (1, 7, 16, 10_000, 0)),
+        (
+            "gmp step --machines 007",
+            (1, 7, 16, 10_000, 0, 10_000_000),
+        ),
     ] {
         let s = settings_of(&rt, rt.alloc(), line)?;
-        let got = (s.procs, s.machines, s.channels, s.entries, s.word);
+        let got = (
+            s.procs, s.machines, s.channels, s.entries, s.word, s.acts,
+        );
         assert_eq!(rt; got, want, "{line}");
     }
     Ok(())
@@ -49,6 +60,8 @@ fn bad_lines_are_refused(rt: HostRuntime) -> Result<(), Fail> {
         ("gmp step --machines 0", 64),
         ("gmp step --channels 1025", 64),
         ("gmp step --entries 15", 64),
+        ("gmp step --acts 0", 64),
+        ("gmp step --acts 1000000001", 64),
         ("gmp step --procs 1 --procs 1", 64),
         ("gmp step --procs +1", 64),
         ("gmp step --procs", 64),
