@@ -9,3 +9,4 @@ pub mod Keeping
 pub mod Together
 pub mod Opened
 pub mod Moves
+pub mod Lent
