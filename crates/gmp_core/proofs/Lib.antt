@@ -10,3 +10,4 @@ pub mod Together
 pub mod Opened
 pub mod Moves
 pub mod Wanting
+pub mod Lent

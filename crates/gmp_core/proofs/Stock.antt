@@ -22,7 +22,7 @@ first_or_none (Some x) = refl
 
 module _ {M X : Type 0} (f : M → Option X) where
   -- a machine that has the same in hand
-  first_same : (ms : List M) (m : ℕ) (x x' : M) → slice_get ms m ≡ Some x → f x' ≡ f x → first_with f (set ms m x') ≡ first_with f ms
+  pub first_same : (ms : List M) (m : ℕ) (x x' : M) → slice_get ms m ≡ Some x → f x' ≡ f x → first_with f (set ms m x') ≡ first_with f ms
   first_same [] m x x' is same = absurd (let no : None ≡ Some x = is in cc)
   first_same (y ∷ ys) zero x x' is same = (let its : Some y ≡ Some x = is in let e : y ≡ x = cc in ap (λ (o : Option X). first_of o (first_with f ys)) (same ∙ ap f (sym e)))
   first_same (y ∷ ys) (suc m) x x' is same = ap (first_of (f y)) (first_same ys m x x' is same)
@@ -32,7 +32,7 @@ module _ {M X : Type 0} (f : M → Option X) where
   none_has (y ∷ ys) none = rw (none 0 y refl) (none_has ys (λ n z is. none (suc n) z is))
 
   -- the one machine that has it
-  first_only : (ms : List M) (m : ℕ) (x : M) → slice_get ms m ≡ Some x → ((n : ℕ) (y : M) → n ≢ m → slice_get ms n ≡ Some y → f y ≡ None) → first_with f ms ≡ f x
+  pub first_only : (ms : List M) (m : ℕ) (x : M) → slice_get ms m ≡ Some x → ((n : ℕ) (y : M) → n ≢ m → slice_get ms n ≡ Some y → f y ≡ None) → first_with f ms ≡ f x
   first_only [] m x is others = absurd (let no : None ≡ Some x = is in cc)
   first_only (y ∷ ys) zero x is others =
       let its : Some y ≡ Some x = is in

@@ -25,6 +25,7 @@ use Rattle.gmp_acts.specs.Headline.{NoClaimIsRefused, SameOpening}
 use Rattle.gmp_acts.specs.Sound.{Agrees, IsSound}
 use Rattle.gmp_acts.specs.System.{System, machine_at}
 use Rattle.gmp_acts.proofs.Claimed.{no_claim_refused}
+use Rattle.gmp_acts.proofs.Losing.{entry_or_memory}
 use Rattle.gmp_acts.proofs.Moving.{own_within}
 use Rattle.gmp_acts.proofs.Onward.{act_opened}
 use Rattle.gmp_acts.proofs.Plain.{number_plain, plain_fits}
@@ -36,7 +37,7 @@ use Rattle.gmp_turn.specs.Values.{AreOut, body_in, owner_in}
 use Rattle.gmp_turn.proofs.Kept.{kept_at_end, turned}
 use Rattle.gmp_core.specs.Doing.{Desk, Does}
 use Rattle.gmp_core.specs.Inside.{IsCore, Parts, system_of}
-use Rattle.gmp_core.specs.Whole.{HeadlineOf, stock_of}
+use Rattle.gmp_core.specs.Whole.{HeadlineOf, NoCallIsRefused, stock_of}
 use Rattle.gmp_core.proofs.Keeping.{kept_after, one_in_hand, room_for}
 use Rattle.gmp_core.proofs.Tying.{agrees, does, is_there, machine_is, next_plain, over, parts_after, tickets}
 
@@ -93,6 +94,9 @@ module _ {T : Type 0} (c : Parts T) (m : MNo) (x : Machine T Unit) (is : slice_g
 
     pub claims_so : NoClaimIsRefused k m (system_of c')
     claims_so = no_claim_refused k m choice (system_of c') core.sound acts_so
+
+    pub calls_so : NoCallIsRefused k m (system_of c')
+    calls_so asked inside next goes = entry_or_memory k m choice asked (system_of c') core.sound inside next goes acts_so
 
     pub headline_so : HeadlineOf (system_of c')
     headline_so = headline_of (system_of c') core_so.sound

@@ -1,7 +1,6 @@
 -- The core as a contract sees it: its state, and the bodies of all goroutines, wherever each is.
 use Rattle.std.specs.Prelude.{◌≡◌, ◌⊎◌, ℕ, ◌<◌, Bool, true, false, List, [], ◌∷◌, ◌++◌, map, length, Option, None, Some, slice_get, slice_index_or, slice_set}
 use Rattle.std.specs.List.{range_with_len}
-use Rattle.gmp_base.specs.declared.ask.Woke.{Woke}
 use Rattle.gmp_base.specs.declared.number.GNo.{GNo}
 use Rattle.gmp_base.specs.declared.number.MNo.{MNo}
 use Rattle.gmp_seq.specs.declared.call.Call.{Call}
@@ -17,6 +16,8 @@ use Rattle.gmp_driver.specs.Machine.{Machine}
 use Rattle.gmp_driver.specs.Registers.{first_of}
 use Rattle.gmp_driver.specs.Table.{next_act}
 use Rattle.gmp_turn.specs.Values.{body_in}
+use Rattle.gmp_acts.specs.declared.choice.Choice.{Choice}
+use Rattle.gmp_acts.specs.Acts.{Acts}
 use Rattle.gmp_acts.specs.Hands.{PlainHand}
 use Rattle.gmp_acts.specs.Headline.{Headline, Lasts}
 use Rattle.gmp_acts.specs.System.{System, called_number, count_of, held_number, machine_at}
@@ -66,6 +67,11 @@ EntersCall k m asked k' = (answer : Reply) × (k'.book.history ≡ k.book.histor
 abbrev pub NoCallIsRefused : System → MNo → System → Type 0
 NoCallIsRefused k m k' = (asked : Call) → m.0 < length k.machines → next_act (machine_at k m) ≡ act.Call asked
     → Lasts k (EntersCall k m asked k' ⊎ (WantsMemory k.book.limits asked k.book.state × (k'.book ≡ k.book)))
+
+-- acts in a row, no call of which is refused
+abbrev pub GrantsAll : System → List (MNo × Choice) → System → Type 0
+GrantsAll k [] k' = k' ≡ k
+GrantsAll k (move ∷ moves) k' = (mid : System) × Acts k move.0 move.1 mid × NoCallIsRefused k move.0 mid × GrantsAll mid moves k'
 
 -- The body in hand
 

@@ -77,7 +77,7 @@ impl<T> Core<T> {
     ghost use Rattle.gmp_driver.specs.Machine.{held_at, is_done};
     ghost use Rattle.gmp_driver.specs.Table.{next_act};
     ghost use Rattle.gmp_core.specs.Lending.{lends_body};
-    ghost use Rattle.gmp_core.specs.Whole.{HeadlineOf, IsBodyInHand, NoCallIsRefused, is_of_body};
+    ghost use Rattle.gmp_core.specs.Whole.{GrantsAll, HeadlineOf, IsBodyInHand, NoCallIsRefused, is_of_body};
 
     /// Machines that have made no act, each at its start with nothing in hand. There is a body for each goroutine. It takes all the memory
     /// that acts need, but for a make. Refused, it hands the bodies back.
@@ -160,6 +160,7 @@ impl<T> Core<T> {
     /// Acts in a row, each of the machine beside it. Whatever they are, the headline holds after them.
     pub fn run(&mut self, moves: &[(MNo, Choice)])
         ensures acts { ActsAll self.old.system moves.now self.new.system }
+        ensures calls { GrantsAll self.old.system moves.now self.new.system }
         ensures stock { self.new.stock ≡ self.old.stock }
         ensures headline { HeadlineOf self.new.system }
         ensures opened { SameOpening self.old.system.book self.new.system.book }

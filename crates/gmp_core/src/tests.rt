@@ -23,28 +23,33 @@ fn opened(rt: &impl Abort, alloc: Global) -> Core<u32> {
     }
 }
 
-/// Act i of machine 0: its body, when it is resumed, asks for goroutines 1, 2 and 3.
-fn choice(i: u16, push_refused: bool) -> Choice {
-    Choice {
+/// Move i: sixteen acts of machine 0, whose body asks for goroutines 1, 2 and 3 when it is resumed, then those of machine 1, whose push is
+/// refused.
+fn nth_move(i: u16) -> (MNo, Choice) {
+    let second = i >= 16;
+    let choice = Choice {
         ask: Ask::Go(GNo(i / 4)),
         number: 0,
         word: 0,
         moment: 0,
-        push_refused,
+        push_refused: second,
         unsure: false,
-    }
+    };
+    (MNo(second as u8), choice)
 }
 
 #[test]
 fn a_machine_steals_and_its_push_is_refused(rt: HostRuntime) {
-    let mut core = opened(&rt, rt.alloc());
-    for i in 0..16 {
-        core.act(MNo(0), &choice(i, false));
-    }
+    let alloc = rt.alloc();
+    let mut core = opened(&rt, alloc);
+    let moves: Vec<(MNo, Choice)> = (0..27).map(nth_move).collect(alloc).expect(&rt, "memory");
+    core.run(&moves);
     assert_eq!(rt; core.wants(MNo(0)), Want::Ask);
-    for i in 0..11 {
-        core.act(MNo(1), &choice(i, true));
-    }
+    let body = core.body(MNo(0)).expect(&rt, "a body");
+    assert_eq!(rt; *body, 70);
+    *body = 80;
+    assert_eq!(rt; core.body(MNo(0)).map(|body| *body), Some(80));
+    assert_eq!(rt; core.body(MNo(1)).map(|body| *body), Some(71));
     let first = Readiness {
         g: GNo(1),
         epoch: 1,

@@ -18,7 +18,6 @@ use Rattle.gmp_driver.specs.declared.place.Place.{Place}
 use Rattle.gmp_driver.specs.declared.place.Place.TheVariants as place
 use Rattle.gmp_driver.specs.declared.place.Round.{Round}
 use Rattle.gmp_driver.specs.declared.registers.Registers.{Registers}
-use Rattle.gmp_driver.specs.declared.seen.Seen.{Seen}
 use Rattle.gmp_driver.specs.Fits.{Fits, IsFilled}
 use Rattle.gmp_driver.specs.Hunt.{more, victim_of}
 use Rattle.gmp_driver.specs.Loads.{called_of, called_parts, held_of, held_parts, load_of, parts_of, proc_of, proc_parts, ticket_of}

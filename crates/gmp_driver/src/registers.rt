@@ -179,6 +179,7 @@ impl<T, Q> Registers<T, Q> {
         fill_if(&mut self.to_claim, to_claim);
         fill_if(&mut self.to_store, to_store);
     }
+
     /// Lends the body that is in hand at this place.
     pub(crate) fn body(&mut self, here: &Place) -> Option<&mut T>
         ensures* lends { sem 𝓛 (lends_at T.row Q.row self.entry here.now result) }
