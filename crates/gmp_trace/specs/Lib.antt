@@ -1,2 +1,4 @@
+pub mod Guess
 pub mod HasText
+pub mod Reading
 pub mod Text

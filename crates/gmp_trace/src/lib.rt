@@ -8,6 +8,8 @@
 //! with no leading zero. A moment, as of `tick` or `sleep`, is in nanoseconds.
 #![tactic(auto)]
 
+mod at;
+mod bad;
 mod call;
 mod guess;
 mod guess_reply;
@@ -17,12 +19,15 @@ mod put;
 mod reading;
 mod reply;
 mod trace;
+mod whole;
 mod words;
 mod writing;
 
+pub use bad::{Bad, Why};
 pub use line::{put_end, put_entry};
 pub use reading::{read_call, read_capacities, read_entry, read_limits};
 pub use trace::{End, Trace};
+pub use whole::read;
 pub use writing::{WriteError, write};
 
 #[cfg(test)]
