@@ -12,3 +12,4 @@ pub mod Lines
 pub mod Opening
 pub mod Body
 pub mod Parts
+pub mod Counting

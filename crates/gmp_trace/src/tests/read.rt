@@ -1,6 +1,6 @@
 //! Texts that are traces, and texts that aren't.
 
-use crate::{read, write};
+use crate::{read, summary, write};
 use std::test::Fail;
 
 /// A goroutine yields and exits.
@@ -107,5 +107,23 @@ fn bad_lines(rt: HostRuntime) -> Result<(), Fail> {
         };
         assert_eq!(rt; answer.as_str(), said);
     }
+    Ok(())
+}
+
+#[test]
+fn summed_up(rt: HostRuntime) -> Result<(), Fail> {
+    let alloc = rt.alloc();
+    let mut out = Vec::new(alloc);
+    summary(alloc, &read(alloc, YIELDS.as_bytes())?, &mut out)?;
+    let lines = "outcome: main ended
+entries: 7
+machine 0: 7
+acquire        1
+take           2
+claim          2
+yield          1
+exit           1
+";
+    assert_eq!(rt; String::from_utf8(out)?.as_str(), lines);
     Ok(())
 }
