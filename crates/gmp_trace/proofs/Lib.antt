@@ -1,3 +1,15 @@
 pub mod Answered
+pub mod Arrow
+pub mod CaseLoop
 pub mod Numbered
+pub mod Numbers
+pub mod Lexing
 pub mod Owing
+pub mod Splitting
+pub mod WordRows
+pub mod Rows
+pub mod Lines
+pub mod Opening
+pub mod Body
+pub mod Parts
+pub mod Counting

@@ -1,5 +1,5 @@
 -- The entries of a legal run are numbered.
-use Rattle.std.proofs.Common.{◌≡◌, ℕ, zero, suc, ◌<◌, ◌==◌, Some, List, [], ◌∷◌, ◌++◌, length, refl, ◌∙◌, IsTrue, arith}
+use Rattle.std.proofs.Common.{◌≡◌, ℕ, zero, suc, ◌<◌, ◌==◌, Some, List, [], ◌∷◌, ◌++◌, length, refl, ◌∙◌, IsTrue, All, arith}
 use Rattle.std.proofs.lemmas.List.{length-map}
 use Rattle.std.proofs.lemmas.List.Sums.{length-filter}
 use Rattle.std.specs.List.{AllByRecursion, slice_get}
@@ -9,7 +9,7 @@ use Rattle.gmp_seq.proofs.Runs.{run_join}
 use Rattle.gmp_seq.proofs.Sizes.{legal_sizes}
 use Rattle.gmp_seq.specs.declared.call.Entry.{Entry}
 use Rattle.gmp_seq.specs.declared.call.Limits.{Limits}
-use Rattle.gmp_seq.specs.Fits.{AreLimits}
+use Rattle.gmp_seq.specs.Fits.{AreLimits, Fits}
 use Rattle.gmp_seq.specs.Run.{Run, IsLegal, made}
 use Rattle.gmp_seq.specs.State.{State, opening}
 use Rattle.gmp_trace.proofs.Answered.{effect_answers}
@@ -41,11 +41,13 @@ run_numbered limits bodies capacities before (e ∷ es) old new are legal (mid, 
     let farther = run_join limits (opening limits bodies capacities) old mid before (e ∷ []) legal (mid, step, refl) in
     (omega (arith, sizes.counts), k ∙ length-made before e.m, run_numbered limits bodies capacities (before ++ e ∷ []) es mid new are farther run)
 
-pub legal_text : (x : Content) (s : State) → AreLimits x.limits x.bodies x.capacities → IsLegal x.limits x.bodies x.capacities x.entries s → HasText x
-legal_text x s are legal =
+pub legal_text : (x : Content) (s : State) → AreLimits x.limits x.bodies x.capacities → IsLegal x.limits x.bodies x.capacities x.entries s
+    → All Fits x.entries → HasText x
+legal_text x s are legal fits =
     let start = opening x.limits x.bodies x.capacities in
     record {
       limits = are;
+      fits = fits;
       numbered = run_numbered x.limits x.bodies x.capacities [] x.entries start s are refl legal;
       answered = run_answered x.limits start s x.entries legal;
     }

@@ -1,5 +1,5 @@
 -- Which traces have a text.
-use Rattle.std.specs.Prelude.{◌≡◌, ℕ, ◌<◌, ◌==◌, Bool, true, false, List, [], ◌∷◌, ◌++◌, IsTrue, count_by}
+use Rattle.std.specs.Prelude.{◌≡◌, ℕ, ◌<◌, ◌==◌, Bool, true, false, List, [], ◌∷◌, ◌++◌, IsTrue, count_by, All}
 use Rattle.std.specs.List.{AllByRecursion}
 use Rattle.gmp_base.specs.declared.ask.Fault.TheVariants as fault
 use Rattle.gmp_base.specs.declared.number.MNo.{MNo}
@@ -8,7 +8,7 @@ use Rattle.gmp_seq.specs.declared.call.Call.TheVariants as call
 use Rattle.gmp_seq.specs.declared.call.Entry.{Entry}
 use Rattle.gmp_seq.specs.declared.call.Reply.{Reply}
 use Rattle.gmp_seq.specs.declared.call.Reply.TheVariants as reply
-use Rattle.gmp_seq.specs.Fits.{AreLimits}
+use Rattle.gmp_seq.specs.Fits.{AreLimits, Fits}
 use Rattle.gmp_trace.specs.Text.{Content}
 
 -- may the call be answered so
@@ -78,8 +78,10 @@ abbrev pub AreNumbered : ℕ → List Entry → List Entry → Type 0
 AreNumbered machines before [] = Unit {0}
 AreNumbered machines before (e ∷ es) = (e.m.0 < machines) × (e.k ≡ turns e.m before) × AreNumbered machines (before ++ e ∷ []) es
 
--- limits and capacities are in their ranges, the entries are numbered, and each call is answered as it may be
+-- Limits and capacities are in their ranges, the numbers of each entry within their types, the entries are numbered, and each call is answered
+-- as it may be.
 pub record HasText (x : Content) : Type 0 where
   pub limits : AreLimits x.limits x.bodies x.capacities
+  pub fits : All Fits x.entries
   pub numbered : AreNumbered x.limits.machines [] x.entries
   pub answered : AllByRecursion (λ (e : Entry). IsTrue (answers e.call e.reply)) x.entries

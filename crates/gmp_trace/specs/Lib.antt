@@ -1,2 +1,5 @@
+pub mod Guess
 pub mod HasText
+pub mod Reading
+pub mod Summary
 pub mod Text

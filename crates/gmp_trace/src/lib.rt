@@ -8,6 +8,8 @@
 //! with no leading zero. A moment, as of `tick` or `sleep`, is in nanoseconds.
 #![tactic(auto)]
 
+mod at;
+mod bad;
 mod call;
 mod guess;
 mod guess_reply;
@@ -16,13 +18,18 @@ mod line;
 mod put;
 mod reading;
 mod reply;
+mod summing;
 mod trace;
+mod whole;
 mod words;
 mod writing;
 
+pub use bad::{Bad, Why};
 pub use line::{put_end, put_entry};
 pub use reading::{read_call, read_capacities, read_entry, read_limits};
+pub use summing::summary;
 pub use trace::{End, Trace, TraceView};
+pub use whole::read;
 pub use writing::{WriteError, write, write_view};
 
 #[cfg(test)]

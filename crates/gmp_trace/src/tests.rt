@@ -1,3 +1,4 @@
+mod read;
 mod sample;
 
 use super::*;
@@ -50,6 +51,9 @@ fn every_call_and_reply(rt: HostRuntime) -> Result<(), Fail> {
         .strip_prefix(before)
         .ok_or("other lines before the entries")?;
     assert_eq!(rt; lines.strip_suffix(after), Some(text.as_str()));
+    let mut again = Vec::new(alloc);
+    write(alloc, &read(alloc, written.as_bytes())?, &mut again)?;
+    assert_eq!(rt; again.as_slice(), written.as_bytes());
     Ok(())
 }
 

@@ -1,0 +1,217 @@
+-- What is left to be read of a text that is a trace's.
+use Rattle.std.proofs.Common.{◌≡◌, ℕ, ◌+◌, ◌<◌, ◌≤◌, ◌^◌, ◌==◌, List, [], ◌∷◌, ◌++◌, length, get_or, refl, sym, ap, subst, ◌∙◌, append_assoc, decimal, arith, length-append, cond, inl, inr, IsTrue, All}
+use Rattle.std.specs.List.{AllByRecursion}
+use Rattle.std.proofs.lemmas.List.{append-nil, get_or-replicate, get_or-set_other, length-set}
+use Rattle.std.proofs.lemmas.List.Elements.{All-head, All-tail, All-cons, All-nil, All-append}
+use Rattle.std.proofs.lemmas.List.Sums.{count_by-le-length, sum_by-append}
+use Rattle.std.proofs.lemmas.Grind.{get_or-set_at}
+use Rattle.std.proofs.lemmas.Bool.Decides.{eqb_tells}
+use Rattle.std.proofs.lemmas.Fmt.{decimal_nonempty}
+use Rattle.std.proofs.Math.ListN.{replicate, set}
+use Rattle.gmp_base.specs.declared.number.MNo.{MNo}
+use Rattle.gmp_seq.specs.declared.call.Entry.{Entry}
+use Rattle.gmp_seq.specs.Fits.{Fits}
+use Rattle.gmp_trace.specs.declared.trace.End.{End}
+use Rattle.gmp_trace.specs.declared.trace.End.TheVariants.{MainEnded, AllAsleep, BookFull, Running}
+use Rattle.gmp_trace.specs.Text.{fields, entry_pieces, entry_text, entries_text, end_text}
+use Rattle.gmp_trace.specs.HasText.{AreNumbered, answers, turns}
+use Rattle.gmp_trace.specs.Reading.{IsEntry, IsNext, IsBody, Starts}
+use Rattle.gmp_trace.proofs.Numbers.{IsDigit, decimal_digits}
+use Rattle.gmp_trace.proofs.Lines.{regroup}
+
+abbrev IsAnswered : Entry → Type 0
+IsAnswered e = IsTrue (answers e.call e.reply)
+
+-- the entries that are left, behind those that were read
+pub record Left (es : List Entry) (rest : List ℕ) (xs : List Entry) (end : End) : Type 0 where
+  pub others : List Entry
+  pub whole : xs ≡ es ++ others
+  pub text : rest ≡ entries_text (length es) others ++ end_text end
+
+-- ---- entries one by one
+
+numbered-append : (machines : ℕ) (es before others : List Entry) → AreNumbered machines before (es ++ others) → AreNumbered machines (before ++ es) others
+numbered-append machines [] before others h = subst (λ (b : List Entry). AreNumbered machines b others) (sym (append-nil before)) h
+numbered-append machines (e ∷ es) before others h =
+    subst (λ (b : List Entry). AreNumbered machines b others) (append_assoc before (e ∷ []) es) (numbered-append machines es (before ++ e ∷ []) others h.2)
+
+numbered-next : (machines : ℕ) (before es : List Entry) (e : Entry) → AreNumbered machines before (e ∷ es) → IsNext machines before e
+numbered-next machines before es e h = (h.0, h.1)
+
+numbered-more : (machines : ℕ) (es before : List Entry) (e : Entry) → AreNumbered machines before es → IsNext machines (before ++ es) e → AreNumbered machines before (es ++ e ∷ [])
+numbered-more machines [] before e h next =
+    let here = subst (λ (b : List Entry). IsNext machines b e) (append-nil before) next in
+    (here.0, here.1, tt)
+numbered-more machines (d ∷ es) before e h next =
+    (h.0, h.1, numbered-more machines es (before ++ d ∷ []) e h.2 (subst (λ (b : List Entry). IsNext machines b e) (sym (append_assoc before (d ∷ []) es)) next))
+
+answers-more : (es : List Entry) (e : Entry) → AllByRecursion IsAnswered es → IsAnswered e → AllByRecursion IsAnswered (es ++ e ∷ [])
+answers-more [] e h is = (is, tt)
+answers-more (d ∷ es) e h is = (h.0, answers-more es e h.1 is)
+
+answers-behind : (es others : List Entry) → AllByRecursion IsAnswered (es ++ others) → AllByRecursion IsAnswered others
+answers-behind [] others h = h
+answers-behind (e ∷ es) others h = answers-behind es others h.1
+
+fits-more : (es : List Entry) (e : Entry) → All Fits es → Fits e → All Fits (es ++ e ∷ [])
+fits-more es e h is = All-append Fits es (e ∷ []) h (All-cons Fits e [] is (All-nil Fits))
+
+fits-behind : (es others : List Entry) → All Fits (es ++ others) → All Fits others
+fits-behind [] others h = h
+fits-behind (e ∷ es) others h = fits-behind es others (All-tail Fits e (es ++ others) h)
+
+pub entries_text-more : (n : ℕ) (es : List Entry) (e : Entry) → entries_text n (es ++ e ∷ []) ≡ entries_text n es ++ entry_text (n + length es) e
+entries_text-more n [] e = append-nil (entry_text n e) ∙ ap (λ (k : ℕ). entry_text k e) (omega arith)
+entries_text-more n (d ∷ es) e =
+    let same : n + 1 + length es ≡ n + length (d ∷ es) = omega arith in
+    ap (λ (t : List ℕ). entry_text n d ++ t) (entries_text-more (n + 1) es e ∙ ap (λ (k : ℕ). entries_text (n + 1) es ++ entry_text k e) same)
+    ∙ sym (append_assoc (entry_text n d) (entries_text (n + 1) es) (entry_text (n + length (d ∷ es)) e))
+
+-- ---- an entry's line is no end line
+
+digit_first : (ds rest more : List ℕ) → AllByRecursion IsDigit ds → 0 < length ds → ds ++ rest ≡ 101 ∷ more → ⊥
+digit_first [] rest more h some e = omega arith
+digit_first (d ∷ ds) rest more h some e = let same : d ≡ 101 = cc in omega (arith, h.0)
+
+end_first : (end : End) (more : List ℕ) → (others : List ℕ) × (end_text end ++ more ≡ 101 ∷ others)
+unfolding end_text
+end_first MainEnded more = (_, refl)
+end_first AllAsleep more = (_, refl)
+end_first BookFull more = (_, refl)
+end_first Running more = (_, refl)
+
+rest_of_line : (n : ℕ) (e : Entry) (more : List ℕ) → entry_text n e ++ more ≡ decimal n ++ (fields (entry_pieces e) ++ 10 ∷ more)
+unfolding entry_text
+rest_of_line n e more = regroup (decimal n) (fields (entry_pieces e)) more
+
+pub entry_is_no_end : (n : ℕ) (e : Entry) (more : List ℕ) (end : End) (behind : List ℕ) → n < 2 ^ 64 → entry_text n e ++ more ≡ end_text end ++ behind → ⊥
+entry_is_no_end n e more end behind small is =
+    let first = end_first end behind in
+    digit_first (decimal n) _ first.0 (decimal_digits n small) (decimal_nonempty n small) (sym (rest_of_line n e more) ∙ is ∙ first.1)
+
+end_is_some : (end : End) → end_text end ≡ [] → ⊥
+unfolding end_text
+end_is_some MainEnded is = cc
+end_is_some AllAsleep is = cc
+end_is_some BookFull is = cc
+end_is_some Running is = cc
+
+-- ---- the loop
+
+pub left_start : (machines : ℕ) (text : List ℕ) (xs : List Entry) (end : End) → IsBody machines text xs end → Left [] text xs end
+left_start machines text xs end h = record { others = xs; whole = refl; text = h.whole }
+
+-- what the reader of an entry says of a text
+abbrev pub OnlyEntry : List ℕ → ℕ → Entry → List ℕ → Type 0
+OnlyEntry rest n e more = (m : ℕ) (d : Entry) (behind : List ℕ) → IsEntry m d → rest ≡ entry_text m d ++ behind → (n ≡ m) × (e ≡ d) × (more ≡ behind)
+
+abbrev pub NoEntry : List ℕ → Type 0
+NoEntry rest = (m : ℕ) (d : Entry) (behind : List ℕ) → IsEntry m d → rest ≡ entry_text m d ++ behind → ⊥
+
+-- the next entry of a trace
+pub record Next (machines : ℕ) (es : List Entry) (rest : List ℕ) (xs : List Entry) (end : End) (n : ℕ) (e : Entry) (more : List ℕ) : Type 0 where
+  pub number : n ≡ length es
+  pub next : IsNext machines es e
+  pub left : Left (es ++ e ∷ []) more xs end
+
+first_of_left : (machines : ℕ) (text : List ℕ) (es ys : List Entry) (y : Entry) (xs : List Entry) (end : End)
+    → IsBody machines text xs end → xs ≡ es ++ y ∷ ys → length es < 2 ^ 64 → IsEntry (length es) y × IsNext machines es y
+first_of_left machines text es ys y xs end h whole small =
+    let fits = fits-behind es (y ∷ ys) (subst (λ (l : List Entry). All Fits l) whole h.entries.fits) in
+    let replies = answers-behind es (y ∷ ys) (subst (λ (l : List Entry). AllByRecursion IsAnswered l) whole h.entries.answered) in
+    let numbered = numbered-append machines es [] (y ∷ ys) (subst (λ (l : List Entry). AreNumbered machines [] l) whole h.entries.numbered) in
+    (record { number = small; fits = All-head Fits y ys fits; answered = replies.0 }, numbered-next machines es ys y numbered)
+
+next_by : (machines : ℕ) (text : List ℕ) (es others : List Entry) (rest : List ℕ) (xs : List Entry) (end : End) (n : ℕ) (e : Entry) (more : List ℕ)
+    → IsBody machines text xs end → xs ≡ es ++ others → rest ≡ entries_text (length es) others ++ end_text end → length es < 2 ^ 64
+    → n < 2 ^ 64 → rest ≡ entry_text n e ++ more → OnlyEntry rest n e more → Next machines es rest xs end n e more
+next_by machines text es [] rest xs end n e more h whole left few small is only =
+    absurd (entry_is_no_end n e more end [] small (sym is ∙ left ∙ sym (append-nil (end_text end))))
+next_by machines text es (y ∷ ys) rest xs end n e more h whole left few small is only =
+    let first = first_of_left machines text es ys y xs end h whole few in
+    let same = only (length es) y (entries_text (length es + 1) ys ++ end_text end) first.0 (left ∙ append_assoc (entry_text (length es) y) (entries_text (length es + 1) ys) (end_text end)) in
+    let size : length es + 1 ≡ length (es ++ e ∷ []) = omega (arith, length-append es (e ∷ [])) in
+    record {
+      number = same.0;
+      next = subst (λ (x : Entry). IsNext machines es x) (sym same.1) first.1;
+      left = record {
+        others = ys;
+        whole = whole ∙ ap (λ (x : Entry). es ++ x ∷ ys) (sym same.1) ∙ sym (append_assoc es (e ∷ []) ys);
+        text = same.2 ∙ ap (λ (k : ℕ). entries_text k ys ++ end_text end) size;
+      };
+    }
+
+pub next_of_left : (machines : ℕ) (text : List ℕ) (es : List Entry) (rest : List ℕ) (xs : List Entry) (end : End) (n : ℕ) (e : Entry) (more : List ℕ)
+    → IsBody machines text xs end → Left es rest xs end → length es < 2 ^ 64
+    → n < 2 ^ 64 → rest ≡ entry_text n e ++ more → OnlyEntry rest n e more → Next machines es rest xs end n e more
+next_of_left machines text es rest xs end n e more h left few small is only = next_by machines text es left.others rest xs end n e more h left.whole left.text few small is only
+
+none_by : (machines : ℕ) (text : List ℕ) (es others : List Entry) (rest : List ℕ) (xs : List Entry) (end : End)
+    → IsBody machines text xs end → xs ≡ es ++ others → rest ≡ entries_text (length es) others ++ end_text end → length es < 2 ^ 64
+    → NoEntry rest → (es ≡ xs) × (rest ≡ end_text end)
+none_by machines text es [] rest xs end h whole left few none = (sym (whole ∙ append-nil es), left)
+none_by machines text es (y ∷ ys) rest xs end h whole left few none =
+    let first = first_of_left machines text es ys y xs end h whole few in
+    absurd (none (length es) y (entries_text (length es + 1) ys ++ end_text end) first.0 (left ∙ append_assoc (entry_text (length es) y) (entries_text (length es + 1) ys) (end_text end)))
+
+-- no entry is left
+pub none_left : (machines : ℕ) (text : List ℕ) (es : List Entry) (rest : List ℕ) (xs : List Entry) (end : End)
+    → IsBody machines text xs end → Left es rest xs end → length es < 2 ^ 64 → NoEntry rest → (es ≡ xs) × (rest ≡ end_text end)
+none_left machines text es rest xs end h left few none = none_by machines text es left.others rest xs end h left.whole left.text few none
+
+append_empty : (xs ys : List ℕ) → [] ≡ xs ++ ys → ys ≡ []
+append_empty [] ys e = sym e
+append_empty (x ∷ xs) ys e = absurd cc
+
+pub some_left : (es xs : List Entry) (end : End) → Left es [] xs end → ⊥
+some_left es xs end left = end_is_some end (append_empty (entries_text (length es) left.others) (end_text end) left.text)
+
+-- nothing was read
+pub starts_none : (machines : ℕ) (text : List ℕ) → Starts machines text [] text
+starts_none machines text = record { entries = record { fits = All-nil Fits; numbered = tt; answered = tt }; whole = refl }
+
+-- one entry more
+pub starts_more : (machines : ℕ) (text : List ℕ) (es : List Entry) (rest : List ℕ) (n : ℕ) (e : Entry) (more : List ℕ)
+    → Starts machines text es rest → rest ≡ entry_text n e ++ more → n ≡ length es → IsNext machines es e → IsEntry n e
+    → Starts machines text (es ++ e ∷ []) more
+starts_more machines text es rest n e more h is number next entry =
+    let grown : entries_text 0 (es ++ e ∷ []) ≡ entries_text 0 es ++ entry_text n e =
+    entries_text-more 0 es e ∙ ap (λ (k : ℕ). entries_text 0 es ++ entry_text k e) (omega (arith, number)) in
+    record {
+      entries = record {
+        fits = fits-more es e h.entries.fits entry.fits;
+        numbered = numbered-more machines es [] e h.entries.numbered next;
+        answered = answers-more es e h.entries.answered entry.answered;
+      };
+      whole = h.whole ∙ ap (λ (t : List ℕ). entries_text 0 es ++ t) is ∙ sym (append_assoc (entries_text 0 es) (entry_text n e) more)
+          ∙ ap (λ (t : List ℕ). t ++ more) (sym grown);
+    }
+
+-- ---- how many entries each machine has
+
+abbrev pub Counts : List ℕ → List Entry → Type 0
+Counts counts es = (length counts ≡ 64) × ((m : MNo) → m.0 < 64 → get_or counts m.0 0 ≡ turns m es)
+
+turns-more : (m : MNo) (es : List Entry) (e : Entry) → turns m (es ++ e ∷ []) ≡ turns m es + cond (e.m.0 == m.0) 1 0
+turns-more m es e = sum_by-append (λ (x : Entry). cond (x.m.0 == m.0) 1 0) es (e ∷ []) ∙ omega arith
+
+pub counts_start : (zeros : List ℕ) → zeros ≡ replicate 64 0 → Counts zeros []
+counts_start zeros is = (rw is refl, λ m h. rw is (get_or-replicate 64 m.0 0 0 h))
+
+pub counts_more : (counts : List ℕ) (es : List Entry) (e : Entry) → Counts counts es → e.m.0 < 64
+    → Counts (set counts e.m.0 (get_or counts e.m.0 0 + 1)) (es ++ e ∷ [])
+counts_more counts es e h there = (
+  length-set counts e.m.0 _ ∙ h.0,
+  λ m lt. elim (eqb_tells e.m.0 m.0) [
+    | inl same ↦ rw (turns-more m es e, same.0) (get_or-set_at counts e.m.0 m.0 _ 0 (sym same.1) (omega (arith, h.0)) ∙ ap (λ (k : ℕ). k + 1) (ap (λ (k : ℕ). get_or counts k 0) same.1 ∙ h.1 m lt))
+    | inr other ↦ rw (turns-more m es e, other.0) (get_or-set_other counts e.m.0 m.0 _ 0 (λ q. other.1 (sym q)) ∙ h.1 m lt ∙ omega arith)
+  ],
+)
+
+pub turn_small : (m : MNo) (es : List Entry) → turns m es ≤ length es
+turn_small m es = count_by-le-length (λ (e : Entry). e.m.0 == m.0) es
+
+-- a text that begins with a line is longer than what is behind the line
+pub shorter : (n : ℕ) (e : Entry) (rest more : List ℕ) → rest ≡ entry_text n e ++ more → length more < length rest
+shorter n e rest more is =
+    omega (arith, ap length (is ∙ rest_of_line n e more), length-append (decimal n) (fields (entry_pieces e) ++ 10 ∷ more), length-append (fields (entry_pieces e)) (10 ∷ more))

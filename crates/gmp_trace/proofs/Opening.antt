@@ -1,0 +1,141 @@
+-- The limits and capacities that a line was written for are those that it is taken for.
+use Rattle.std.proofs.Common.{◌≡◌, ℕ, ◌<◌, ◌^◌, true, List, [], ◌∷◌, ◌++◌, map, take, drop, length, refl, sym, ap, ap₂, ◌∙◌, append_assoc, decimal, codes, arith, All}
+use Rattle.std.proofs.lemmas.List.{length-map, take_all}
+use Rattle.std.proofs.lemmas.List.Elements.{All-head, All-tail}
+use Rattle.gmp_seq.specs.declared.call.Limits.{Limits}
+use Rattle.gmp_seq.specs.Fits.{AreLimits}
+use Rattle.gmp_trace.specs.Text.{Piece, piece_text, fields, limit, limits_text, capacity_piece, capacities_text}
+use Rattle.gmp_trace.specs.Text.Piece.{Word, Number}
+use Rattle.gmp_trace.specs.Guess.{words_on, limits_of, bodies_of, capacity_of}
+use Rattle.gmp_trace.specs.Reading.{FitLimits}
+use Rattle.gmp_trace.proofs.Lexing.{are_plain, words_of_line}
+use Rattle.gmp_trace.proofs.WordRows.{decimal_plain}
+use Rattle.gmp_trace.proofs.Rows.{small_again}
+use Rattle.gmp_trace.proofs.Lines.{regroup}
+
+-- ---- limits
+
+abbrev limits_pieces : Limits → ℕ → List Piece
+limits_pieces l bodies =
+    Word (codes "procs") ∷ Number 8 l.procs ∷ Word (codes "machines") ∷ Number 8 l.machines ∷ Word (codes "bodies") ∷ Number 16 bodies
+    ∷ Word (codes "channels") ∷ Number 16 l.channels ∷ Word (codes "entries") ∷ Number 32 l.entries ∷ []
+
+abbrev named : List ℕ → ℕ → ℕ → List Piece → List Piece
+named name bits n pieces = Word name ∷ Number bits n ∷ pieces
+
+join : (name digits fields more : List ℕ) → 32 ∷ (((name ++ 32 ∷ []) ++ digits) ++ (fields ++ more)) ≡ 32 ∷ ((name ++ 32 ∷ (digits ++ fields)) ++ more)
+join name digits fields more = simp append_assoc
+
+limit_fields : (name : List ℕ) (bits n : ℕ) (pieces : List Piece) (more : List ℕ) → limit name n ++ (fields pieces ++ more) ≡ fields (named name bits n pieces) ++ more
+unfolding limit
+limit_fields name bits n pieces more = join name (decimal n) (fields pieces) more
+
+regroup_limits : (first a b c d e more : List ℕ) → first ++ a ++ b ++ c ++ d ++ e ++ codes "\n" ++ more ≡ first ++ (a ++ (b ++ (c ++ (d ++ (e ++ 10 ∷ more)))))
+regroup_limits first a b c d e more = simp append_assoc
+
+limits_line : (l : Limits) (bodies : ℕ) (more : List ℕ) → limits_text l bodies ++ more ≡ codes "limits" ++ (fields (limits_pieces l bodies) ++ 10 ∷ more)
+unfolding limits_text
+limits_line l bodies more =
+    let entries = named (codes "entries") 32 l.entries [] in
+    let channels = named (codes "channels") 16 l.channels entries in
+    let stock = named (codes "bodies") 16 bodies channels in
+    let machines = named (codes "machines") 8 l.machines stock in
+    let tail = 10 ∷ more in
+    let chain =
+    ap (λ (t : List ℕ). limit (codes "procs") l.procs ++ t)
+    (ap (λ (t : List ℕ). limit (codes "machines") l.machines ++ t)
+    (ap (λ (t : List ℕ). limit (codes "bodies") bodies ++ t)
+    (ap (λ (t : List ℕ). limit (codes "channels") l.channels ++ t) (limit_fields (codes "entries") 32 l.entries [] tail)
+    ∙ limit_fields (codes "channels") 16 l.channels entries tail)
+    ∙ limit_fields (codes "bodies") 16 bodies channels tail)
+    ∙ limit_fields (codes "machines") 8 l.machines stock tail)
+    ∙ limit_fields (codes "procs") 8 l.procs machines tail in
+    regroup_limits (codes "limits") (limit (codes "procs") l.procs) (limit (codes "machines") l.machines) (limit (codes "bodies") bodies) (limit (codes "channels") l.channels) (limit (codes "entries") l.entries) more
+    ∙ ap (λ (t : List ℕ). codes "limits" ++ t) chain
+
+limits_plain : (l : Limits) (bodies : ℕ) → FitLimits l bodies → are_plain (limits_pieces l bodies) ≡ true
+limits_plain l bodies h =
+    rw (
+      decimal_plain l.procs (omega (arith, h.procs)),
+      decimal_plain l.machines (omega (arith, h.machines)),
+      decimal_plain bodies (omega (arith, h.stock)),
+      decimal_plain l.channels (omega (arith, h.channels)),
+      decimal_plain l.entries (omega (arith, h.entries)),
+    ) refl
+
+limits_words : (l : Limits) (bodies : ℕ) (more : List ℕ) → FitLimits l bodies
+    → take 1030 (words_on [] (limits_text l bodies ++ more)) ≡ codes "limits" ∷ map piece_text (limits_pieces l bodies)
+limits_words l bodies more h =
+    ap (λ (t : List ℕ). take 1030 (words_on [] t)) (limits_line l bodies more)
+    ∙ ap (λ (ws : List (List ℕ)). take 1030 ws) (words_of_line (codes "limits") (limits_pieces l bodies) more refl (limits_plain l bodies h))
+    ∙ take_all 1030 (codes "limits" ∷ map piece_text (limits_pieces l bodies)) (omega arith)
+
+limits_again : (l : Limits) (bodies : ℕ) → FitLimits l bodies → limits_of (codes "limits" ∷ map piece_text (limits_pieces l bodies)) ≡ l
+unfolding limits_of
+limits_again l bodies h =
+    rw (
+      small_again 8 l.procs h.procs (omega (arith, h.procs)),
+      small_again 8 l.machines h.machines (omega (arith, h.machines)),
+      small_again 16 l.channels h.channels (omega (arith, h.channels)),
+      small_again 32 l.entries h.entries (omega (arith, h.entries)),
+    ) refl
+
+bodies_again : (l : Limits) (bodies : ℕ) → FitLimits l bodies → bodies_of (codes "limits" ∷ map piece_text (limits_pieces l bodies)) ≡ bodies
+unfolding bodies_of
+bodies_again l bodies h = small_again 16 bodies h.stock (omega (arith, h.stock))
+
+pub guessed_limits : (text line : List ℕ) (words : List (List ℕ)) (guess l : Limits) (guess_bodies bodies : ℕ) (more : List ℕ)
+    → words ≡ take 1030 (words_on [] text) → guess ≡ limits_of words → guess_bodies ≡ bodies_of words → line ≡ limits_text guess guess_bodies
+    → FitLimits l bodies → text ≡ limits_text l bodies ++ more
+    → (guess ≡ l) × (guess_bodies ≡ bodies) × (text ≡ line ++ more)
+guessed_limits text line words guess l guess_bodies bodies more split is_guess is_bodies written h is =
+    let all : words ≡ codes "limits" ∷ map piece_text (limits_pieces l bodies) = split ∙ ap (λ (t : List ℕ). take 1030 (words_on [] t)) is ∙ limits_words l bodies more h in
+    let same : guess ≡ l = is_guess ∙ ap limits_of all ∙ limits_again l bodies h in
+    let stock : guess_bodies ≡ bodies = is_bodies ∙ ap bodies_of all ∙ bodies_again l bodies h in
+    (same, stock, is ∙ ap (λ (t : List ℕ). t ++ more) (sym (written ∙ ap₂ limits_text same stock)))
+
+pub are_of_types : (l : Limits) (bodies : ℕ) (capacities : List ℕ) → AreLimits l bodies capacities → FitLimits l bodies
+are_of_types l bodies capacities h = record {
+  procs = omega (arith, h.procs, h.machines);
+  machines = omega (arith, h.machines);
+  stock = omega (arith, h.stock);
+  channels = omega (arith, h.channels);
+  entries = omega (arith, h.entries);
+}
+
+-- ---- capacities
+
+abbrev IsSmall : ℕ → Type 0
+IsSmall c = c < 2 ^ 32
+
+capacities_plain : (cs : List ℕ) → All IsSmall cs → are_plain (map capacity_piece cs) ≡ true
+capacities_plain [] h = refl
+capacities_plain (c ∷ cs) h =
+    let small : IsSmall c = All-head IsSmall c cs h in
+    rw (decimal_plain c (omega (arith, small)), capacities_plain cs (All-tail IsSmall c cs h)) refl
+
+capacities_back : (cs : List ℕ) → All IsSmall cs → map capacity_of (map piece_text (map capacity_piece cs)) ≡ cs
+capacities_back [] h = refl
+capacities_back (c ∷ cs) h =
+    let small : IsSmall c = All-head IsSmall c cs h in
+    rw (small_again 32 c small (omega (arith, small)), capacities_back cs (All-tail IsSmall c cs h)) refl
+
+capacities_line : (cs more : List ℕ) → capacities_text cs ++ more ≡ codes "caps" ++ (fields (map capacity_piece cs) ++ 10 ∷ more)
+unfolding capacities_text
+capacities_line cs more = regroup (codes "caps") (fields (map capacity_piece cs)) more
+
+capacities_words : (cs more : List ℕ) → All IsSmall cs → length cs < 1030
+    → take 1030 (words_on [] (capacities_text cs ++ more)) ≡ codes "caps" ∷ map piece_text (map capacity_piece cs)
+capacities_words cs more h few =
+    ap (λ (t : List ℕ). take 1030 (words_on [] t)) (capacities_line cs more)
+    ∙ ap (λ (ws : List (List ℕ)). take 1030 ws) (words_of_line (codes "caps") (map capacity_piece cs) more refl (capacities_plain cs h))
+    ∙ take_all 1030 (codes "caps" ∷ map piece_text (map capacity_piece cs)) (omega (arith, length-map (map capacity_piece cs) piece_text, length-map cs capacity_piece))
+
+pub guessed_capacities : (text line : List ℕ) (words : List (List ℕ)) (guess cs more : List ℕ)
+    → words ≡ take 1030 (words_on [] text) → guess ≡ map capacity_of (drop 1 words) → line ≡ capacities_text guess
+    → All (λ c. c < 2 ^ 32) cs → length cs < 1030 → text ≡ capacities_text cs ++ more
+    → (guess ≡ cs) × (text ≡ line ++ more)
+guessed_capacities text line words guess cs more split is_guess written h few is =
+    let all : words ≡ codes "caps" ∷ map piece_text (map capacity_piece cs) = split ∙ ap (λ (t : List ℕ). take 1030 (words_on [] t)) is ∙ capacities_words cs more h few in
+    let same : guess ≡ cs = is_guess ∙ ap (λ (ws : List (List ℕ)). map capacity_of (drop 1 ws)) all ∙ capacities_back cs h in
+    (same, is ∙ ap (λ (t : List ℕ). t ++ more) (sym (written ∙ ap capacities_text same)))

@@ -1,0 +1,261 @@
+-- What words are taken for before a reader compares. Nothing is refused.
+use Rattle.std.specs.Prelude.{ℕ, zero, suc, ◌||◌, ◌+◌, ◌-◌, ◌*◌, ◌%◌, ◌^◌, ◌==◌, Bool, true, false, if◌then◌else◌, List, [], ◌∷◌, ◌++◌, map, codes, drop, slice_index_or, Option, None, Some}
+use Rattle.std.specs.Str.{bytes_eq}
+use Rattle.gmp_base.specs.declared.ask.Fault.{Fault}
+use Rattle.gmp_base.specs.declared.ask.Fault.TheVariants as fault
+use Rattle.gmp_base.specs.declared.cases.Case.{Case}
+use Rattle.gmp_base.specs.declared.cases.Case.TheVariants as case
+use Rattle.gmp_base.specs.declared.number.CNo.{CNo}
+use Rattle.gmp_base.specs.declared.number.MNo.{MNo}
+use Rattle.gmp_base.specs.declared.number.PNo.{PNo}
+use Rattle.gmp_base.specs.declared.number.Readiness.{Readiness}
+use Rattle.gmp_seq.specs.declared.call.Call.{Call}
+use Rattle.gmp_seq.specs.declared.call.Call.TheVariants as call
+use Rattle.gmp_seq.specs.declared.call.Entry.{Entry}
+use Rattle.gmp_seq.specs.declared.call.Limits.{Limits}
+use Rattle.gmp_seq.specs.declared.call.Relay.{Relay}
+use Rattle.gmp_seq.specs.declared.call.Reply.{Reply}
+use Rattle.gmp_seq.specs.declared.call.Reply.TheVariants as reply
+use Rattle.gmp_seq.specs.declared.call.Taken.{Taken}
+use Rattle.gmp_seq.specs.declared.call.Taken.TheVariants as taken
+use Rattle.gmp_trace.specs.declared.trace.End.{End}
+use Rattle.gmp_trace.specs.declared.trace.End.TheVariants.{MainEnded, AllAsleep, BookFull, Running}
+
+-- Words
+
+-- the words of the first line, behind the front of a word
+abbrev pub words_on : List ℕ → List ℕ → List (List ℕ)
+words_on front [] = front ∷ []
+words_on front (b ∷ bs) = if b == 10 then front ∷ [] else (if b == 32 then front ∷ words_on [] bs else words_on (front ++ b ∷ []) bs)
+
+-- a text before the first such byte, and behind it
+abbrev pub parted_on : ℕ → List ℕ → List ℕ → List ℕ × List ℕ
+parted_on byte front [] = (front, [])
+parted_on byte front (b ∷ bs) = if b == byte then (front, bs) else parted_on byte (front ++ b ∷ []) bs
+
+unfoldable pub parted : ℕ → List ℕ → List ℕ × List ℕ
+parted byte text = parted_on byte [] text
+
+-- words before the first arrow, and behind it
+abbrev pub sides_on : List (List ℕ) → List (List ℕ) → List (List ℕ) × List (List ℕ)
+sides_on front [] = (front, [])
+sides_on front (w ∷ ws) = if bytes_eq w (codes "->") then (front, ws) else sides_on (front ++ w ∷ []) ws
+
+unfoldable pub sides : List (List ℕ) → List (List ℕ) × List (List ℕ)
+sides words = sides_on [] words
+
+-- the number of digits that stand behind a number
+abbrev pub number_on : ℕ → List ℕ → ℕ
+number_on n [] = n
+number_on n (d ∷ ds) = number_on ((n * 10 % 2 ^ 64 + (d - 48)) % 2 ^ 64) ds
+
+unfoldable pub number_of : List ℕ → ℕ
+number_of word = number_on 0 word
+
+unfoldable pub narrow : ℕ → ℕ → ℕ
+narrow bits n = n % 2 ^ bits
+
+abbrev pub word_at : ℕ → List (List ℕ) → List ℕ
+word_at i words = slice_index_or words i []
+
+abbrev pub number_at : ℕ → List (List ℕ) → ℕ
+number_at i words = number_of (word_at i words)
+
+unfoldable pub readiness_of : List ℕ → Readiness
+readiness_of word = record { g = record { 0 = narrow 16 (number_of (parted 46 word).0) }; epoch = number_of (parted 46 word).1 }
+
+unfoldable pub channel_of : List ℕ → Option CNo
+channel_of word = if bytes_eq word (codes "nil") then None else Some (record { 0 = narrow 16 (number_of word) })
+
+-- Calls
+
+-- a case before its first colon
+unfoldable pub is_case : List ℕ → Bool
+is_case word = bytes_eq (parted 58 word).0 (codes "send") || bytes_eq (parted 58 word).0 (codes "recv")
+
+unfoldable pub case_of : List ℕ → Case
+case_of word =
+    if bytes_eq (parted 58 word).0 (codes "send") then case.Send (channel_of (parted 58 (parted 58 word).1).0) (number_of (parted 58 (parted 58 word).1).1)
+    else case.Recv (channel_of (parted 58 word).1)
+
+-- at most n cases, and the words behind them
+abbrev pub cases_of : ℕ → List (List ℕ) → List Case × List (List ℕ)
+cases_of zero words = ([], words)
+cases_of (suc n) [] = ([], [])
+cases_of (suc n) (w ∷ ws) = if is_case w then (case_of w ∷ (cases_of n ws).0, (cases_of n ws).1) else ([], w ∷ ws)
+
+abbrev pub default_of : List (List ℕ) → Bool × List (List ℕ)
+default_of words = if bytes_eq (word_at 0 words) (codes "default") then (true, drop 1 words) else (false, words)
+
+abbrev pub until_of : List (List ℕ) → Option ℕ
+until_of words = if bytes_eq (word_at 0 words) (codes "until") then Some (number_at 1 words) else None
+
+unfoldable pub select_of : List (List ℕ) → Call
+select_of words =
+    let cases = cases_of 8 words in
+    let default = default_of cases.1 in
+    call.Select cases.0 default.0 (until_of default.1)
+
+-- a call that names nothing
+unfoldable pub bare_call_of : List ℕ → Call
+bare_call_of name =
+    if bytes_eq name (codes "acquire") then call.Acquire
+    else (if bytes_eq name (codes "take") then call.Take
+    else (if bytes_eq name (codes "yield") then call.Yield
+    else (if bytes_eq name (codes "exit") then call.Exit
+    else (if bytes_eq name (codes "gopark") then call.Gopark
+    else (if bytes_eq name (codes "enter") then call.Enter
+    else (if bytes_eq name (codes "spin") then call.Spin
+    else (if bytes_eq name (codes "woken") then call.Woken
+    else (if bytes_eq name (codes "unspin") then call.Unspin
+    else (if bytes_eq name (codes "poke") then call.Poke
+    else (if bytes_eq name (codes "declare") then call.Declare
+    else (if bytes_eq name (codes "bare") then call.Bare
+    else call.Park)))))))))))
+
+-- a call that names a channel, or one that names nothing
+unfoldable pub channel_call_of : List ℕ → List ℕ → List ℕ → Call
+channel_call_of name first second =
+    if bytes_eq name (codes "send") then call.Send (channel_of first) (number_of second)
+    else (if bytes_eq name (codes "recv") then call.Recv (channel_of first)
+    else (if bytes_eq name (codes "close") then call.Close (channel_of first)
+    else (if bytes_eq name (codes "len") then call.Len (channel_of first)
+    else (if bytes_eq name (codes "cap") then call.Cap (channel_of first)
+    else bare_call_of name))))
+
+unfoldable pub call_named : List ℕ → List ℕ → List (List ℕ) → Call
+call_named name first words =
+    if bytes_eq name (codes "put") then call.Put (readiness_of first)
+    else (if bytes_eq name (codes "claim") then call.Claim (readiness_of first)
+    else (if bytes_eq name (codes "go") then call.Go (record { 0 = narrow 16 (number_of first) })
+    else (if bytes_eq name (codes "ready") then call.Ready (record { 0 = narrow 16 (number_of first) })
+    else (if bytes_eq name (codes "make") then call.Make (narrow 32 (number_of first))
+    else (if bytes_eq name (codes "sleep") then call.Sleep (number_of first)
+    else (if bytes_eq name (codes "leave") then call.Leave (number_of first)
+    else (if bytes_eq name (codes "tick") then call.Tick (number_of first)
+    else (if bytes_eq name (codes "select") then select_of (drop 1 words)
+    else channel_call_of name first (word_at 2 words)))))))))
+
+abbrev pub call_of : List (List ℕ) → Call
+call_of words = call_named (word_at 0 words) (word_at 1 words) words
+
+-- Replies
+
+unfoldable pub fault_of : ℕ → Fault
+fault_of n =
+    if n == 1 then fault.NoSuchBody
+    else (if n == 2 then fault.AlreadyStarted
+    else (if n == 3 then fault.NoSuchChannel
+    else (if n == 4 then fault.SendOnClosed
+    else (if n == 5 then fault.CloseOfClosed
+    else (if n == 6 then fault.CloseOfNil
+    else (if n == 7 then fault.NotParked
+    else (if n == 8 then fault.BadCapacity
+    else fault.TooManyChannels)))))))
+
+-- of `sent`, who was served
+abbrev pub served_of : List (List ℕ) → Option Readiness
+served_of words = if bytes_eq (word_at 1 words) (codes "wakes") then Some (readiness_of (word_at 2 words)) else None
+
+-- of `got` with its value, who was served
+abbrev pub relay_of : List (List ℕ) → Option Relay
+relay_of words =
+    if bytes_eq (word_at 3 words) (codes "wakes") then Some (record { sender = readiness_of (word_at 4 words); value = number_at 6 words }) else None
+
+-- of `idle` with its processor, which machine was woken
+abbrev pub woken_of : List (List ℕ) → Option MNo
+woken_of words = if bytes_eq (word_at 2 words) (codes "wakes") then Some (record { 0 = narrow 8 (number_at 3 words) }) else None
+
+-- what stands behind the case of a select
+unfoldable pub taken_of : List (List ℕ) → Taken
+taken_of words =
+    if bytes_eq (word_at 0 words) (codes "sent") then taken.Sent (served_of words)
+    else (if bytes_eq (word_at 0 words) (codes "got") then taken.Got (number_at 1 words) (bytes_eq (word_at 2 words) (codes "true")) (relay_of words)
+    else taken.Failed)
+
+-- a reply that names nothing
+unfoldable pub bare_reply_of : List ℕ → Reply
+bare_reply_of name =
+    if bytes_eq name (codes "none") then reply.Nothing
+    else (if bytes_eq name (codes "held") then reply.Held
+    else (if bytes_eq name (codes "dead") then reply.Dead
+    else (if bytes_eq name (codes "main") then reply.MainEnded
+    else (if bytes_eq name (codes "waits") then reply.Waits
+    else (if bytes_eq name (codes "default") then reply.Default
+    else (if bytes_eq name (codes "true") then reply.Answer true
+    else (if bytes_eq name (codes "false") then reply.Answer false
+    else (if bytes_eq name (codes "done") then reply.Done
+    else (if bytes_eq name (codes "parked") then reply.Parked
+    else (if bytes_eq name (codes "work") then reply.Work
+    else reply.AllAsleep))))))))))
+
+-- a reply that names one number, or one that names nothing
+unfoldable pub number_reply_of : List ℕ → ℕ → Reply
+number_reply_of name n =
+    if bytes_eq name (codes "proc") then reply.Proc (record { 0 = narrow 8 n })
+    else (if bytes_eq name (codes "runs") then reply.Runs (record { 0 = narrow 8 n })
+    else (if bytes_eq name (codes "wakes") then reply.Wakes (record { 0 = narrow 8 n })
+    else (if bytes_eq name (codes "chan") then reply.Channel (record { 0 = narrow 16 n })
+    else (if bytes_eq name (codes "closed") then reply.Closed n
+    else (if bytes_eq name (codes "number") then reply.Number n
+    else (if bytes_eq name (codes "mind") then reply.Mind n
+    else (if bytes_eq name (codes "woke") then reply.Woke n
+    else (if bytes_eq name (codes "fault") then reply.Fault (fault_of n)
+    else bare_reply_of name))))))))
+
+-- of a declare, the processor that was given up; of any other call, what an enter is answered
+unfoldable pub idle_of : Call → PNo → Option MNo → Reply
+idle_of call.Declare p None = reply.Idle p
+idle_of _ p woken = reply.Entered p woken
+
+abbrev pub shelf_of : List ℕ → Reply
+shelf_of word = if bytes_eq word [] then reply.Shelf else reply.Shelved (readiness_of word)
+
+unfoldable pub reply_named : Call → List ℕ → List ℕ → List (List ℕ) → Reply
+reply_named asked name first words =
+    if bytes_eq name (codes "ticket") then reply.Ticket (readiness_of first)
+    else (if bytes_eq name (codes "shelf") then shelf_of first
+    else (if bytes_eq name (codes "sent") then reply.Sent (served_of words)
+    else (if bytes_eq name (codes "got") then reply.Got (number_of first) (bytes_eq (word_at 2 words) (codes "true")) (relay_of words)
+    else (if bytes_eq name (codes "chose") then reply.Chose (narrow 8 (number_of first)) (taken_of (drop 2 words))
+    else (if bytes_eq name (codes "idle") then idle_of asked (record { 0 = narrow 8 (number_of first) }) (woken_of words)
+    else number_reply_of name (number_of first))))))
+
+abbrev pub reply_of : Call → List (List ℕ) → Reply
+reply_of asked words = reply_named asked (word_at 0 words) (word_at 1 words) words
+
+-- Lines
+
+unfoldable pub entry_of : List (List ℕ) → Entry
+entry_of words =
+    let asked = call_of (sides (drop 2 words)).0 in
+    record {
+      m = record { 0 = narrow 8 (number_of (parted 46 (word_at 1 words)).0) };
+      k = number_of (parted 46 (word_at 1 words)).1;
+      call = asked;
+      reply = reply_of asked (sides (drop 2 words)).1;
+    }
+
+unfoldable pub end_in : List (List ℕ) → End
+end_in words =
+    if bytes_eq (word_at 1 words) (codes "main") then MainEnded
+    else (if bytes_eq (word_at 1 words) (codes "all") then AllAsleep
+    else (if bytes_eq (word_at 1 words) (codes "book") then BookFull
+    else Running))
+
+unfoldable pub limits_of : List (List ℕ) → Limits
+limits_of words = record {
+  procs = narrow 8 (number_at 2 words);
+  machines = narrow 8 (number_at 4 words);
+  channels = narrow 16 (number_at 8 words);
+  entries = narrow 32 (number_at 10 words);
+}
+
+unfoldable pub bodies_of : List (List ℕ) → ℕ
+bodies_of words = narrow 16 (number_at 6 words)
+
+abbrev pub capacity_of : List ℕ → ℕ
+capacity_of word = narrow 32 (number_of word)
+
+abbrev pub capacities_of : List (List ℕ) → List ℕ
+capacities_of words = map capacity_of (drop 1 words)

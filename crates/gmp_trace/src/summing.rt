@@ -1,0 +1,219 @@
+//! The summary of a trace.
+
+ghost use Rattle.std.specs.Prelude.{◌≡◌, ◌<◌, ◌++◌, [], List, replicate, slice_index_or, OnOk, IfOk, IfErr};
+ghost use Rattle.std.specs.Io.KnownBytes.{Appends};
+ghost use Rattle.gmp_seq.specs.declared.call.Entry.{Entry};
+ghost use Rattle.gmp_trace.specs.declared.writing.WriteError.TheVariants.{OutOfMemory};
+ghost use Rattle.gmp_trace.specs.Summary.{CountsCalls, CountsMachines, call_line, call_lines, entries_line, machine_line, machine_lines, name_of, names, outcome_line, summary_text};
+ghost use Rattle.gmp_trace.specs.Text.{content};
+
+use crate::put::{put, put_digits, put_number};
+use crate::trace::{End, Trace};
+use crate::writing::WriteError;
+use gmp_seq::{Call, Entry};
+use itoa::Buffer;
+use std::alloc::{AllocError, Global};
+use std::io::Write;
+
+/// How many calls there are.
+const CALLS: usize = 27;
+
+/// The place of a call in the table.
+#[tactic(auto, unfolding(crate::specs::Summary::names))]
+fn place(call: &Call) -> usize
+    ensures bound { result < 27 }
+    ensures name { slice_index_or names result [] ≡ name_of call.now }
+{
+    match call {
+        Call::Acquire => 0,
+        Call::Take => 1,
+        Call::Put(_) => 2,
+        Call::Claim(_) => 3,
+        Call::Go(_) => 4,
+        Call::Yield => 5,
+        Call::Exit => 6,
+        Call::Make(_) => 7,
+        Call::Send(..) => 8,
+        Call::Recv(_) => 9,
+        Call::Close(_) => 10,
+        Call::Len(_) => 11,
+        Call::Cap(_) => 12,
+        Call::Select(..) => 13,
+        Call::Sleep(_) => 14,
+        Call::Gopark => 15,
+        Call::Ready(_) => 16,
+        Call::Enter => 17,
+        Call::Leave(_) => 18,
+        Call::Spin => 19,
+        Call::Woken => 20,
+        Call::Unspin => 21,
+        Call::Poke => 22,
+        Call::Declare => 23,
+        Call::Bare => 24,
+        Call::Park => 25,
+        Call::Tick(_) => 26,
+    }
+}
+
+/// The name of the call at a place in the table.
+#[tactic(auto, unfolding(crate::specs::Summary::names))]
+fn name(place: usize) -> &'static [u8]
+    requires { place < 27 }
+    ensures { result.now ≡ slice_index_or names place [] }
+{
+    match place {
+        0 => b"acquire",
+        1 => b"take",
+        2 => b"put",
+        3 => b"claim",
+        4 => b"go",
+        5 => b"yield",
+        6 => b"exit",
+        7 => b"make",
+        8 => b"send",
+        9 => b"recv",
+        10 => b"close",
+        11 => b"len",
+        12 => b"cap",
+        13 => b"select",
+        14 => b"sleep",
+        15 => b"gopark",
+        16 => b"ready",
+        17 => b"enter",
+        18 => b"leave",
+        19 => b"spin",
+        20 => b"woken",
+        21 => b"unspin",
+        22 => b"poke",
+        23 => b"declare",
+        24 => b"bare",
+        25 => b"park",
+        _ => b"tick",
+    }
+}
+
+/// How many entries each machine has, and how many make each call.
+#[derive(Drop)]
+struct Counts {
+    machines: [u64; 256],
+    calls: [u64; CALLS],
+}
+
+fn count(entries: &[Entry]) -> Counts
+    ensures machines { CountsMachines result.machines entries.now }
+    ensures calls { CountsCalls result.calls entries.now }
+{
+    let mut machines = [0u64; 256];
+    let mut calls = [0u64; CALLS];
+    for entry in entries {
+        machines[usize::from(entry.m.0)] += 1;
+        calls[place(&entry.call)] += 1;
+    }
+    Counts { machines, calls }
+}
+
+#[tactic(auto, unfolding(crate::specs::Summary::outcome_line))]
+fn put_outcome(out: &mut Vec<u8>, end: End) -> Result<(), AllocError>
+    ensures { OnOk result (out.new.items ≡ out.old.items ++ outcome_line end) }
+{
+    match end {
+        End::MainEnded => put(out, b"outcome: main ended\n"),
+        End::AllAsleep => put(out, b"outcome: all asleep\n"),
+        End::BookFull => put(out, b"outcome: book full\n"),
+        End::Running => put(out, b"outcome: running\n"),
+    }
+}
+
+#[tactic(auto, unfolding(crate::specs::Summary::entries_line))]
+fn put_entries(out: &mut Vec<u8>, n: u64) -> Result<(), AllocError>
+    ensures { OnOk result (out.new.items ≡ out.old.items ++ entries_line n) }
+{
+    put(out, b"entries:")?;
+    put_number(out, n)?;
+    out.push(b'\n')?;
+    Ok(())
+}
+
+#[tactic(auto, unfolding(crate::specs::Summary::machine_line))]
+fn put_machine(out: &mut Vec<u8>, m: u8, n: u64) -> Result<(), AllocError>
+    ensures { OnOk result (out.new.items ≡ out.old.items ++ machine_line m n) }
+{
+    put(out, b"machine ")?;
+    put_digits(out, u64::from(m))?;
+    out.push(b':')?;
+    put_number(out, n)?;
+    out.push(b'\n')?;
+    Ok(())
+}
+
+fn put_machines(out: &mut Vec<u8>, machines: u8, counts: &[u64; 256]) -> Result<(), AllocError>
+    ensures { (es : List Entry) → CountsMachines counts.now es → OnOk result (out.new.items ≡ out.old.items ++ machine_lines 0 machines es) }
+{
+    for m in 0..machines {
+        put_machine(out, m, counts[usize::from(m)])?;
+    }
+    Ok(())
+}
+
+fn put_spaces(out: &mut Vec<u8>, n: usize) -> Result<(), AllocError>
+    ensures { OnOk result (out.new.items ≡ out.old.items ++ replicate n 32) }
+{
+    for _ in 0..n {
+        out.push(b' ')?;
+    }
+    Ok(())
+}
+
+#[tactic(auto, unfolding(crate::specs::Summary::call_line))]
+fn put_call_line(out: &mut Vec<u8>, name: &[u8], n: u64) -> Result<(), AllocError>
+    ensures { OnOk result (out.new.items ≡ out.old.items ++ call_line name.now n) }
+{
+    if n == 0 {
+        return Ok(());
+    }
+    put(out, name)?;
+    put_spaces(out, 8usize.saturating_sub(name.len()))?;
+    let mut buffer = Buffer::new();
+    let digits = buffer.format(n).as_bytes();
+    put_spaces(out, 8usize.saturating_sub(digits.len()))?;
+    put(out, digits)?;
+    out.push(b'\n')?;
+    Ok(())
+}
+
+fn put_call_lines(out: &mut Vec<u8>, counts: &[u64; CALLS]) -> Result<(), AllocError>
+    ensures { (es : List Entry) → CountsCalls counts.now es → OnOk result (out.new.items ≡ out.old.items ++ call_lines names es) }
+{
+    for (place, n) in counts.iter().enumerate() {
+        put_call_line(out, name(place), *n)?;
+    }
+    Ok(())
+}
+
+/// The lines of the summary.
+fn lines(alloc: Global, trace: &Trace) -> Result<Vec<u8>, AllocError>
+    ensures { IfOk result (λ v. v.items ≡ summary_text (content trace.now)) }
+{
+    let counts = count(&trace.entries);
+    let mut out = Vec::new(alloc);
+    put_outcome(&mut out, trace.end)?;
+    put_entries(&mut out, trace.entries.len() as u64)?;
+    put_machines(&mut out, trace.limits.machines, &counts.machines)?;
+    put_call_lines(&mut out, &counts.calls)?;
+    Ok(out)
+}
+
+/// Writes the summary of a trace: its end, how many entries it has, how many each machine has, and how many make each call.
+///
+/// It goes over the entries once, and takes memory for the summary alone. `Device` comes only where the writer failed, and `OutOfMemory` only
+/// where memory was refused: nothing went out then.
+pub fn summary<W: Write>(alloc: Global, trace: &Trace, writer: &mut W) -> Result<(), WriteError>
+    ensures written { OnOk result (Appends (W.contents writer.old) (W.contents writer.new) (summary_text (content trace.now))) }
+    ensures unsent { IfErr result (λ e. e ≡ OutOfMemory → W.contents writer.new ≡ W.contents writer.old) }
+{
+    let out = lines(alloc, trace)?;
+    if writer.write_all(out.as_slice()).is_err() {
+        return Err(WriteError::Device);
+    }
+    Ok(())
+}
