@@ -8,6 +8,7 @@
 //! with no leading zero. A moment, as of `tick` or `sleep`, is in nanoseconds.
 #![tactic(auto)]
 
+mod bad;
 mod call;
 mod guess;
 mod guess_reply;
@@ -20,6 +21,7 @@ mod trace;
 mod words;
 mod writing;
 
+pub use bad::{Bad, Why};
 pub use line::{put_end, put_entry};
 pub use reading::{read_call, read_capacities, read_entry, read_limits};
 pub use trace::{End, Trace, TraceView};
