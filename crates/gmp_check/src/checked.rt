@@ -5,9 +5,6 @@ ghost use Rattle.gmp_trace.specs.declared.bad.Why.TheVariants as why;
 ghost use Rattle.gmp_trace.specs.Text.{content, content_of};
 ghost use Rattle.gmp_check.specs.Checked.{IsFirstBad, IsRight, line_of};
 
-#[cfg(test)]
-mod tests;
-
 use crate::error::ReplayError;
 use crate::replay::outcome_of;
 use gmp_seq::Outcome;
@@ -75,3 +72,6 @@ pub fn check_view(alloc: Global, trace: TraceView) -> Result<Option<Outcome>, Ba
         }),
     }
 }
+
+#[cfg(test)]
+mod tests;

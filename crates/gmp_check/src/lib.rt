@@ -9,6 +9,7 @@ mod answers;
 mod channels;
 mod checked;
 mod error;
+pub mod laws;
 mod machines;
 mod replay;
 mod state;
