@@ -1,9 +1,12 @@
 pub mod Firsts
 pub mod Listed
 pub mod Young
-pub mod Reaching
+pub mod Ordered
+pub mod Consistency
+pub mod Keeping
 pub mod Going
 pub mod Deciding
 pub mod Parts
 pub mod Replaying
 pub mod Making
+pub mod Checking

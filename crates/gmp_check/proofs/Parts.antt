@@ -12,10 +12,9 @@ use Rattle.gmp_seq.specs.State.{State}
 use Rattle.gmp_seq.specs.Step.{ByRunning, Effect, OnChannels, OnTable, Selects, Tells}
 use Rattle.gmp_seq.specs.Table.{Table, IsCalling, IsRunning}
 use Rattle.gmp_check.proofs.Deciding.{decides_as}
-use Rattle.gmp_check.proofs.Reaching.{reached_one_each}
 use Rattle.gmp_check.specs.Calls.{LeavesBy}
 use Rattle.gmp_check.specs.Decides.{Decides}
-use Rattle.gmp_check.specs.Reached.{IsReached}
+use Rattle.gmp_check.specs.Consistent.{IsConsistent}
 
 -- Here t is the state as the code has it, and s as contracts do
 
@@ -36,27 +35,27 @@ on_number number c reply s t same b is =
       here false h = (refl, λ other o. h.1 other.channels o.0)
 
 -- what g asks is asked by the one that m runs
-pub by_running : (P : GNo → State → State → Type 0) (m : MNo) (g : GNo) (s new : State) (b : Bool) → IsReached s → IsRunning s.table g m → Decides (P g) s new b
+pub by_running : (P : GNo → State → State → Type 0) (m : MNo) (g : GNo) (s new : State) (b : Bool) → IsConsistent s → IsRunning s.table g m → Decides (P g) s new b
     → Decides (λ old other. ByRunning m old (λ h. P h old other)) s new b
-by_running P m g s new b reached runs =
+by_running P m g s new b consistent runs =
     decides_as (P g) (λ old other. ByRunning m old (λ h. P h old other)) s new b
     (λ other p. (g, runs, p))
-    (λ other (h, runs_too, p). subst (λ k. P k s other) ((reached_one_each s reached).one_goroutine m h g (inl runs_too) (inl runs)) p)
+    (λ other (h, runs_too, p). subst (λ k. P k s other) (consistent.1.one_goroutine m h g (inl runs_too) (inl runs)) p)
 
 -- and the call that g makes is made by the one for which m calls
-pub by_calling : (limits : Limits) (m : MNo) (g : GNo) (number : ℕ) (reply : Reply) (s new : State) (b : Bool) → IsReached s → IsCalling s.table g m
+pub by_calling : (limits : Limits) (m : MNo) (g : GNo) (number : ℕ) (reply : Reply) (s new : State) (b : Bool) → IsConsistent s → IsCalling s.table g m
     → Decides (LeavesBy m g number reply) s new b → Decides (Effect limits m (call.Leave number) reply) s new b
-by_calling limits m g number reply s new b reached calls =
+by_calling limits m g number reply s new b consistent calls =
     decides_as (LeavesBy m g number reply) (Effect limits m (call.Leave number) reply) s new b
     (λ other (table, machines, channels). (g, calls, table, machines, channels))
     (λ other (h, calls_too, table, machines, channels).
-    subst (λ k. LeavesBy m k number reply s other) ((reached_one_each s reached).one_goroutine m h g (inr calls_too) (inr calls)) (table, machines, channels))
+    subst (λ k. LeavesBy m k number reply s other) (consistent.1.one_goroutine m h g (inr calls_too) (inr calls)) (table, machines, channels))
 
 -- a select has at most 8 cases
 pub by_selecting : (limits : Limits) (m : MNo) (g : GNo) (cases : List Case) (has_default : Bool) (until : Option ℕ) (reply : Reply) (s new : State) (b : Bool)
-    → IsReached s → IsRunning s.table g m → length cases ≤ 8 → Decides (Selects g cases has_default until reply) s new b
+    → IsConsistent s → IsRunning s.table g m → length cases ≤ 8 → Decides (Selects g cases has_default until reply) s new b
     → Decides (Effect limits m (call.Select cases has_default until) reply) s new b
-by_selecting limits m g cases has_default until reply s new b reached runs few is =
+by_selecting limits m g cases has_default until reply s new b consistent runs few is =
     decides_as (λ old other. ByRunning m old (λ h. Selects h cases has_default until reply old other)) (Effect limits m (call.Select cases has_default until) reply) s new b
     (λ other asks. (few, asks)) (λ other (few_too, asks). asks)
-    (by_running (λ h. Selects h cases has_default until reply) m g s new b reached runs is)
+    (by_running (λ h. Selects h cases has_default until reply) m g s new b consistent runs is)

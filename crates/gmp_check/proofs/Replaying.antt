@@ -1,41 +1,30 @@
 -- A replay, entry by entry.
-use Rattle.std.proofs.Common.{◌≡◌, ℕ, zero, suc, Result, Ok, Err, ◌+◌, ◌<◌, ◌^◌, Bool, true, false, Some, List, [], ◌∷◌, ◌++◌, sum, take, refl, sym, ap, subst, arith, add-one}
+use Rattle.std.proofs.Common.{◌≡◌, ℕ, zero, suc, Result, Ok, Err, ◌+◌, Bool, true, false, Some, List, [], ◌∷◌, ◌++◌, take, refl, sym, ap, subst, add-one}
 use Rattle.std.specs.List.{slice_get}
 use Rattle.std.specs.Result.{IfErr, IsErrAnd}
-use Rattle.gmp_seq.proofs.Determined.{legal_determined}
-use Rattle.gmp_seq.proofs.InOrder.{legal_in_order}
 use Rattle.gmp_seq.proofs.Runs.{run_join}
 use Rattle.gmp_seq.specs.declared.call.Entry.{Entry}
 use Rattle.gmp_seq.specs.declared.call.Limits.{Limits}
 use Rattle.gmp_seq.specs.Fits.{AreLimits}
 use Rattle.gmp_seq.specs.Run.{IsLegal, IsStep}
 use Rattle.gmp_seq.specs.State.{State, opening}
+use Rattle.gmp_check.proofs.Keeping.{step_keeps}
 use Rattle.gmp_check.specs.declared.error.OpenError.{OpenError}
 use Rattle.gmp_check.specs.declared.error.OpenError.TheVariants as open_error
 use Rattle.gmp_check.specs.declared.error.ReplayError.{ReplayError}
 use Rattle.gmp_check.specs.declared.error.ReplayError.TheVariants as replay_error
 use Rattle.gmp_check.specs.Decides.{Decides}
-use Rattle.gmp_check.specs.Reached.{IsReachedUnder}
+use Rattle.gmp_check.specs.Consistent.{IsConsistentUnder}
 use Rattle.gmp_check.specs.Replayed.{IsOpenError, IsReplayError, as_replay_error}
-
--- entries can be counted
-pub reached_few : (limits : Limits) (s : State) (counts : List ℕ) → IsReachedUnder limits s → counts ≡ s.counts → sum counts < 2 ^ 63
-reached_few limits s counts (bodies, capacities, h, within, legal) are =
-    let order = legal_in_order limits bodies capacities h s within legal in
-    subst (λ l. sum l < 2 ^ 63) (sym are) (omega (arith, order.entries, within.entries.1))
 
 -- a legal run and a step
 pub legal_next : (limits : Limits) (bodies : ℕ) (capacities : List ℕ) (h : List Entry) (e : Entry) (old new : State) → IsLegal limits bodies capacities h old
     → IsStep limits e old new → IsLegal limits bodies capacities (h ++ e ∷ []) new
 legal_next limits bodies capacities h e old new legal step = run_join limits (opening limits bodies capacities) old new h (e ∷ []) legal (new, step, refl)
 
-pub reached_next : (limits : Limits) (e : Entry) (old new : State) (b : Bool) → IsReachedUnder limits old → Decides (IsStep limits e) old new b → IsReachedUnder limits new
-reached_next limits e old new true (bodies, capacities, h, within, legal) step = (bodies, capacities, h ++ e ∷ [], within, legal_next limits bodies capacities h e old new legal step)
-reached_next limits e old new false reached is = subst (IsReachedUnder limits) (sym is.0) reached
-
--- the entry fixes the state that follows
-pub next_fixed : (limits : Limits) (e : Entry) (old a b : State) → IsReachedUnder limits old → IsStep limits e old a → IsStep limits e old b → a ≡ b
-next_fixed limits e old a b (bodies, capacities, h, within, legal) one two = legal_determined limits bodies capacities h old legal e.m e.call e.reply a b one.1 two.1
+pub consistent_next : (limits : Limits) (e : Entry) (old new : State) (b : Bool) → IsConsistentUnder limits old → Decides (IsStep limits e) old new b → IsConsistentUnder limits new
+consistent_next limits e old new true is step = step_keeps limits e old new is step
+consistent_next limits e old new false is same = subst (IsConsistentUnder limits) (sym same.0) is
 
 -- Errors
 

@@ -1,7 +1,8 @@
 pub mod Decides
 pub mod Causes
 pub mod First
-pub mod Reached
+pub mod Consistent
 pub mod Ways
 pub mod Calls
 pub mod Replayed
+pub mod Checked

@@ -2,12 +2,14 @@
 //!
 //! [`Replay::step`] answers yes exactly where the definitions of `gmp_seq` have a step with the entry's machine, number, call and
 //! reply, whichever choice the reply names, and takes it. [`outcome_of`] answers the outcome of a whole history, or its first entry that
-//! is no step. Memory is wanted by an opening and by a make alone.
+//! is no step, and [`check`] the first line of a trace that is wrong. Memory is wanted by an opening and by a make alone.
 #![tactic(auto)]
 
 mod answers;
 mod channels;
+mod checked;
 mod error;
+pub mod laws;
 mod machines;
 mod replay;
 mod state;
@@ -15,5 +17,6 @@ mod table;
 #[cfg(test)]
 mod tests;
 
+pub use checked::{check, check_view};
 pub use error::{OpenError, OutOfMemory, ReplayError};
 pub use replay::{Replay, outcome_of};

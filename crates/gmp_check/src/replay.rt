@@ -5,7 +5,7 @@ ghost use Rattle.gmp_seq.specs.Run.{IsStep};
 ghost use Rattle.gmp_seq.specs.State.{State, opening};
 ghost use Rattle.gmp_check.specs.Calls.{IsMake};
 ghost use Rattle.gmp_check.specs.Decides.{Decides, Leads};
-ghost use Rattle.gmp_check.specs.Reached.{IsReachedUnder};
+ghost use Rattle.gmp_check.specs.Consistent.{IsConsistentUnder};
 ghost use Rattle.gmp_check.specs.Replayed.{EndsWith, IsOpenError, IsReplayError};
 
 use crate::error::{OpenError, OutOfMemory, ReplayError};
@@ -24,14 +24,14 @@ pub struct Replay {
 }
 
 impl Model for Replay {
-    ghost use Rattle.gmp_check.specs.Reached.{IsReachedUnder};
+    ghost use Rattle.gmp_check.specs.Consistent.{IsConsistentUnder};
     ghost use Rattle.gmp_check.specs.Replayed.{Replayed};
 
     ghost Value = { Replayed };
 
     ghost view = { λ r. record { limits = r.limits; state = r.state } };
 
-    ghost invariant = { λ r. IsReachedUnder r.limits r.state };
+    ghost invariant = { λ r. IsConsistentUnder r.limits r.state };
 }
 
 impl Replay {
@@ -71,7 +71,7 @@ impl Replay {
     /// How the run ended, if it did.
     pub fn outcome(&self) -> Option<Outcome>
         ensures value { result ≡ self.now.state.outcome }
-        ensures reached { IsReachedUnder self.now.limits self.now.state }
+        ensures consistent { IsConsistentUnder self.now.limits self.now.state }
     {
         self.state.outcome()
     }

@@ -6,7 +6,7 @@ ghost use Rattle.gmp_seq.specs.Waits.{can, first_on, waiters};
 ghost use Rattle.gmp_seq.specs.Step.{counted_one, outcome_after, some_can};
 ghost use Rattle.gmp_check.specs.Calls.{IsMake};
 ghost use Rattle.gmp_check.specs.Decides.{Decides, Leads};
-ghost use Rattle.gmp_check.specs.Reached.{IsReached, IsReachedUnder};
+ghost use Rattle.gmp_check.specs.Consistent.{IsConsistent, IsConsistentUnder};
 
 mod channel_calls;
 mod effect;
@@ -97,7 +97,7 @@ impl State {
 
     /// Where the entry is a step, the state is the next one.
     pub(crate) fn step(&mut self, limits: Limits, entry: &Entry) -> Result<bool, AllocError>
-        requires { IsReachedUnder limits self.old }
+        requires { IsConsistentUnder limits self.old }
         ensures decides { IfOk result (Decides (IsStep limits entry.now) self.old self.new) }
         ensures refused { OnErr result (self.new ≡ self.old) }
         ensures needed { OnErr result (IsMake entry.now.call × Leads (IsStep limits entry.now) self.old) }
@@ -114,7 +114,7 @@ impl State {
 
     /// The first that waits on the channel.
     fn first_on(&self, c: CNo, direction: Direction) -> Option<Waiter>
-        requires { IsReached self.now }
+        requires { IsConsistent self.now }
         ensures { result ≡ first_on (waiters self.now.table) c direction }
     {
         self.table.first_on(c, direction)
@@ -122,7 +122,7 @@ impl State {
 
     /// Whether a communication can proceed.
     fn can(&self, case: Case) -> bool
-        requires { IsReached self.now }
+        requires { IsConsistent self.now }
         ensures { result ≡ can self.now.channels (waiters self.now.table) case }
     {
         match case {
@@ -142,7 +142,7 @@ impl State {
 
     /// Whether one of these communications can proceed.
     fn some_can(&self, cases: &[Case]) -> bool
-        requires { IsReached self.now }
+        requires { IsConsistent self.now }
         ensures { result ≡ some_can self.now cases.now }
     {
         cases.iter().any(|case| self.can(*case))

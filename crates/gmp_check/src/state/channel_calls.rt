@@ -2,7 +2,7 @@
 ghost use Rattle.std.specs.Prelude.{◌≡◌, ◌≤◌, length, slice_get};
 ghost use Rattle.gmp_seq.specs.Step.{Blocks, Closes, Deals, Selects, none_missing};
 ghost use Rattle.gmp_check.specs.Decides.{Decides};
-ghost use Rattle.gmp_check.specs.Reached.{IsReached, SameRest};
+ghost use Rattle.gmp_check.specs.Consistent.{IsConsistent, SameRest};
 
 use super::State;
 use crate::answers::Cause;
@@ -27,7 +27,7 @@ impl State {
 
     /// None of the cases can proceed, and g waits for any of them.
     fn block(&mut self, g: GNo, kind: Kind, cases: &[Case], until: Option<u64>) -> bool
-        requires reached { IsReached self.old }
+        requires consistent { IsConsistent self.old }
         requires few { length cases.now ≤ 8 }
         ensures decides { Decides (Blocks g kind cases.now until) self.old self.new result }
         ensures rest { SameRest self.old self.new }
@@ -40,7 +40,7 @@ impl State {
     }
 
     pub(super) fn deal(&mut self, g: GNo, case: Case, reply: Reply) -> bool
-        requires { IsReached self.old }
+        requires { IsConsistent self.old }
         ensures decides { Decides (Deals g case reply) self.old self.new result }
         ensures rest { SameRest self.old self.new }
     {
@@ -66,7 +66,7 @@ impl State {
         until: Option<u64>,
         reply: Reply,
     ) -> bool
-        requires reached { IsReached self.old }
+        requires consistent { IsConsistent self.old }
         requires few { length cases.now ≤ 8 }
         ensures decides { Decides (Selects g cases.now has_default until reply) self.old self.new result }
         ensures rest { SameRest self.old self.new }
@@ -85,7 +85,7 @@ impl State {
     }
 
     pub(super) fn close(&mut self, c: Option<CNo>, reply: Reply) -> bool
-        requires { IsReached self.old }
+        requires { IsConsistent self.old }
         ensures decides { Decides (Closes c reply) self.old self.new result }
         ensures rest { SameRest self.old self.new }
     {

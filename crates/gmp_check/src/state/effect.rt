@@ -5,7 +5,7 @@ ghost use Rattle.gmp_seq.specs.Step.{Effect, IsFree, Parks, has_work};
 ghost use Rattle.gmp_seq.specs.Table.{IsRunning};
 ghost use Rattle.gmp_check.specs.Calls.{EntersBy, IsMake, LeavesBy, is_ask};
 ghost use Rattle.gmp_check.specs.Decides.{Decides, Leads};
-ghost use Rattle.gmp_check.specs.Reached.{IsReached, SameRest};
+ghost use Rattle.gmp_check.specs.Consistent.{IsConsistent, SameRest};
 
 use super::State;
 use gmp_base::{Case, GNo, MNo, Woke};
@@ -58,7 +58,7 @@ impl State {
 
     /// g comes back from the blocking call that m makes.
     fn leave(&mut self, m: MNo, g: GNo, number: u64, reply: Reply) -> bool
-        requires { IsReached self.old }
+        requires { IsConsistent self.old }
         ensures decides { Decides (LeavesBy m g number reply) self.old self.new result }
         ensures rest { SameRest self.old self.new }
     {
@@ -87,7 +87,7 @@ impl State {
         call: &Call,
         reply: Reply,
     ) -> Result<bool, AllocError>
-        requires reached { IsReached self.old }
+        requires consistent { IsConsistent self.old }
         requires runs { IsRunning self.old.table g m }
         requires ask { is_ask call.now ≡ true }
         ensures decides { IfOk result (Decides (Effect limits m call.now reply) self.old self.new) }
@@ -128,7 +128,7 @@ impl State {
         call: &Call,
         reply: Reply,
     ) -> Result<bool, AllocError>
-        requires { IsReached self.old }
+        requires { IsConsistent self.old }
         ensures decides { IfOk result (Decides (Effect limits m call.now reply) self.old self.new) }
         ensures refused { OnErr result (self.new ≡ self.old) }
         ensures needed { OnErr result (IsMake call.now × Leads (Effect limits m call.now reply) self.old) }

@@ -3,7 +3,7 @@ ghost use Rattle.std.specs.Prelude.{◌≡◌, ℕ, Some};
 ghost use Rattle.gmp_base.specs.declared.cases.Case.TheVariants as case;
 ghost use Rattle.gmp_seq.specs.Step.{Communicates, told_of};
 ghost use Rattle.gmp_check.specs.Decides.{Decides};
-ghost use Rattle.gmp_check.specs.Reached.{IsReached, SameRest};
+ghost use Rattle.gmp_check.specs.Consistent.{IsConsistent, SameRest};
 ghost use Rattle.gmp_check.specs.Ways.{IsWay, after};
 
 use super::State;
@@ -12,7 +12,7 @@ use gmp_seq::{Direction, Place, Relay, Taken, Transfer};
 
 impl State {
     fn way_of_send(&self, c: CNo) -> Option<Transfer>
-        requires { IsReached self.now }
+        requires { IsConsistent self.now }
         ensures { (v : ℕ) → IsWay self.now (case.Send (Some c) v) result }
     {
         if self.channels.is_closed(c) {
@@ -26,7 +26,7 @@ impl State {
     }
 
     fn way_of_receive(&self, c: CNo) -> Option<Transfer>
-        requires { IsReached self.now }
+        requires { IsConsistent self.now }
         ensures { IsWay self.now (case.Recv (Some c)) result }
     {
         match (self.channels.first(c), self.first_on(c, Direction::Sending)) {
@@ -40,7 +40,7 @@ impl State {
 
     /// In which way a communication proceeds.
     fn way(&self, case: Case) -> Option<Transfer>
-        requires { IsReached self.now }
+        requires { IsConsistent self.now }
         ensures { IsWay self.now case result }
     {
         match case {
@@ -51,7 +51,7 @@ impl State {
 
     /// What is told of a communication that proceeds in this way.
     fn told(&self, how: Transfer) -> Taken
-        requires { IsReached self.now }
+        requires { IsConsistent self.now }
         ensures { result ≡ told_of self.now.table how }
     {
         match how {
@@ -69,7 +69,7 @@ impl State {
     }
 
     fn proceed_send(&mut self, c: CNo, v: u64, how: Transfer)
-        requires reached { IsReached self.old }
+        requires consistent { IsConsistent self.old }
         requires way { IsWay self.old (case.Send (Some c) v) (Some how) }
         ensures { self.new ≡ after self.old (case.Send (Some c) v) how }
     {
@@ -85,7 +85,7 @@ impl State {
     }
 
     fn proceed_receive(&mut self, c: CNo, how: Transfer)
-        requires { IsReached self.old }
+        requires { IsConsistent self.old }
         ensures { self.new ≡ after self.old (case.Recv (Some c)) how }
     {
         match how {
@@ -100,7 +100,7 @@ impl State {
 
     /// Lets a communication proceed in this way.
     fn proceed(&mut self, case: Case, how: Transfer)
-        requires reached { IsReached self.old }
+        requires consistent { IsConsistent self.old }
         requires way { IsWay self.old case (Some how) }
         ensures { self.new ≡ after self.old case how }
     {
@@ -114,7 +114,7 @@ impl State {
 
     /// A communication proceeds, and this is told of it.
     pub(crate) fn communicate(&mut self, case: Case, told: Taken) -> bool
-        requires reached { IsReached self.old }
+        requires consistent { IsConsistent self.old }
         ensures decides { Decides (Communicates case told) self.old self.new result }
         ensures rest { SameRest self.old self.new }
     {

@@ -1,5 +1,5 @@
-use Rattle.gmp_check.proofs.Reaching.{reached_arrivals}
+use Rattle.gmp_check.proofs.Consistency.{consistent_arrivals}
 use Rattle.gmp_check.proofs.state.State.block.Goals as goal
 
 pub make_wait-requires : goal.make_wait-requires
-make_wait-requires c = reached_arrivals c.args.self.now _ c.self.view_is c.requires.reached
+make_wait-requires c = consistent_arrivals c.args.self.now _ c.self.view_is c.requires.consistent

@@ -1,6 +1,6 @@
 use Rattle.std.proofs.Common.{sym, subst}
 use Rattle.gmp_check.proofs.Parts.{by_calling}
-use Rattle.gmp_check.proofs.Reaching.{reached_young}
+use Rattle.gmp_check.proofs.Consistency.{consistent_young}
 use Rattle.gmp_check.specs.Decides.{Decides}
 use Rattle.gmp_seq.specs.State.{State}
 use Rattle.gmp_seq.specs.Step.{Effect}
@@ -8,7 +8,7 @@ use Rattle.gmp_seq.specs.Table.{IsCalling}
 use Rattle.gmp_check.proofs.state.State.effect.Goals as goal
 
 pub tick-requires : goal.tick-requires
-tick-requires c = record { young = reached_young c.args.self.now _ c.self-in-Tick.view_is c.requires }
+tick-requires c = record { young = consistent_young c.args.self.now _ c.self-in-Tick.view_is c.requires }
 
 pub returns-in-Some-clause-decides : goal.returns-in-Some-clause-decides
 returns-in-Some-clause-decides c =

@@ -1,8 +1,8 @@
-use Rattle.gmp_check.proofs.Reaching.{reached_young}
+use Rattle.gmp_check.proofs.Consistency.{consistent_young}
 use Rattle.gmp_check.proofs.state.State.leave.Goals as goal
 
 pub next-requires : goal.next-requires
-next-requires c = reached_young c.args.self.now _ c.self.view_is c.requires c.args.g
+next-requires c = consistent_young c.args.self.now _ c.self.view_is c.requires c.args.g
 
 pub make_ready-requires : goal.make_ready-requires
-make_ready-requires c = reached_young c.args.self.now _ c.self.view_is c.requires c.args.g
+make_ready-requires c = consistent_young c.args.self.now _ c.self.view_is c.requires c.args.g

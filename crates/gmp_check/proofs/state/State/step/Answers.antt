@@ -1,11 +1,11 @@
 use Rattle.std.proofs.Common.{◌≡◌, rules, Some, None}
 use Rattle.std.specs.List.{slice_get}
 use Rattle.gmp_check.proofs.Making.{entry_leads, on_error}
-use Rattle.gmp_check.proofs.Replaying.{reached_few}
+use Rattle.gmp_check.proofs.Consistency.{consistent_few}
 use Rattle.gmp_check.proofs.state.State.step.Goals as goal
 
 pub count_one-requires-clause-few : goal.count_one-requires-clause-few
-count_one-requires-clause-few c = reached_few c.args.limits c.args.self.now c.effect.new.self.counts c.requires c.effect.ensures.rest.0
+count_one-requires-clause-few c = consistent_few c.args.limits c.args.self.now c.effect.new.self.counts c.requires c.effect.ensures.rest.0
 
 pub returns-in_err-effect-clause-needed : goal.returns-in_err-effect-clause-needed
 returns-in_err-effect-clause-needed c =
