@@ -1,8 +1,8 @@
 //! The core.
 ghost use Rattle.std.specs.Borrow.{sem};
-ghost use Rattle.std.specs.Prelude.{◌≡◌, ◌<◌, Some, false, is_some, length, map, slice_get, vec_capacity, IfErr, IfOk, IfSome, OnOk};
+ghost use Rattle.std.specs.Prelude.{◌≡◌, ◌<◌, All, Some, false, is_some, length, map, slice_get, vec_capacity, IfErr, IfOk, IfSome, OnOk};
 ghost use Rattle.std.specs.Option.{option_map_or};
-ghost use Rattle.gmp_seq.specs.Fits.{AreLimits};
+ghost use Rattle.gmp_seq.specs.Fits.{AreLimits, Fits};
 ghost use Rattle.gmp_seq.specs.Machines.{is_parked};
 ghost use Rattle.gmp_book.specs.Book.{WhyUnopened};
 ghost use Rattle.gmp_core.specs.Doing.{with_made};
@@ -216,10 +216,12 @@ impl<T> Core<T> {
         }
     }
 
-    /// Every call that the book accepted with its reply, in order.
+    /// Every call that the book accepted with its reply, in order. Its numbers are within their types.
     pub fn history(&self) -> &[Entry]
         ensures entries { result.now ≡ self.now.system.book.history }
         ensures headline { HeadlineOf self.now.system }
+        ensures within { AreLimits self.now.system.book.limits self.now.system.book.bodies self.now.system.book.capacities }
+        ensures fits { All Fits self.now.system.book.history }
     {
         self.book.history()
     }
