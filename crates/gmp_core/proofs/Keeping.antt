@@ -1,5 +1,5 @@
 -- What the core keeps it keeps by each act, and the stock of bodies stays.
-use Rattle.std.proofs.Common.{◌≡◌, ◌≢◌, ◌⊎◌, inl, inr, ℕ, ◌<◌, ◌≤◌, List, [], ◌∷◌, ◌++◌, map, length, set, refl, sym, ap, ◌∙◌, subst, arith, Option, Some, None, IsSome, IsNone, Result, Ok, Err}
+use Rattle.std.proofs.Common.{◌≡◌, ◌≢◌, ◌⊎◌, inl, inr, ℕ, ◌<◌, List, length, refl, sym, ap, ◌∙◌, subst, arith, Option, Some, None, IsSome, IsNone, Result, Ok, Err}
 use Rattle.std.proofs.lemmas.List.{length-map}
 use Rattle.std.specs.List.{slice_get}
 use Rattle.std.specs.Option.{option_map}
@@ -26,13 +26,12 @@ use Rattle.gmp_driver.specs.declared.registers.ProcParts.{ProcParts}
 use Rattle.gmp_driver.specs.declared.registers.Registers.{Registers}
 use Rattle.gmp_driver.specs.Machine.{Machine}
 use Rattle.gmp_driver.specs.Registers.{first_of}
-use Rattle.gmp_driver.specs.Seen.{own_processor}
 use Rattle.gmp_driver.specs.Table.{next_act}
 use Rattle.gmp_acts.specs.declared.choice.Choice.{Choice}
 use Rattle.gmp_acts.specs.declared.made.Made.{Made}
-use Rattle.gmp_acts.specs.Headline.{HasInHand, SameOpening}
+use Rattle.gmp_acts.specs.Headline.{HasInHand}
 use Rattle.gmp_acts.specs.Hands.{PlainMachine, plain_called, plain_held, plain_machine}
-use Rattle.gmp_acts.specs.Acts.{Acts, HasFewCases, WithQueues}
+use Rattle.gmp_acts.specs.Acts.{Acts}
 use Rattle.gmp_acts.specs.Sound.{Agrees, IsSound}
 use Rattle.gmp_acts.specs.System.{System, called_number, held_number, made_of}
 use Rattle.gmp_acts.proofs.Moving.{act_sound}

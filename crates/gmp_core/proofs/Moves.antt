@@ -1,5 +1,5 @@
 -- Acts in a row.
-use Rattle.std.proofs.Common.{◌≡◌, List, [], ◌∷◌, ◌++◌, refl, sym, ◌∙◌, subst}
+use Rattle.std.proofs.Common.{List, [], ◌∷◌, ◌++◌, refl, ◌∙◌, subst}
 use Rattle.gmp_base.specs.declared.number.MNo.{MNo}
 use Rattle.gmp_acts.specs.declared.choice.Choice.{Choice}
 use Rattle.gmp_acts.specs.Acts.{Acts, ActsAll}

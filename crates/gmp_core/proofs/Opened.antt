@@ -1,9 +1,8 @@
 -- A core that has made no act.
-use Rattle.std.proofs.Common.{◌≡◌, ℕ, ◌+◌, ◌<◌, ◌≤◌, zero, suc, List, [], ◌∷◌, ◌++◌, map, reverse, length, get_or, refl, sym, ap, ◌∙◌, subst, arith, Option, Some, None, IsSome}
-use Rattle.std.proofs.lemmas.List.{get_or_default, length-map, same_lists}
-use Rattle.std.proofs.lemmas.List.FromFn.{get_or-map-range_with_len, length-map-range_with_len, length-range_with_len}
+use Rattle.std.proofs.Common.{◌≡◌, ℕ, ◌<◌, ◌≤◌, zero, suc, List, [], ◌∷◌, map, length, get_or, refl, sym, ap, ◌∙◌, arith, Option, Some, None}
+use Rattle.std.proofs.lemmas.List.{get_or_default, same_lists}
+use Rattle.std.proofs.lemmas.List.FromFn.{get_or-map-range_with_len, length-map-range_with_len}
 use Rattle.std.specs.List.{range_with_len, slice_get}
-use Rattle.gmp_base.specs.declared.number.MNo.{MNo}
 use Rattle.gmp_base.specs.declared.pass.Pass.{Pass}
 use Rattle.gmp_seq.specs.declared.call.Limits.{Limits}
 use Rattle.gmp_seq.specs.Fits.{AreLimits}
@@ -13,14 +12,13 @@ use Rattle.gmp_driver.specs.Registers.{first_of, nothing}
 use Rattle.gmp_acts.specs.declared.made.Made.{Made}
 use Rattle.gmp_acts.specs.Hands.{PlainMachine, plain_machine}
 use Rattle.gmp_acts.specs.Headline.{machine_at_start, opening_system}
-use Rattle.gmp_acts.specs.Sound.{IsSound}
 use Rattle.gmp_acts.specs.System.{System}
 use Rattle.gmp_acts.proofs.Whole.{opening_sound}
 use Rattle.gmp_turn.specs.Values.{AreOut, body_in, owner_in}
 use Rattle.gmp_core.specs.Inside.{IsCore, Parts, system_of}
 use Rattle.gmp_core.specs.Opening.{at_start}
 use Rattle.gmp_core.specs.Queues.{Rings}
-use Rattle.gmp_core.specs.Whole.{first_with, stock_of}
+use Rattle.gmp_core.specs.Whole.{stock_of}
 use Rattle.gmp_core.proofs.Stock.{map_same, no_some, none_has}
 
 -- Lists

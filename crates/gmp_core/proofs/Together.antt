@@ -1,5 +1,5 @@
 -- An act at a machine's desk, for the core as a whole.
-use Rattle.std.proofs.Common.{rules, All, ◌≡◌, ◌≢◌, ◌⊎◌, inl, inr, ℕ, ◌<◌, ◌≤◌, true, [], length, get_or, refl, sym, ap, ◌∙◌, subst, arith, Option, Some, None, IfSome, IsSome, is_some, Result, Ok, Err}
+use Rattle.std.proofs.Common.{rules, All, ◌≡◌, ◌≢◌, ◌⊎◌, ◌<◌, true, [], length, get_or, refl, sym, ap, ◌∙◌, arith, Option, Some, None, IfSome, IsSome, is_some, Result, Ok}
 use Rattle.std.proofs.lemmas.Option.{slice_get-get_or}
 use Rattle.std.specs.List.{slice_get}
 use Rattle.std.specs.Option.{option_map}
@@ -22,7 +22,7 @@ use Rattle.gmp_acts.specs.declared.made.Made.{Made}
 use Rattle.gmp_acts.specs.Acts.{Acts, HasFewCases}
 use Rattle.gmp_acts.specs.Hands.{PlainMachine, plain_held, plain_machine}
 use Rattle.gmp_acts.specs.Headline.{NoClaimIsRefused, SameOpening}
-use Rattle.gmp_acts.specs.Sound.{Agrees, IsSound}
+use Rattle.gmp_acts.specs.Sound.{Agrees}
 use Rattle.gmp_acts.specs.System.{System, machine_at}
 use Rattle.gmp_acts.proofs.Claimed.{no_claim_refused}
 use Rattle.gmp_acts.proofs.Losing.{entry_or_memory}
@@ -32,7 +32,6 @@ use Rattle.gmp_acts.proofs.Plain.{number_plain, plain_fits}
 use Rattle.gmp_acts.proofs.Room.{push_has_room}
 use Rattle.gmp_acts.proofs.Whole.{headline_of}
 use Rattle.gmp_turn.specs.Surrenders.{Surrenders}
-use Rattle.gmp_turn.specs.Turns.{Turns}
 use Rattle.gmp_turn.specs.Values.{AreOut, body_in, owner_in}
 use Rattle.gmp_turn.proofs.Kept.{kept_at_end, turned}
 use Rattle.gmp_core.specs.Doing.{Desk, Does}

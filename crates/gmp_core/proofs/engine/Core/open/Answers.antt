@@ -1,4 +1,4 @@
-use Rattle.std.proofs.Common.{◌≡◌, ◌≤◌, [], List, length, refl, sym, ap, ◌∙◌, arith, rules, replicate, vec_capacity}
+use Rattle.std.proofs.Common.{◌≡◌, ◌≤◌, [], List, length, ap, ◌∙◌, arith, rules, replicate, vec_capacity}
 use Rattle.gmp_base.specs.declared.pass.Pass.{Pass}
 use Rattle.gmp_seq.specs.Fits.{AreLimits}
 use Rattle.gmp_core.proofs.Opened.{opening_core, opening_is, opening_stock, passes_long}

@@ -1,8 +1,8 @@
-use Rattle.std.proofs.Common.{◌≡◌, refl, ap, ◌∙◌, subst, List}
+use Rattle.std.proofs.Common.{refl, ◌∙◌, subst, List}
 use Rattle.std.proofs.lemmas.List.{take_all, take_more}
 use Rattle.gmp_base.specs.declared.number.MNo.{MNo}
 use Rattle.gmp_acts.specs.declared.choice.Choice.{Choice}
-use Rattle.gmp_acts.specs.Acts.{Acts, ActsAll}
+use Rattle.gmp_acts.specs.Acts.{ActsAll}
 use Rattle.gmp_core.specs.Whole.{GrantsAll}
 use Rattle.gmp_core.proofs.Moves.{all_and_one, grants_and_one, opened_on}
 use Rattle.gmp_core.proofs.engine.Core.run.Goals as goal
