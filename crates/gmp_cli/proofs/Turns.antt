@@ -1,15 +1,21 @@
 -- Turns go round, and what an act is dealt stays with the bodies and the clock.
-use Rattle.std.proofs.Common.{◌≡◌, ℕ, ◌+◌, ◌-◌, ◌%◌, ◌<◌, ◌≤◌, Bool, true, false, sym, ap, ◌∙◌, subst, arith, inl, inr}
+use Rattle.std.proofs.Common.{◌≡◌, ℕ, ◌+◌, ◌-◌, ◌%◌, ◌<◌, true, List, set, refl, sym, ap, ◌∙◌, subst, arith, inl, inr, Some}
 use Rattle.std.proofs.Math.Nat.{add-mod_right, mod-add-mod, mod-eq_of_lt, mod-lt}
 use Rattle.std.proofs.lemmas.Bool.{cases_lt}
+use Rattle.std.proofs.lemmas.List.{set-get_or}
+use Rattle.std.proofs.lemmas.Option.{get_or_from_slice_get}
+use Rattle.std.specs.List.{slice_get}
 use Rattle.gmp_base.specs.declared.number.MNo.{MNo}
 use Rattle.gmp_acts.specs.declared.choice.Choice.{Choice}
 use Rattle.gmp_acts.specs.System.{System}
 use Rattle.gmp_core.specs.declared.want.Want.{Want}
 use Rattle.gmp_core.specs.declared.want.Want.TheVariants as want
+use Rattle.gmp_core.specs.Whole.{IsBodyInHand, Whole, with_body_in_hand}
 use Rattle.gmp_core.proofs.Moves.{opened_on}
+use Rattle.gmp_script.specs.Script.{Commands, called_number}
+use Rattle.gmp_cli.specs.Clock.{ClockState}
 use Rattle.gmp_cli.specs.declared.playing.Player.{Player}
-use Rattle.gmp_cli.specs.Plays.{AreParked, Deals, Stage, machines_of, parked}
+use Rattle.gmp_cli.specs.Plays.{Answers, AreParked, Deals, Stage, machines_of, parked}
 use Rattle.gmp_cli.specs.Staged.{IsManned, SameRun}
 
 -- going round so many, each comes
@@ -45,3 +51,20 @@ same_on a b c x y =
 -- the player goes on to know how many machines there are
 pub manned_on : (a b : Player) → IsManned a → SameRun a b → IsManned b
 manned_on a b known same = same.machines ∙ known ∙ sym (ap (λ (l : _). l.machines) same.opened.limits)
+
+put_here : {X : Type 0} (xs : List X) (i : ℕ) (x : X) → slice_get xs i ≡ Some x → set xs i x ≡ xs
+put_here {X} xs i x is = ap (λ (y : X). set xs i y) (sym (get_or_from_slice_get xs i x x is)) ∙ set-get_or xs i x
+
+-- a blocking call leaves its body as it was
+pub answered : (k : Whole Commands) (clock : ClockState) (turn number : ℕ) (m : MNo) (body after : Commands) → IsBodyInHand k m body → number ≡ called_number body → after ≡ body
+    → Answers (record { system = k.system; bodies = k.stock; clock = clock; turn = turn }) m number
+    (record { system = k.system; bodies = (with_body_in_hand k m after).stock; clock = clock; turn = turn })
+answered k clock turn number m body after held is stays = record {
+  g = held.g;
+  in_hand = held.in_hand;
+  body = body;
+  has = held.its;
+  answers = is;
+  bodies = rw (held.in_hand, stays) (put_here k.stock held.g.0 (Some body) held.its);
+  clock = refl;
+}

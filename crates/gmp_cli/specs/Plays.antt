@@ -1,5 +1,5 @@
 -- A run of a script: the machines act in turn over one book, and what their bodies, the clock and the word say is the script's.
-use Rattle.std.specs.Prelude.{◌≡◌, ◌≢◌, ◌⊎◌, ℕ, ◌+◌, ◌%◌, ◌<◌, ◌≤◌, Bool, true, false, List, map, length, Option, None, Some, slice_get, slice_set}
+use Rattle.std.specs.Prelude.{◌≡◌, ◌≢◌, ◌⊎◌, ℕ, zero, suc, ◌+◌, ◌%◌, ◌<◌, ◌≤◌, Bool, true, false, List, map, length, Option, None, Some, is_some, slice_get, slice_set}
 use Rattle.std.specs.Option.{option_map_or}
 use Rattle.gmp_base.specs.declared.ask.Ask.{Ask}
 use Rattle.gmp_base.specs.declared.number.GNo.{GNo}
@@ -10,7 +10,7 @@ use Rattle.gmp_acts.specs.declared.choice.Choice.{Choice}
 use Rattle.gmp_acts.specs.Acts.{Acts}
 use Rattle.gmp_acts.specs.Headline.{opening_system}
 use Rattle.gmp_acts.specs.System.{System, machine_at}
-use Rattle.gmp_driver.specs.Machine.{is_done}
+use Rattle.gmp_driver.specs.Machine.{held_at, is_done}
 use Rattle.gmp_driver.specs.Table.{next_act}
 use Rattle.gmp_core.specs.declared.want.Want.{Want}
 use Rattle.gmp_core.specs.declared.want.Want.TheVariants as want
@@ -40,6 +40,10 @@ machines_of k = k.book.limits.machines
 -- the book has parked the machine
 abbrev pub parked : System → ℕ → Bool
 parked k m = option_map_or is_parked (slice_get k.book.state.machines.modes m) false
+
+-- a body is in the machine's hand
+abbrev pub has_body : System → MNo → Bool
+has_body k m = is_some (held_at (machine_at k m).place (machine_at k m).hand.held)
 
 -- Turns
 
@@ -102,8 +106,8 @@ Deals (want.Moment minded) s m choice s' = Reads s minded choice.moment s'
 Deals want.Nothing s m choice s' = ReadsNothing s s'
 
 -- every word is this, no push is refused, and no steal loses its race
-pub record IsSettled (word : ℕ) (choice : Choice) : Type 0 where
-  pub word : choice.word ≡ word
+pub record IsSettled (drawn : ℕ) (choice : Choice) : Type 0 where
+  pub word : choice.word ≡ drawn
   pub pushed : choice.push_refused ≡ false
   pub sure : choice.unsure ≡ false
 

@@ -1,8 +1,8 @@
 //! A run of a script over the core: the machines act in turn, and what their bodies and the clock say is the script's.
-ghost use Rattle.std.specs.Prelude.{◌≡◌, ◌<◌, ◌≤◌, ◌⊎◌, ◌↔◌, ◌%◌, ◌+◌, ℕ, true, false, IsTrue, IfOk, IfErr, IfSome, OnNone, length};
+ghost use Rattle.std.specs.Prelude.{◌≡◌, ◌<◌, ◌≤◌, ◌⊎◌, ◌↔◌, ◌%◌, ◌+◌, ℕ, true, false, IsTrue, IfOk, All, IfErr, IfSome, None, length};
 ghost use Rattle.gmp_base.specs.declared.refusal.Refusal.TheVariants.{BadLimits, OutOfMemory};
 ghost use Rattle.gmp_base.specs.declared.number.MNo.{MNo};
-ghost use Rattle.gmp_seq.specs.Fits.{AreLimits};
+ghost use Rattle.gmp_seq.specs.Fits.{AreLimits, Fits};
 ghost use Rattle.gmp_acts.specs.Acts.{Acts};
 ghost use Rattle.gmp_acts.specs.System.{machine_at};
 ghost use Rattle.gmp_driver.specs.Table.{next_act};
@@ -31,7 +31,7 @@ pub(crate) struct Player {
 
 impl Player {
     ghost use Rattle.gmp_cli.specs.Clock.{unread};
-    ghost use Rattle.gmp_cli.specs.Plays.{Answers, AreParked, Asks, Deals, IsNext, IsOver, IsPlayed, IsSettled, PlaysOne, opening_stage};
+    ghost use Rattle.gmp_cli.specs.Plays.{Answers, AreParked, Asks, Deals, IsNext, IsOver, IsPlayed, IsSettled, PlaysOne, has_body, opening_stage};
     ghost use Rattle.gmp_cli.specs.Staged.{IsManned, SameRun, TriesOne, stage};
 
     /// The core before its first act.
@@ -96,7 +96,7 @@ impl Player {
     fn next(&self) -> Option<MNo>
         requires manned { IsManned self.now }
         ensures next { IfSome result (IsNext (stage self.now)) }
-        ensures none { OnNone result (AreParked self.now.core.system) }
+        ensures none { result ≡ None → AreParked self.now.core.system }
     {
         for passed in 0..self.machines {
             let m = ((self.turn as u16 + passed as u16) % self.machines as u16) as u8;
@@ -163,21 +163,24 @@ impl Player {
 
     /// What the body in the machine's hand asks, which is resumed.
     fn ask(&mut self, m: MNo) -> Ask
-        requires { wanted_by (next_act (machine_at self.old.core.system m)) ≡ Want.Ask }
+        requires { has_body self.old.core.system m ≡ true }
         ensures asks { Asks (stage self.old) m result (stage self.new) }
         ensures system { self.new.core.system ≡ self.old.core.system }
         ensures machines { self.new.machines ≡ self.old.machines }
         ensures turn { self.new.turn ≡ self.old.turn }
     {
-        match (self.core.held(m), self.core.body(m)) {
-            (Some(woke), Some(body)) => body.resume(woke),
-            _ => unreachable!(),
+        let Some(woke) = self.core.held(m) else {
+            unreachable!()
+        };
+        match self.core.body(m) {
+            Some(body) => body.resume(woke),
+            None => unreachable!(),
         }
     }
 
     /// What the blocking call of the body in the machine's hand answers.
     fn number(&mut self, m: MNo) -> u64
-        requires { wanted_by (next_act (machine_at self.old.core.system m)) ≡ Want.Number }
+        requires { has_body self.old.core.system m ≡ true }
         ensures answers { Answers (stage self.old) m result (stage self.new) }
         ensures system { self.new.core.system ≡ self.old.core.system }
         ensures machines { self.new.machines ≡ self.old.machines }
@@ -193,6 +196,8 @@ impl Player {
     pub(crate) fn history(&self) -> &[Entry]
         ensures entries { result.now ≡ self.now.core.system.book.history }
         ensures headline { HeadlineOf self.now.core.system }
+        ensures within { AreLimits self.now.core.system.book.limits self.now.core.system.book.bodies self.now.core.system.book.capacities }
+        ensures fits { All Fits self.now.core.system.book.history }
     {
         self.core.history()
     }

@@ -1,0 +1,48 @@
+-- What is written of a run that was played.
+use Rattle.std.proofs.Common.{◌≡◌, ℕ, All, List, length, sym, ap, ◌∙◌, subst}
+use Rattle.gmp_seq.specs.Fits.{AreLimits, Fits}
+use Rattle.gmp_acts.specs.Headline.{SameOpening}
+use Rattle.gmp_acts.specs.System.{BookRun}
+use Rattle.gmp_core.specs.Whole.{HeadlineOf}
+use Rattle.gmp_script.specs.Script.{Commands}
+use Rattle.gmp_trace.specs.HasText.{HasText}
+use Rattle.gmp_trace.specs.Text.{Content, end_of}
+use Rattle.gmp_trace.proofs.Numbered.{legal_text}
+use Rattle.gmp_cli.specs.declared.options.Settings.{Settings}
+use Rattle.gmp_cli.specs.Plays.{IsPlayed, Stage, opening_stage}
+use Rattle.gmp_cli.specs.Step.{IsRunOf, IsTraceOf, limits_of}
+
+module _ (s : Settings) (capacities readings : List ℕ) (bodies : List Commands) (before behind : Stage) (x : Content)
+  (opened : before ≡ opening_stage (limits_of s) capacities readings bodies) (same : SameOpening before.system.book behind.system.book)
+  (headline : HeadlineOf behind.system) (within : AreLimits behind.system.book.limits behind.system.book.bodies behind.system.book.capacities) (fits : All Fits behind.system.book.history)
+  (limits_are : x.limits ≡ limits_of s) (stock : x.bodies ≡ length bodies) (rooms : x.capacities ≡ capacities) (entries : x.entries ≡ behind.system.book.history) (ended : x.end ≡ end_of behind.system.book.state.outcome) where
+  limits_stay : x.limits ≡ behind.system.book.limits
+  limits_stay = limits_are ∙ sym (same.limits ∙ ap (λ (o : Stage). o.system.book.limits) opened)
+
+  bodies_stay : x.bodies ≡ behind.system.book.bodies
+  bodies_stay = stock ∙ sym (same.bodies ∙ ap (λ (o : Stage). o.system.book.bodies) opened)
+
+  rooms_stay : x.capacities ≡ behind.system.book.capacities
+  rooms_stay = rooms ∙ sym (same.capacities ∙ ap (λ (o : Stage). o.system.book.capacities) opened)
+
+  pub is_trace : IsTraceOf (limits_of s) x
+  is_trace = record {
+    opened = limits_are;
+    within = rw (limits_stay, bodies_stay, rooms_stay) within;
+    last = behind.system.book.state;
+    legal = rw (limits_stay, bodies_stay, rooms_stay, entries) headline.legal;
+    ended = ended;
+  }
+
+  pub is_run : IsPlayed s.acts s.word before behind → IsRunOf s readings bodies x
+  is_run played = record {
+    stock = stock;
+    last = behind;
+    played = subst (λ (o : Stage). IsPlayed s.acts s.word o behind) (opened ∙ ap (λ (cs : List ℕ). opening_stage (limits_of s) cs readings bodies) (sym rooms)) played;
+    entries = entries;
+    ended = ended;
+  }
+
+  pub has_text : HasText x
+  unfolding is_trace
+  has_text = legal_text x behind.system.book.state is_trace.within is_trace.legal (rw entries fits)
