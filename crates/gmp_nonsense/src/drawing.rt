@@ -1,0 +1,181 @@
+//! Machines and choices, drawn by a generator.
+ghost use Rattle.std.specs.Prelude.{◌<◌};
+
+use crate::limits::{BODIES, CHANNELS, MACHINES};
+use gmp_acts::Choice;
+use gmp_base::{Ask, CNo, Case, Cases, GNo, MNo};
+use rand_core::Rng;
+use rand_pcg::Lcg64Xsh32;
+
+/// The generator's stream, of which the seed chooses the beginning.
+const STREAM: u64 = 54;
+
+/// How many numbers a `u16` has.
+const ALL: u32 = 65_536;
+
+/// How many choices a spell has.
+const SPELL: u32 = 2_048;
+
+/// What is drawn in a run.
+#[derive(Drop)]
+pub struct Draw {
+    generator: Lcg64Xsh32,
+    /// An ask is once in so many times one after which the body may wait without end. It is drawn anew for each spell, and in the first
+    /// one seldom so.
+    calm: u32,
+    /// How many choices were drawn. Moments are mostly near this number, so that deadlines come due.
+    choices: u32,
+    ghost is_calm: { 0 < calm },
+}
+
+impl Draw {
+    pub fn new(seed: u64) -> Self {
+        Draw {
+            generator: Lcg64Xsh32::new(seed, STREAM),
+            calm: 32,
+            choices: 0,
+        }
+    }
+
+    /// A number below this one.
+    fn below(&mut self, n: u32) -> u32
+        requires { 0 < n }
+        ensures { result < n }
+    {
+        self.generator.next_u32() % n
+    }
+
+    /// True once in so many times.
+    fn once_in(&mut self, n: u32) -> bool
+        requires { 0 < n }
+    {
+        self.below(n) == 0
+    }
+
+    fn word(&mut self) -> u64 {
+        self.generator.next_u64()
+    }
+
+    /// One of the machines, or the one behind the last, which isn't there.
+    pub fn machine(&mut self) -> MNo {
+        MNo(self.below(MACHINES as u32 + 1) as u8)
+    }
+
+    /// Mostly one that there is.
+    fn goroutine(&mut self) -> GNo {
+        let bound = if self.once_in(32) {
+            ALL
+        } else {
+            u32::from(BODIES)
+        };
+        GNo(self.below(bound) as u16)
+    }
+
+    /// Mostly one that there may be.
+    fn channel(&mut self) -> Option<CNo> {
+        match self.below(64) {
+            0 => None,
+            1 => Some(CNo(self.below(ALL) as u16)),
+            _ => Some(CNo(self.below(u32::from(CHANNELS)) as u16)),
+        }
+    }
+
+    /// Mostly a small one, sometimes near the greatest that there may be, or the greatest number.
+    fn capacity(&mut self) -> u32 {
+        match self.below(8) {
+            0 => u32::MAX,
+            1 => 4_090 + self.below(10),
+            _ => self.below(4),
+        }
+    }
+
+    /// Near the number of choices made so far; once in so many times any number, or the greatest.
+    fn moment(&mut self, rare: u32) -> u64
+        requires { 0 < rare }
+    {
+        if self.once_in(rare) {
+            return if self.once_in(2) {
+                self.word()
+            } else {
+                u64::MAX
+            };
+        }
+        u64::from(self.choices) + u64::from(self.below(1_000))
+    }
+
+    fn deadline(&mut self) -> Option<u64> {
+        if self.once_in(2) {
+            Some(self.moment(64))
+        } else {
+            None
+        }
+    }
+
+    fn case(&mut self) -> Case {
+        let channel = self.channel();
+        if self.once_in(2) {
+            Case::Send(channel, self.word())
+        } else {
+            Case::Recv(channel)
+        }
+    }
+
+    /// At most 8 cases.
+    fn cases(&mut self) -> Cases {
+        let mut cases = Cases::new();
+        for _ in 0..self.below(9) {
+            let _ = cases.push(self.case());
+        }
+        cases
+    }
+
+    /// An ask after which the body may wait without end.
+    fn wait(&mut self) -> Ask {
+        match self.below(16) {
+            0..=2 => Ask::Park,
+            3..=6 => Ask::Select(self.cases(), self.once_in(2), self.deadline()),
+            7..=11 => Ask::Send(self.channel(), self.word()),
+            _ => Ask::Recv(self.channel()),
+        }
+    }
+
+    /// An ask by which the body may go on, now or later.
+    fn step(&mut self) -> Ask {
+        match self.below(256) {
+            0..=3 => Ask::Exit,
+            4..=5 => Ask::Close(self.channel()),
+            6..=13 => Ask::Make(self.capacity()),
+            14..=23 => Ask::Len(self.channel()),
+            24..=33 => Ask::Cap(self.channel()),
+            34..=73 => Ask::Sleep(self.moment(64)),
+            74..=103 => Ask::Yield,
+            104..=133 => Ask::Block,
+            134..=183 => Ask::Ready(self.goroutine()),
+            _ => Ask::Go(self.goroutine()),
+        }
+    }
+
+    fn ask(&mut self) -> Ask {
+        if self.once_in(self.calm) {
+            self.wait()
+        } else {
+            self.step()
+        }
+    }
+
+    /// What an act leaves open.
+    pub fn choice(&mut self) -> Choice {
+        self.choices = self.choices.wrapping_add(1);
+        if self.choices % SPELL == 0 {
+            self.calm = 1 << self.below(4);
+        }
+        Choice {
+            ask: self.ask(),
+            number: self.word(),
+            word: self.word(),
+            moment: self.moment(400),
+            push_refused: self.once_in(8),
+            unsure: self.once_in(8),
+        }
+    }
+}

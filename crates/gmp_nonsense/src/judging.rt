@@ -1,0 +1,49 @@
+//! What holds at the end of a run.
+
+use crate::calls::is_same;
+use crate::limits::{BODIES, CAPACITIES, LIMITS, MACHINES};
+use crate::short::Short;
+use gmp_acts::Made;
+use gmp_base::MNo;
+use gmp_check::outcome_of;
+use gmp_core::Core;
+use gmp_seq::{Entry, Outcome};
+use std::alloc::Global;
+
+/// The calls that the machines made are the entries, with machine and reply.
+fn compare(own: &[Made], history: &[Entry]) -> Result<(), Short> {
+    if own.len() != history.len() {
+        return Err(Short::OtherCount(own.len(), history.len()));
+    }
+    let same = |(made, entry): (&Made, &Entry)| {
+        made.m == entry.m && made.reply == entry.reply && is_same(&made.call, &entry.call)
+    };
+    match own.iter().zip(history).position(|pair| !same(pair)) {
+        Some(n) => Err(Short::OtherCall(n)),
+        None => Ok(()),
+    }
+}
+
+/// The plain scheduler accepts each entry, and has this outcome.
+fn replay(alloc: Global, history: &[Entry], outcome: Outcome) -> Result<(), Short> {
+    match outcome_of(alloc, LIMITS, BODIES, &CAPACITIES, history) {
+        Ok(replayed) if replayed == Some(outcome) => Ok(()),
+        Ok(_) => Err(Short::OtherOutcome),
+        Err(why) => Err(Short::Replay(why)),
+    }
+}
+
+/// How the run ended, where all holds.
+pub fn judged(alloc: Global, core: &Core<()>) -> Result<Outcome, Short> {
+    let Some(outcome) = core.outcome() else {
+        return Err(Short::Endless);
+    };
+    compare(core.own(), core.history())?;
+    replay(alloc, core.history(), outcome)?;
+    for m in 0..MACHINES as u8 {
+        if !core.done(MNo(m)) {
+            return Err(Short::NotDone(m));
+        }
+    }
+    Ok(outcome)
+}

@@ -1,0 +1,22 @@
+//! With what each run begins.
+
+use gmp_seq::Limits;
+
+pub const PROCS: u8 = 3;
+
+pub const MACHINES: usize = 5;
+
+pub const CHANNELS: u16 = 8;
+
+pub const LIMITS: Limits = Limits {
+    procs: PROCS,
+    machines: MACHINES as u8,
+    channels: CHANNELS,
+    entries: 5_000,
+};
+
+/// How many bodies there are.
+pub const BODIES: u16 = 64;
+
+/// The capacities of the channels that are there at the opening.
+pub const CAPACITIES: [u32; 4] = [0, 1, 2, 3];

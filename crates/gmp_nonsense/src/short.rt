@@ -1,0 +1,39 @@
+//! How a run falls short.
+
+use gmp_base::Refusal;
+use gmp_check::ReplayError;
+use std::alloc::AllocError;
+use thiserror::Error;
+
+/// How a run falls short.
+#[derive(Debug, Drop, Error)]
+pub enum Short {
+    #[error("it is not opened: {0}")]
+    Unopened(Refusal),
+    #[error("machine {0} makes no call where its table has one")]
+    NoCall(u8),
+    #[error("machine {0} adds other entries than its table has")]
+    OtherEntries(u8),
+    #[error("something changes after the end")]
+    Late,
+    #[error("it has no end")]
+    Endless,
+    #[error("the machines made {0} calls, and there are {1} entries")]
+    OtherCount(usize, usize),
+    #[error("call {0} is not what its entry says")]
+    OtherCall(usize),
+    #[error("the plain scheduler says: {0}")]
+    Replay(ReplayError),
+    #[error("the plain scheduler has another outcome")]
+    OtherOutcome,
+    #[error("machine {0} is not done")]
+    NotDone(u8),
+    #[error("out of memory")]
+    OutOfMemory,
+}
+
+impl From<AllocError> for Short {
+    fn from(_error: AllocError) -> Short {
+        Short::OutOfMemory
+    }
+}
