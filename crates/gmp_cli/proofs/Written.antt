@@ -13,9 +13,9 @@ use Rattle.gmp_cli.specs.Plays.{IsPlayed, Stage, opening_stage}
 use Rattle.gmp_cli.specs.Step.{IsRunOf, IsTraceOf, limits_of}
 
 module _ (s : Settings) (capacities readings : List ℕ) (bodies : List Commands) (before behind : Stage) (x : Content)
-  (opened : before ≡ opening_stage (limits_of s) capacities readings bodies) (same : SameOpening before.system.book behind.system.book)
-  (headline : HeadlineOf behind.system) (within : AreLimits behind.system.book.limits behind.system.book.bodies behind.system.book.capacities) (fits : All Fits behind.system.book.history)
-  (limits_are : x.limits ≡ limits_of s) (stock : x.bodies ≡ length bodies) (rooms : x.capacities ≡ capacities) (entries : x.entries ≡ behind.system.book.history) (ended : x.end ≡ end_of behind.system.book.state.outcome) where
+    (opened : before ≡ opening_stage (limits_of s) capacities readings bodies) (same : SameOpening before.system.book behind.system.book)
+    (headline : HeadlineOf behind.system) (within : AreLimits behind.system.book.limits behind.system.book.bodies behind.system.book.capacities) (fits : All Fits behind.system.book.history)
+    (limits_are : x.limits ≡ limits_of s) (stock : x.bodies ≡ length bodies) (rooms : x.capacities ≡ capacities) (entries : x.entries ≡ behind.system.book.history) (ended : x.end ≡ end_of behind.system.book.state.outcome) where
   limits_stay : x.limits ≡ behind.system.book.limits
   limits_stay = limits_are ∙ sym (same.limits ∙ ap (λ (o : Stage). o.system.book.limits) opened)
 

@@ -122,14 +122,7 @@ pub fn settings<'a>(alloc: Global, words: &'a [String]) -> Result<Settings, Ende
     if let Err(error) = command.try_get_matches_from_mut(words) {
         return Err(refused(alloc, &error));
     }
-    let (
-        Some(procs),
-        Some(machines),
-        Some(channels),
-        Some(entries),
-        Some(word),
-        Some(acts),
-    ) = (
+    let (Some(procs), Some(machines), Some(channels), Some(entries), Some(word), Some(acts)) = (
         PROCS.read(words),
         MACHINES.read(words),
         CHANNELS.read(words),

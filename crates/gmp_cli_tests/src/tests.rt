@@ -39,15 +39,10 @@ fn options_are_read(rt: HostRuntime) -> Result<(), Fail> {
             "gmp step --entries=1000000 --channels=1024 --word 18446744073709551615",
             (1, 1, 1024, 1_000_000, u64::MAX, 10_000_000),
         ),
-        (
-            "gmp step --machines 007",
-            (1, 7, 16, 10_000, 0, 10_000_000),
-        ),
+        ("gmp step --machines 007", (1, 7, 16, 10_000, 0, 10_000_000)),
     ] {
         let s = settings_of(&rt, rt.alloc(), line)?;
-        let got = (
-            s.procs, s.machines, s.channels, s.entries, s.word, s.acts,
-        );
+        let got = (s.procs, s.machines, s.channels, s.entries, s.word, s.acts);
         assert_eq!(rt; got, want, "{line}");
     }
     Ok(())

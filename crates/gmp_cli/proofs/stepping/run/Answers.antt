@@ -13,8 +13,8 @@ returns-in-Ok-written-clause-traced g c = λ nothing.
     let script = c.args.script in
     let x : Content = record { limits = c.limits_of-limits.result; bodies = c.len-count.result; capacities = c.deref-2.result.now; entries = c.history.result.now; end = c.of-end.result } in
     let opened : stage c.in-Ok.player ≡ opening_stage (limits_of s) script.capacities.items script.readings.items script.bodies.items =
-      c.in-Ok.ensures.stage ∙ ap (λ (l : Limits). opening_stage l c.deref.result.now script.readings.items script.bodies.items) c.limits_of-limits.ensures
-      ∙ ap (λ (cs : List ℕ). opening_stage (limits_of s) cs script.readings.items script.bodies.items) c.deref.ensures.value in
+    c.in-Ok.ensures.stage ∙ ap (λ (l : Limits). opening_stage l c.deref.result.now script.readings.items script.bodies.items) c.limits_of-limits.ensures
+    ∙ ap (λ (cs : List ℕ). opening_stage (limits_of s) cs script.readings.items script.bodies.items) c.deref.ensures.value in
     let stock : c.len-count.result ≡ length script.bodies.items = search rules in
     let behind : Stage = stage c.play.new.self in
     let ended = c.of-end.ensures ∙ ap end_of c.outcome.ensures in
