@@ -14,7 +14,7 @@ use Rattle.gmp_driver.specs.Machine.{held_at, is_done}
 use Rattle.gmp_driver.specs.Table.{next_act}
 use Rattle.gmp_core.specs.declared.want.Want.{Want}
 use Rattle.gmp_core.specs.declared.want.Want.TheVariants as want
-use Rattle.gmp_core.specs.Whole.{goroutine_in_hand, wanted_by}
+use Rattle.gmp_core.specs.Whole.{TakesFixed, goroutine_in_hand, wanted_by}
 use Rattle.gmp_script.specs.Script.{AsksNext, Commands, called_number}
 use Rattle.gmp_cli.specs.Clock.{ClockState, clock_after, reading, unread}
 
@@ -122,6 +122,8 @@ pub record PlaysOne (word : ℕ) (s s' : Stage) : Type 0 where
   pub settled : IsSettled word choice
   pub deals : Deals (wanted_by (next_act (machine_at s.system m))) s m choice s'
   pub acts : Acts s.system m choice s'.system
+  -- where the scheduler leaves a choice, it is the one that is fixed, by the word where it is among cases
+  pub fixed : TakesFixed s.system m choice.word s'.system
   pub turn : s'.turn ≡ m.0 + 1
 
 -- so many acts, one after another

@@ -1,5 +1,6 @@
 -- An act at a machine's desk, for the core as a whole.
-use Rattle.std.proofs.Common.{rules, All, ◌≡◌, ◌≢◌, ◌⊎◌, ◌<◌, true, [], length, get_or, refl, sym, ap, ◌∙◌, arith, Option, Some, None, IfSome, IsSome, is_some, Result, Ok}
+use Rattle.std.proofs.Common.{rules, All, ◌≡◌, ◌≢◌, ◌⊎◌, ◌<◌, true, [], length, get_or, refl, sym, ap, ◌∙◌, arith, Option, Some, None, IfSome, IsSome, is_some, Result, Ok, ℕ, List, subst, ◌+◌, ◌++◌, ◌∷◌, Err}
+use Rattle.std.proofs.lemmas.List.{append_cancel_left, length_push}
 use Rattle.std.proofs.lemmas.Option.{slice_get-get_or}
 use Rattle.std.specs.List.{slice_get}
 use Rattle.std.specs.Option.{option_map}
@@ -7,8 +8,13 @@ use Rattle.gmp_base.specs.declared.number.MNo.{MNo}
 use Rattle.gmp_base.specs.declared.number.PNo.{PNo}
 use Rattle.gmp_base.specs.declared.number.Readiness.{Readiness}
 use Rattle.gmp_base.specs.declared.refusal.Refusal.{Refusal}
+use Rattle.gmp_seq.specs.declared.call.Call.{Call}
+use Rattle.gmp_seq.specs.declared.call.Entry.{Entry}
+use Rattle.gmp_seq.specs.declared.call.Reply.{Reply}
 use Rattle.gmp_seq.specs.Table.{is_outstanding}
+use Rattle.gmp_ledger.specs.Grants.{Chooses}
 use Rattle.gmp_book.specs.Book.{BookContents}
+use Rattle.gmp_driver.specs.declared.act.Act.{Act}
 use Rattle.gmp_driver.specs.declared.act.Act.TheVariants as act
 use Rattle.gmp_driver.specs.declared.act.Value.{Value}
 use Rattle.gmp_driver.specs.declared.place.Place.{Place}
@@ -23,7 +29,7 @@ use Rattle.gmp_acts.specs.Acts.{Acts, HasFewCases}
 use Rattle.gmp_acts.specs.Hands.{PlainMachine, plain_held, plain_machine}
 use Rattle.gmp_acts.specs.Headline.{NoClaimIsRefused, SameOpening}
 use Rattle.gmp_acts.specs.Sound.{Agrees}
-use Rattle.gmp_acts.specs.System.{System, machine_at}
+use Rattle.gmp_acts.specs.System.{System, count_of, machine_at}
 use Rattle.gmp_acts.proofs.Claimed.{no_claim_refused}
 use Rattle.gmp_acts.proofs.Losing.{entry_or_memory}
 use Rattle.gmp_acts.proofs.Moving.{own_within}
@@ -32,11 +38,12 @@ use Rattle.gmp_acts.proofs.Plain.{number_plain, plain_fits}
 use Rattle.gmp_acts.proofs.Room.{push_has_room}
 use Rattle.gmp_acts.proofs.Whole.{headline_of}
 use Rattle.gmp_turn.specs.Surrenders.{Surrenders}
+use Rattle.gmp_turn.specs.Turns.{Turns}
 use Rattle.gmp_turn.specs.Values.{AreOut, body_in, owner_in}
 use Rattle.gmp_turn.proofs.Kept.{kept_at_end, turned}
 use Rattle.gmp_core.specs.Doing.{Desk, Does}
 use Rattle.gmp_core.specs.Inside.{IsCore, Parts, system_of}
-use Rattle.gmp_core.specs.Whole.{HeadlineOf, NoCallIsRefused, stock_of}
+use Rattle.gmp_core.specs.Whole.{HeadlineOf, NoCallIsRefused, TakesFixed, stock_of}
 use Rattle.gmp_core.proofs.Keeping.{kept_after, one_in_hand, room_for}
 use Rattle.gmp_core.proofs.Tying.{agrees, does, is_there, machine_is, next_plain, over, parts_after, tickets}
 
@@ -45,6 +52,20 @@ surrender_taken : {T Q : Type 0} (x x' : Machine T Q) (book book' : BookContents
     → ((r : Readiness) → (x.hand.to_claim ≡ Some r) ⊎ (x.hand.to_store ≡ Some r) → is_outstanding book.log.state.table r ≡ true)
     → Surrenders x book which result x' book' → result ≡ Ok tt
 surrender_taken x x' book book' which result run over out out' tickets s = search rules
+
+abbrev reply_of : Reply → List Entry → Reply
+reply_of other [] = other
+reply_of other (e ∷ es) = e.reply
+
+chosen : {T Q : Type 0} (x x' : Machine T Q) (book book' : BookContents T Q) (m : MNo) (count : ℕ) (asked : Call) (word : ℕ) (answer : Reply) (result : Result Reply Refusal) → Turns x book asked word result x' book'
+    → book'.log.history ≡ book.log.history ++ record { m = m; k = count; call = asked; reply = answer } ∷ [] → Chooses asked word answer book.log.state book.log.shelf
+chosen x x' book book' m count asked word answer (Ok reply) t more =
+    let e : reply ≡ answer = ap (reply_of answer) (append_cancel_left book.log.history _ _ (sym t.records.entry ∙ more)) in
+    subst (λ (r : Reply). Chooses asked word r book.log.state book.log.shelf) e t.choice
+chosen x x' book book' m count asked word answer (Err why) t more =
+    let same : book'.log.history ≡ book.log.history = ap (λ (b : BookContents _ _). b.log.history) t.err.0 in
+    let longer : length book.log.history ≡ length book.log.history + 1 = ap (λ (l : List Entry). length l) (sym same ∙ more) ∙ length_push book.log.history _ in
+    absurd (omega (arith, longer))
 
 module _ {T : Type 0} (c : Parts T) (m : MNo) (x : Machine T Unit) (is : slice_get c.machines m.0 ≡ Some x) (core : IsCore c) where
   abbrev k : System
@@ -96,6 +117,12 @@ module _ {T : Type 0} (c : Parts T) (m : MNo) (x : Machine T Unit) (is : slice_g
 
     pub calls_so : NoCallIsRefused k m (system_of c')
     calls_so asked inside next goes = entry_or_memory k m choice asked (system_of c') core.sound inside next goes acts_so
+
+    pub fixed_so : TakesFixed k m choice.word (system_of c')
+    fixed_so asked answer inside next more =
+        let at : next_act x ≡ act.Call asked = sym (ap next_act (machine_is c m x is) ∙ next_plain x) ∙ next in
+        let made_so = subst (λ (a : Act). Does a m choice (record { machine = x; book = c.book; rings = c.rings }) now made) at d in
+        (c.book.log.shelf, chosen x now.machine c.book now.book m (count_of k.book m) asked choice.word answer made_so.0 made_so.1 more)
 
     pub headline_so : HeadlineOf (system_of c')
     headline_so = headline_of (system_of c') core_so.sound

@@ -6,6 +6,7 @@ use Rattle.gmp_base.specs.declared.number.MNo.{MNo}
 use Rattle.gmp_seq.specs.declared.call.Call.{Call}
 use Rattle.gmp_seq.specs.declared.call.Reply.{Reply}
 use Rattle.gmp_seq.specs.Needs.{WantsMemory}
+use Rattle.gmp_ledger.specs.Grants.{Chooses}
 use Rattle.gmp_core.specs.declared.want.Want.{Want}
 use Rattle.gmp_core.specs.declared.want.Want.TheVariants as want
 use Rattle.gmp_driver.specs.declared.act.Act.{Act}
@@ -72,6 +73,13 @@ NoCallIsRefused k m k' = (asked : Call) → m.0 < length k.machines → next_act
 abbrev pub GrantsAll : System → List (MNo × Choice) → System → Type 0
 GrantsAll k [] k' = k' ≡ k
 GrantsAll k (move ∷ moves) k' = (mid : System) × Acts k move.0 move.1 mid × NoCallIsRefused k move.0 mid × GrantsAll mid moves k'
+
+-- Where the scheduler leaves a choice, a call that makes its entry takes what is fixed: the least idle processor, the least parked machine,
+-- the case of the word; and from the shelf, in some order of it, the first.
+abbrev pub TakesFixed : System → MNo → ℕ → System → Type 0
+TakesFixed k m word k' = (asked : Call) (answer : Reply) → m.0 < length k.machines → next_act (machine_at k m) ≡ act.Call asked
+    → k'.book.history ≡ k.book.history ++ record { m = m; k = count_of k.book m; call = asked; reply = answer } ∷ []
+    → (shelf : List GNo) × Chooses asked word answer k.book.state shelf
 
 -- The body in hand
 

@@ -77,7 +77,7 @@ impl<T> Core<T> {
     ghost use Rattle.gmp_driver.specs.Machine.{held_at, is_done};
     ghost use Rattle.gmp_driver.specs.Table.{next_act};
     ghost use Rattle.gmp_core.specs.Lending.{lends_body};
-    ghost use Rattle.gmp_core.specs.Whole.{GrantsAll, HeadlineOf, IsBodyInHand, NoCallIsRefused, is_of_body};
+    ghost use Rattle.gmp_core.specs.Whole.{GrantsAll, HeadlineOf, IsBodyInHand, NoCallIsRefused, TakesFixed, is_of_body};
 
     /// Machines that have made no act, each at its start with nothing in hand. There is a body for each goroutine. It takes all the memory
     /// that acts need, but for a make. Refused, it hands the bodies back.
@@ -132,6 +132,7 @@ impl<T> Core<T> {
         ensures stock { self.new.stock ≡ self.old.stock }
         ensures claims { NoClaimIsRefused self.old.system m self.new.system }
         ensures calls { NoCallIsRefused self.old.system m self.new.system }
+        ensures fixed { TakesFixed self.old.system m choice.now.word self.new.system }
         ensures headline { HeadlineOf self.new.system }
         ensures opened { SameOpening self.old.system.book self.new.system.book }
     {

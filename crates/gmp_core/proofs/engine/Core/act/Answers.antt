@@ -2,7 +2,7 @@ use Rattle.std.proofs.Common.{ap}
 use Rattle.gmp_acts.proofs.Whole.{headline_of}
 use Rattle.gmp_core.specs.Whole.{Whole}
 use Rattle.gmp_core.proofs.Stock.{found}
-use Rattle.gmp_core.proofs.Together.{acts_so, calls_so, claims_so, core_so, finds_room, has_pass, headline_so, opened_so, room_so, same_run, stock_so}
+use Rattle.gmp_core.proofs.Together.{acts_so, calls_so, claims_so, core_so, finds_room, fixed_so, has_pass, headline_so, opened_so, room_so, same_run, stock_so}
 use Rattle.gmp_core.proofs.engine.Core.act.Goals as goal
 
 pub returns-in_default-clause-headline : goal.returns-in_default-clause-headline
@@ -52,6 +52,11 @@ pub returns-clause-calls : goal.returns-clause-calls
 returns-clause-calls g c =
     let at = found c.self.inside.drivers.items c.args.m.0 c.in-Some.driver.now c.in-Some.ensures.item.3.0 c.in-Some.ensures.value in
     rw (← ap (λ (w : Whole _). w.system) c.self.view_is) (calls_so _ c.args.m c.in-Some.driver.now at c.self.invariant c.args.choice.now _ c.act-made.result c.has_few.ensures c.act-made.ensures.does)
+
+pub returns-clause-fixed : goal.returns-clause-fixed
+returns-clause-fixed g c =
+    let at = found c.self.inside.drivers.items c.args.m.0 c.in-Some.driver.now c.in-Some.ensures.item.3.0 c.in-Some.ensures.value in
+    rw (← ap (λ (w : Whole _). w.system) c.self.view_is) (fixed_so _ c.args.m c.in-Some.driver.now at c.self.invariant c.args.choice.now _ c.act-made.result c.has_few.ensures c.act-made.ensures.does)
 
 pub returns-clause-headline : goal.returns-clause-headline
 returns-clause-headline g c =
