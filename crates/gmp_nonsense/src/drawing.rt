@@ -14,27 +14,46 @@ const STREAM: u64 = 54;
 const ALL: u32 = 65_536;
 
 /// How many choices a spell has.
-const SPELL: u32 = 2_048;
+const SPELL: u32 = 512;
 
-/// What is drawn in a run.
+/// What is drawn in a run. It leans one way for a spell, and then another way.
 #[derive(Drop)]
 pub struct Draw {
     generator: Lcg64Xsh32,
-    /// An ask is once in so many times one after which the body may wait without end. It is drawn anew for each spell, and in the first
-    /// one seldom so.
-    calm: u32,
     /// How many choices were drawn. Moments are mostly near this number, so that deadlines come due.
     choices: u32,
-    ghost is_calm: { 0 < calm },
+    /// The machine that mostly acts.
+    favourite: MNo,
+    /// Any machine acts once in so many times.
+    others: u32,
+    /// A body may wait without end after one ask in so many.
+    waits: u32,
+    /// It gives its machine up by one in so many of the others.
+    pauses: u32,
+    ghost are_some: { (0 < others) × (0 < waits) × (0 < pauses) },
 }
 
 impl Draw {
+    /// In the first spell a body seldom waits without end, so that there is time to start others.
     pub fn new(seed: u64) -> Self {
-        Draw {
+        let mut draw = Draw {
             generator: Lcg64Xsh32::new(seed, STREAM),
-            calm: 32,
             choices: 0,
-        }
+            favourite: MNo(0),
+            others: 1,
+            waits: 1,
+            pauses: 1,
+        };
+        draw.begin_spell();
+        draw.waits = 64;
+        draw
+    }
+
+    fn begin_spell(&mut self) {
+        self.favourite = self.any_machine();
+        self.others = 1 << self.below(5);
+        self.waits = 1 << self.below(6);
+        self.pauses = 1 << self.below(7);
     }
 
     /// A number below this one.
@@ -57,8 +76,17 @@ impl Draw {
     }
 
     /// One of the machines, or the one behind the last, which isn't there.
-    pub fn machine(&mut self) -> MNo {
+    fn any_machine(&mut self) -> MNo {
         MNo(self.below(MACHINES as u32 + 1) as u8)
+    }
+
+    /// The machine that acts next.
+    pub fn machine(&mut self) -> MNo {
+        if self.once_in(self.others) {
+            self.any_machine()
+        } else {
+            self.favourite
+        }
     }
 
     /// Mostly one that there is.
@@ -139,25 +167,33 @@ impl Draw {
         }
     }
 
-    /// An ask by which the body may go on, now or later.
+    /// An ask by which the body gives its machine up.
+    fn pause(&mut self) -> Ask {
+        match self.below(32) {
+            0..=1 => Ask::Exit,
+            2..=11 => Ask::Sleep(self.moment(64)),
+            12..=21 => Ask::Yield,
+            _ => Ask::Block,
+        }
+    }
+
+    /// An ask after which the body goes on.
     fn step(&mut self) -> Ask {
-        match self.below(256) {
-            0..=3 => Ask::Exit,
-            4..=5 => Ask::Close(self.channel()),
-            6..=13 => Ask::Make(self.capacity()),
-            14..=23 => Ask::Len(self.channel()),
-            24..=33 => Ask::Cap(self.channel()),
-            34..=73 => Ask::Sleep(self.moment(64)),
-            74..=103 => Ask::Yield,
-            104..=133 => Ask::Block,
-            134..=183 => Ask::Ready(self.goroutine()),
+        match self.below(32) {
+            0 => Ask::Close(self.channel()),
+            1 => Ask::Make(self.capacity()),
+            2..=3 => Ask::Len(self.channel()),
+            4..=5 => Ask::Cap(self.channel()),
+            6..=16 => Ask::Ready(self.goroutine()),
             _ => Ask::Go(self.goroutine()),
         }
     }
 
     fn ask(&mut self) -> Ask {
-        if self.once_in(self.calm) {
+        if self.once_in(self.waits) {
             self.wait()
+        } else if self.once_in(self.pauses) {
+            self.pause()
         } else {
             self.step()
         }
@@ -167,7 +203,7 @@ impl Draw {
     pub fn choice(&mut self) -> Choice {
         self.choices = self.choices.wrapping_add(1);
         if self.choices % SPELL == 0 {
-            self.calm = 1 << self.below(4);
+            self.begin_spell();
         }
         Choice {
             ask: self.ask(),

@@ -1,4 +1,6 @@
 //! What holds at the end of a run.
+ghost use Rattle.std.specs.Prelude.{IfOk, OnOk, Some};
+ghost use Rattle.gmp_check.specs.Replayed.{EndsWith};
 
 use crate::calls::is_same;
 use crate::limits::{BODIES, CAPACITIES, LIMITS, MACHINES};
@@ -10,22 +12,27 @@ use gmp_core::Core;
 use gmp_seq::{Entry, Outcome};
 use std::alloc::Global;
 
-/// The calls that the machines made are the entries, with machine and reply.
+/// Whether the call that a machine made, and its reply, are those of the entry.
+fn is_entry(made: &Made, entry: &Entry) -> bool {
+    made.m == entry.m && is_same(&made.call, &entry.call) && made.reply == entry.reply
+}
+
+/// The calls that the machines made are the entries, in order.
 fn compare(own: &[Made], history: &[Entry]) -> Result<(), Short> {
     if own.len() != history.len() {
         return Err(Short::OtherCount(own.len(), history.len()));
     }
-    let same = |(made, entry): (&Made, &Entry)| {
-        made.m == entry.m && made.reply == entry.reply && is_same(&made.call, &entry.call)
-    };
-    match own.iter().zip(history).position(|pair| !same(pair)) {
+    let mut pairs = own.iter().zip(history);
+    match pairs.position(|(made, entry)| !is_entry(made, entry)) {
         Some(n) => Err(Short::OtherCall(n)),
         None => Ok(()),
     }
 }
 
 /// The plain scheduler accepts each entry, and has this outcome.
-fn replay(alloc: Global, history: &[Entry], outcome: Outcome) -> Result<(), Short> {
+fn replay(alloc: Global, history: &[Entry], outcome: Outcome) -> Result<(), Short>
+    ensures { OnOk result (EndsWith LIMITS BODIES CAPACITIES history.now (Some outcome)) }
+{
     match outcome_of(alloc, LIMITS, BODIES, &CAPACITIES, history) {
         Ok(replayed) if replayed == Some(outcome) => Ok(()),
         Ok(_) => Err(Short::OtherOutcome),
@@ -34,7 +41,9 @@ fn replay(alloc: Global, history: &[Entry], outcome: Outcome) -> Result<(), Shor
 }
 
 /// How the run ended, where all holds.
-pub fn judged(alloc: Global, core: &Core<()>) -> Result<Outcome, Short> {
+pub fn judged(alloc: Global, core: &Core<()>) -> Result<Outcome, Short>
+    ensures { IfOk result (λ outcome. EndsWith LIMITS BODIES CAPACITIES core.now.system.book.history (Some outcome)) }
+{
     let Some(outcome) = core.outcome() else {
         return Err(Short::Endless);
     };

@@ -13,6 +13,7 @@ pub struct Ended {
 /// How many runs ended in which way, and how many entries they have together.
 #[derive(Default, Drop)]
 pub struct Tally {
+    runs: u32,
     main_ended: u32,
     all_asleep: u32,
     book_full: u32,
@@ -21,12 +22,13 @@ pub struct Tally {
 
 impl Tally {
     pub fn add(&mut self, ended: Ended) {
-        let runs = match ended.outcome {
+        let ways = match ended.outcome {
             Outcome::MainEnded => &mut self.main_ended,
             Outcome::AllAsleep => &mut self.all_asleep,
             Outcome::BookFull => &mut self.book_full,
         };
-        *runs = runs.wrapping_add(1);
+        *ways = ways.wrapping_add(1);
+        self.runs = self.runs.wrapping_add(1);
         self.entries = self.entries.wrapping_add(ended.entries);
     }
 }
@@ -34,6 +36,7 @@ impl Tally {
 impl fmt::Display for Tally {
     fn fmt<W: fmt::Write>(&self, f: &mut fmt::Formatter<W>) -> fmt::Result {
         let Tally {
+            runs,
             main_ended,
             all_asleep,
             book_full,
@@ -41,7 +44,7 @@ impl fmt::Display for Tally {
         } = self;
         write!(
             f,
-            "main ended {main_ended} runs, all were asleep in {all_asleep}, the book was full in {book_full}: {entries} entries"
+            "{runs} runs: main ended {main_ended}, all were asleep in {all_asleep}, the book was full in {book_full}; {entries} entries"
         )
     }
 }
