@@ -11,7 +11,6 @@ use Rattle.gmp_base.specs.declared.number.GNo.{GNo}
 use Rattle.gmp_base.specs.declared.number.MNo.{MNo}
 use Rattle.gmp_base.specs.declared.number.Readiness.{Readiness}
 use Rattle.gmp_base.specs.declared.pass.Pass.{Pass}
-use Rattle.gmp_seq.proofs.Changes.{is_waiting}
 use Rattle.gmp_seq.proofs.InOrder.{legal_in_order}
 use Rattle.gmp_seq.proofs.Counts.{run_total}
 use Rattle.gmp_seq.proofs.Runs.{run_join}
@@ -31,7 +30,7 @@ use Rattle.gmp_seq.specs.Laws.{IsInOrder, HasSizes}
 use Rattle.gmp_seq.specs.Run.{Run}
 use Rattle.gmp_seq.specs.State.{State, opening}
 use Rattle.gmp_seq.specs.Step.{Step, outcome_after}
-use Rattle.gmp_seq.specs.Table.{Table, all_woken, woken_with}
+use Rattle.gmp_seq.specs.Table.{Table, all_woken, is_waiting, woken_with}
 use Rattle.gmp_acts.specs.System.{BookRun, count_of, count_of_all}
 use Rattle.gmp_driver.specs.declared.act.Act.TheVariants as act
 use Rattle.gmp_driver.specs.declared.act.Told.{Told}

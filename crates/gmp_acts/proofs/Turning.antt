@@ -12,7 +12,7 @@ use Rattle.gmp_base.specs.declared.number.CNo.{CNo}
 use Rattle.gmp_base.specs.declared.number.GNo.{GNo}
 use Rattle.gmp_base.specs.declared.number.MNo.{MNo}
 use Rattle.gmp_base.specs.declared.number.Readiness.{Readiness}
-use Rattle.gmp_seq.proofs.Changes.{is_manned, is_waiting}
+use Rattle.gmp_seq.proofs.Changes.{close_waits, due_waits}
 use Rattle.gmp_seq.proofs.Epochs.{epoch_of}
 use Rattle.gmp_seq.proofs.Manned.{set_at}
 use Rattle.gmp_seq.proofs.OneEach.{row_at}
@@ -33,7 +33,7 @@ use Rattle.gmp_seq.specs.declared.status.Status.TheVariants as status
 use Rattle.gmp_seq.specs.declared.status.Transfer.TheVariants.{Handed, Relayed, Failed, Stored, First, Drained}
 use Rattle.gmp_seq.specs.State.{State}
 use Rattle.gmp_seq.specs.Step
-use Rattle.gmp_seq.specs.Table.{Table, IsRunning, IsCalling, status_at, epoch_at, next_of, is_out, is_parked, set_status, made_ready, made_wait, all_woken, due_answer}
+use Rattle.gmp_seq.specs.Table.{Table, IsRunning, IsCalling, status_at, epoch_at, next_of, is_held, is_out, is_parked, is_waiting, set_status, made_ready, made_wait, all_woken, due_answer}
 use Rattle.gmp_seq.specs.Waits.{close_answer}
 use Rattle.gmp_seq.specs.Step.{sender_in, ticket_in, ticket_of}
 use Rattle.gmp_driver.specs.declared.registers.CalledParts.{CalledParts}
@@ -62,18 +62,18 @@ CallsOn m o = option_map (λ (x : Goroutine). x.status) o ≡ Some (status.Calli
 
 -- what one row's change means for the goroutine that the machine runs (h, then h'), and for that of its blocking call (c, then c')
 pub data Role (m : MNo) (g : GNo) (a b : Status) (h h' c c' : Option GNo) : Type 0 where
-  apart : is_manned a ≡ false → is_manned b ≡ false → h' ≡ h → c' ≡ c → Role m g a b h h' c c'
-  claims : is_manned a ≡ false → b ≡ status.Running m → h ≡ None → h' ≡ Some g → c' ≡ c → Role m g a b h h' c c'
-  leaves : a ≡ status.Running m → is_manned b ≡ false → h' ≡ None → c' ≡ c → Role m g a b h h' c c'
+  apart : is_held a ≡ false → is_held b ≡ false → h' ≡ h → c' ≡ c → Role m g a b h h' c c'
+  claims : is_held a ≡ false → b ≡ status.Running m → h ≡ None → h' ≡ Some g → c' ≡ c → Role m g a b h h' c c'
+  leaves : a ≡ status.Running m → is_held b ≡ false → h' ≡ None → c' ≡ c → Role m g a b h h' c c'
   enters : a ≡ status.Running m → b ≡ status.Calling m → h' ≡ None → c ≡ None → c' ≡ Some g → Role m g a b h h' c c'
   returns : a ≡ status.Calling m → b ≡ status.Running m → h ≡ None → h' ≡ Some g → c' ≡ None → Role m g a b h h' c c'
-  shelves : a ≡ status.Calling m → is_manned b ≡ false → h' ≡ h → c' ≡ None → Role m g a b h h' c c'
+  shelves : a ≡ status.Calling m → is_held b ≡ false → h' ≡ h → c' ≡ None → Role m g a b h h' c c'
 
-not_running : (s : Status) (m : MNo) → is_manned s ≡ false → Some s ≡ Some (status.Running m) → ⊥
-not_running s m h e = let is : s ≡ status.Running m = cc in false≢true (sym h ∙ ap is_manned is)
+not_running : (s : Status) (m : MNo) → is_held s ≡ false → Some s ≡ Some (status.Running m) → ⊥
+not_running s m h e = let is : s ≡ status.Running m = cc in false≢true (sym h ∙ ap is_held is)
 
-not_calling : (s : Status) (m : MNo) → is_manned s ≡ false → Some s ≡ Some (status.Calling m) → ⊥
-not_calling s m h e = let is : s ≡ status.Calling m = cc in false≢true (sym h ∙ ap is_manned is)
+not_calling : (s : Status) (m : MNo) → is_held s ≡ false → Some s ≡ Some (status.Calling m) → ⊥
+not_calling s m h e = let is : s ≡ status.Calling m = cc in false≢true (sym h ∙ ap is_held is)
 
 calls_not_runs : (s : Status) (m n : MNo) → s ≡ status.Calling m → Some s ≡ Some (status.Running n) → ⊥
 calls_not_runs s m n h e = cc
@@ -91,7 +91,7 @@ other_call s m n ne h e = ne (let same : n ≡ m = cc in same)
 abbrev NotOf : MNo → Status → Type 0
 NotOf n s = (Some s ≡ Some (status.Running n) → ⊥) × (Some s ≡ Some (status.Calling n) → ⊥)
 
-free_not : (s : Status) (n : MNo) → is_manned s ≡ false → NotOf n s
+free_not : (s : Status) (n : MNo) → is_held s ≡ false → NotOf n s
 free_not s n h = (not_running s n h, not_calling s n h)
 
 run_not : (s : Status) (m n : MNo) → n ≢ m → s ≡ status.Running m → NotOf n s
@@ -283,11 +283,11 @@ module _ (m : MNo) (old new : Table) (hand : PlainHand) where
   claims_turn r _ has free h = absurd h
 
   -- a goroutine becomes ready, and its ticket is to store
-  readies_turn : (w a : Woke) (h : GNo) (s : Status) (o : Option Readiness) → status_at old h ≡ Some s → is_manned s ≡ false → is_out s ≡ false → o ≡ Some (next_of old h)
+  readies_turn : (w a : Woke) (h : GNo) (s : Status) (o : Option Readiness) → status_at old h ≡ Some s → is_held s ≡ false → is_out s ≡ false → o ≡ Some (next_of old h)
       → new.goroutines ≡ (made_ready old h Out a).goroutines → hand.to_store ≡ None → Turn m old new hand (record hand { held = retold w hand.held; to_store = o })
   readies_turn w a h s o does free unout next is store =
       let row = row_at old h s does in
-      turns h row.0 _ row.1 is (apart (ap is_manned row.2 ∙ free) refl (retold_number w hand.held) refl)
+      turns h row.0 _ row.1 is (apart (ap is_held row.2 ∙ free) refl (retold_number w hand.held) refl)
       (λ q.
       let none : is_ticket q hand.to_store ≡ 0 = ap (is_ticket q) store in
       let comes : is_ticket q o ≡ is_ticket q (Some (next_of old h)) = ap (is_ticket q) next in
@@ -296,7 +296,7 @@ module _ (m : MNo) (old new : Table) (hand : PlainHand) where
       omega (arith, none, comes, was, now))
 
   -- the goroutine that the machine runs stops
-  leaves_turn : (g : GNo) (s : Status) (epoch : ℕ) → IsRunning old g m → is_manned s ≡ false → is_out s ≡ false → new.goroutines ≡ set old.goroutines g.0 (record { status = s; epoch = epoch })
+  leaves_turn : (g : GNo) (s : Status) (epoch : ℕ) → IsRunning old g m → is_held s ≡ false → is_out s ≡ false → new.goroutines ≡ set old.goroutines g.0 (record { status = s; epoch = epoch })
       → Turn m old new hand (record hand { held = None })
   leaves_turn g s epoch running free unout is =
       let row = row_at old g (status.Running m) running in
@@ -312,13 +312,13 @@ module _ (m : MNo) (old new : Table) (hand : PlainHand) where
   starts_turn h (reply.Fault fault.AlreadyStarted) store (none, is) = stays (ap rows is) (on_same _ hand None store refl)
   starts_turn h _ store k = absurd k
 
-  parked_at : (h : GNo) → option_map is_parked (status_at old h) ≡ Some true → (s : Status) × (status_at old h ≡ Some s) × (is_manned s ≡ false) × (is_out s ≡ false)
+  parked_at : (h : GNo) → option_map is_parked (status_at old h) ≡ Some true → (s : Status) × (status_at old h ≡ Some s) × (is_held s ≡ false) × (is_out s ≡ false)
   parked_at h e = by_status (status_at old h) refl e where
-    parked_free : (s : Status) → is_parked s ≡ true → (is_manned s ≡ false) × (is_out s ≡ false)
+    parked_free : (s : Status) → is_parked s ≡ true → (is_held s ≡ false) × (is_out s ≡ false)
     parked_free (status.Waiting w) k = (refl, refl)
     parked_free _ k = absurd (false≢true k)
 
-    by_status : (o : Option Status) → status_at old h ≡ o → option_map is_parked o ≡ Some true → (s : Status) × (status_at old h ≡ Some s) × (is_manned s ≡ false) × (is_out s ≡ false)
+    by_status : (o : Option Status) → status_at old h ≡ o → option_map is_parked o ≡ Some true → (s : Status) × (status_at old h ≡ Some s) × (is_held s ≡ false) × (is_out s ≡ false)
     by_status None is k = absurd cc
     by_status (Some s) is k = let parts = parked_free s (let same : is_parked s ≡ true = cc in same) in (s, is, parts.0, parts.1)
 
@@ -377,18 +377,10 @@ module _ (m : MNo) (old new : Table) (hand : PlainHand) where
       omega (arith, was, now))
   resumes_turn g k _ calling has free h = absurd h
 
-  due_waits : (now : ℕ) (s : Status) → is_some (due_answer now s) ≡ true → is_waiting s ≡ true
-  due_waits now (status.Waiting w) h = refl
-  due_waits now _ h = h
-
   ticks_turn : (moment : ℕ) (answer : Reply) → Step.Ticks moment answer old new → Turn m old new hand hand
   ticks_turn moment (reply.Woke n) (is, count) =
       woken (due_answer (max old.clock moment)) (due_waits (max old.clock moment)) (ap rows is) (record { held = refl; called = refl; tickets = λ r. refl })
   ticks_turn moment _ h = absurd h
-
-close_waits : (c : CNo) (s : Status) → is_some (close_answer c s) ≡ true → is_waiting s ≡ true
-close_waits c (status.Waiting w) h = refl
-close_waits c _ h = h
 
 module _ (m : MNo) (old new : State) (hand : PlainHand) (store : hand.to_store ≡ None) where
   communicates_turn : (w : Woke) (c : Case) (told : Taken) → Step.Communicates c told old new → Turn m old.table new.table hand (record hand { held = retold w hand.held; to_store = ticket_of told })

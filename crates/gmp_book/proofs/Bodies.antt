@@ -2,7 +2,7 @@
 use Rattle.std.proofs.Common.{◌≡◌, ℕ, zero, suc, Bool, true, false, not, Option, None, Some, List, [], ◌∷◌, map, set, slice_get, is_some, refl, sym, ap, ◌∙◌}
 use Rattle.gmp_seq.specs.declared.status.Goroutine.{Goroutine}
 use Rattle.gmp_slots.specs.Slots.{is_filled, is_vacant, all_filled}
-use Rattle.gmp_book.specs.Book.{is_held}
+use Rattle.gmp_seq.specs.Table.{is_held}
 
 -- a row whose body is in
 abbrev pub is_in : Goroutine → Bool

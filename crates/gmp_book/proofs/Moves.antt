@@ -27,13 +27,12 @@ use Rattle.gmp_seq.specs.declared.status.Transfer.TheVariants.{Handed, Relayed}
 use Rattle.gmp_seq.specs.Machines.{Machines, Holds, IsIdle}
 use Rattle.gmp_seq.specs.State.{State, SameTable, SameMachines}
 use Rattle.gmp_seq.specs.Step.{Effect, Communicates, Deals, Selects, Closes, Parks}
-use Rattle.gmp_seq.specs.Table.{Table, IsHeld, IsRunning, due_answer, is_parked, made_wait, status_at, woken_with}
+use Rattle.gmp_seq.specs.Table.{Table, IsHeld, IsRunning, due_answer, is_held, is_parked, made_wait, status_at, woken_with}
 use Rattle.gmp_seq.specs.Waits.{close_answer}
 use Rattle.gmp_seq.proofs.OneEach.{row_at}
 use Rattle.gmp_seq.proofs.Waiting.{first_waits}
 use Rattle.gmp_book.specs.declared.values.Way.{Way}
 use Rattle.gmp_book.specs.declared.values.Way.TheVariants as way
-use Rattle.gmp_book.specs.Book.{is_held}
 use Rattle.gmp_book.specs.Hands.{claimed, way_of}
 use Rattle.gmp_book.specs.Kinds.{gives_body, gives_proc, goes_on, hands_called, hands_held, hands_proc}
 use Rattle.gmp_book.proofs.Bodies.{is_in, set_map, set_same}

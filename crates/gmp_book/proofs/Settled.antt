@@ -17,7 +17,7 @@ use Rattle.gmp_seq.specs.declared.status.Status.TheVariants as status
 use Rattle.gmp_seq.specs.Laws.{IsInOrder}
 use Rattle.gmp_seq.specs.Machines.{Holds, IsIdle, Machines}
 use Rattle.gmp_seq.specs.State.{State}
-use Rattle.gmp_seq.specs.Table.{IsHeld, Table, status_at}
+use Rattle.gmp_seq.specs.Table.{IsHeld, Table, is_held, status_at}
 use Rattle.gmp_seq.proofs.OneEach.{row_at}
 use Rattle.gmp_slots.specs.Slots.{is_filled, is_vacant}
 use Rattle.gmp_base.specs.declared.pass.Pass.{Pass}
@@ -27,7 +27,7 @@ use Rattle.gmp_ledger.specs.Log.{Log, Records}
 use Rattle.gmp_book.specs.declared.values.Values.{Values}
 use Rattle.gmp_book.specs.declared.values.Way.{Way}
 use Rattle.gmp_book.specs.declared.values.Way.TheVariants as way
-use Rattle.gmp_book.specs.Book.{BodiesIn, IsBook, OwnersIn, is_held}
+use Rattle.gmp_book.specs.Book.{BodiesIn, IsBook, OwnersIn}
 use Rattle.gmp_book.specs.Hands.{FitsBody, FitsHome, FitsOwner, FitsPlace, HandsBody, HandsOwner, claimed, handed_of, way_of, with_home, with_owner}
 use Rattle.gmp_book.specs.Kinds.{hands_called, hands_held, hands_proc}
 use Rattle.gmp_book.proofs.Bodies.{filled_at, is_in, set_map, vacant_at}

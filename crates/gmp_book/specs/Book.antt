@@ -8,13 +8,11 @@ use Rattle.gmp_base.specs.declared.value.Held.{Held}
 use Rattle.gmp_base.specs.declared.value.Proc.{Proc}
 use Rattle.gmp_seq.specs.declared.call.Limits.{Limits}
 use Rattle.gmp_seq.specs.declared.status.Goroutine.{Goroutine}
-use Rattle.gmp_seq.specs.declared.status.Status.{Status}
-use Rattle.gmp_seq.specs.declared.status.Status.TheVariants.{Running, Calling}
 use Rattle.gmp_seq.specs.Fits.{AreLimits, Fits}
 use Rattle.gmp_seq.specs.Machines.{Machines}
 use Rattle.gmp_seq.specs.Run.{Run}
 use Rattle.gmp_seq.specs.State.{opening}
-use Rattle.gmp_seq.specs.Table.{Table}
+use Rattle.gmp_seq.specs.Table.{Table, is_held}
 use Rattle.gmp_slots.specs.Slots.{all_filled}
 use Rattle.gmp_book.specs.declared.report.Report.{Report}
 use Rattle.gmp_ledger.specs.Log.{Log, opening_log}
@@ -27,12 +25,6 @@ pub record BookContents (T Q : Type 0) : Type 0 where
   pub owners : List (Option Q)
 
 -- What the book keeps
-
--- its body is out
-abbrev pub is_held : Status → Bool
-is_held (Running m) = true
-is_held (Calling m) = true
-is_held _ = false
 
 -- the bodies are in the book, but for those of goroutines that run or make a blocking call
 abbrev pub BodiesIn : {T : Type 0} → Table → List (Option T) → Type 0

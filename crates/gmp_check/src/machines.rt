@@ -45,7 +45,7 @@ fn is_held_by(m: MNo, holder: Option<MNo>) -> bool
 
 impl Machines {
     /// No processor is held, all machines are awake, and nobody spins.
-    pub(crate) fn awake(alloc: Global, procs: u8, machines: u8) -> Result<Self, AllocError>
+    pub(crate) fn opening(alloc: Global, procs: u8, machines: u8) -> Result<Self, AllocError>
         ensures { IfOk result (λ w. w ≡ record { holders = replicate procs None; modes = replicate machines Mode.Awake; spinning = replicate machines false }) }
     {
         Ok(Machines {

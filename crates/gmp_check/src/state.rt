@@ -66,7 +66,7 @@ impl State {
         Ok(State {
             table: Table::open(alloc, bodies)?,
             channels: Channels::open(alloc, capacities)?,
-            machines: Machines::awake(alloc, limits.procs, limits.machines)?,
+            machines: Machines::opening(alloc, limits.procs, limits.machines)?,
             counts: vec![in alloc; 0; limits.machines as usize]?,
             outcome: None,
         })

@@ -280,12 +280,10 @@ impl Goroutines {
         let Some(row) = self.table.get(h) else {
             return Reply::Fault(Fault::NoSuchBody);
         };
-        match &row.status {
-            Status::Waiting(wait) if wait.kind == Kind::Parked => {
-                Reply::Ticket(self.table.ready(h, Woke::Done))
-            }
-            _ => Reply::Fault(Fault::NotParked),
+        if !row.status.is_parked() {
+            return Reply::Fault(Fault::NotParked);
         }
+        Reply::Ticket(self.table.ready(h, Woke::Done))
     }
 
     /// g, which m runs, goes into a blocking call, which m makes.

@@ -1,6 +1,6 @@
 //! Questions on one goroutine's status.
 ghost use Rattle.std.specs.Prelude.{◌≡◌};
-ghost use Rattle.gmp_seq.specs.Table.{deadline_of, is_astir, is_calling_on, is_dormant, is_parked, is_ready_or_running, is_running_on, is_shelved};
+ghost use Rattle.gmp_seq.specs.Table.{deadline_of, is_astir, is_calling, is_calling_on, is_dormant, is_parked, is_ready_or_running, is_running_on, is_shelved};
 
 use crate::status::{Kind, Place, Status};
 use gmp_base::MNo;
@@ -38,6 +38,13 @@ impl Status {
             Status::Running(n) => m.0 == n.0,
             _ => false,
         }
+    }
+
+    /// Whether a machine makes its blocking call.
+    pub fn is_calling(&self) -> bool
+        ensures { result ≡ is_calling self.now }
+    {
+        matches!(self, Status::Calling(_))
     }
 
     /// Whether this machine makes its blocking call.

@@ -16,8 +16,8 @@ use Rattle.gmp_seq.specs.declared.status.Place.TheVariants.{Shelf, Out}
 use Rattle.gmp_seq.specs.declared.status.Status.{Status}
 use Rattle.gmp_seq.specs.declared.status.Status.TheVariants.{Dormant, Ready, Running, Calling, Waiting, Dead}
 use Rattle.gmp_seq.specs.State.{dormant, first_goroutine}
-use Rattle.gmp_seq.specs.Table.{is_shelved, is_out, is_astir, is_ready_or_running, deadline_of, earlier, least_of}
-use Rattle.gmp_table.specs.Contents.{answer_in, turned, epoch_in, is_calling, has_deadline}
+use Rattle.gmp_seq.specs.Table.{is_shelved, is_out, is_astir, is_calling, is_ready_or_running, deadline_of, earlier, least_of}
+use Rattle.gmp_table.specs.Contents.{answer_in, turned, epoch_in, has_deadline}
 use Rattle.gmp_table.specs.Kept.{count_status, IsListing, IsTable}
 use Rattle.gmp_table.proofs.Listing.{slice_get-set_same, pushed, popped, passed_by, first_passes, HasRow, row_of, listed_fewer, any_counted, some_listed, dormant_listing}
 

@@ -1,12 +1,12 @@
 -- What a contract sees of a status table, and the words of its calls.
-use Rattle.std.specs.Prelude.{ℕ, ◌+◌, ◌-◌, Bool, true, false, Option, None, List, [], ◌∷◌, slice_get, slice_set, replicate, is_some}
+use Rattle.std.specs.Prelude.{ℕ, ◌+◌, ◌-◌, Bool, Option, None, List, [], ◌∷◌, slice_get, slice_set, replicate, is_some}
 use Rattle.std.specs.Option.{option_map_or}
 use Rattle.gmp_base.specs.declared.number.GNo.{GNo}
 use Rattle.gmp_base.specs.declared.ask.Woke.{Woke}
 use Rattle.gmp_seq.specs.declared.status.Goroutine.{Goroutine}
 use Rattle.gmp_seq.specs.declared.status.Place.{Place}
 use Rattle.gmp_seq.specs.declared.status.Status.{Status}
-use Rattle.gmp_seq.specs.declared.status.Status.TheVariants.{Ready, Calling}
+use Rattle.gmp_seq.specs.declared.status.Status.TheVariants.{Ready}
 use Rattle.gmp_seq.specs.State.{first_goroutine, dormant}
 use Rattle.gmp_seq.specs.Table.{Table, answer_of_ready, deadline_of}
 
@@ -38,11 +38,6 @@ abbrev pub answer_in : List Goroutine → GNo → Option Woke
 answer_in rows g = option_map_or (λ (x : Goroutine). answer_of_ready x.status) (slice_get rows g.0) None
 
 -- Tests of statuses
-
--- it makes a blocking call
-abbrev pub is_calling : Status → Bool
-is_calling (Calling m) = true
-is_calling _ = false
 
 -- it waits until a moment
 abbrev pub has_deadline : Status → Bool

@@ -4,8 +4,8 @@ use Rattle.std.specs.Option.{option_map_or}
 use Rattle.gmp_base.specs.declared.number.GNo.{GNo}
 use Rattle.gmp_seq.specs.declared.status.Goroutine.{Goroutine}
 use Rattle.gmp_seq.specs.declared.status.Status.{Status}
-use Rattle.gmp_seq.specs.Table.{is_shelved, is_ready_or_running}
-use Rattle.gmp_table.specs.Contents.{is_calling, has_deadline}
+use Rattle.gmp_seq.specs.Table.{is_calling, is_shelved, is_ready_or_running}
+use Rattle.gmp_table.specs.Contents.{has_deadline}
 
 -- 1 where it holds
 abbrev pub tally : Bool → ℕ

@@ -1,8 +1,8 @@
 //! The rows of the table, with counts, so that a question about all of them needs no scan.
 ghost use Rattle.std.specs.Prelude.{◌≡◌, ◌+◌, ◌<◌, ◌^◌, replicate, length, slice_get, slice_set, option_copied, nat_lt, IfOk};
 ghost use Rattle.gmp_seq.specs.State.{dormant};
-ghost use Rattle.gmp_seq.specs.Table.{is_ready_or_running, earlier, least_of};
-ghost use Rattle.gmp_table.specs.Contents.{epoch_in, answer_in, turned, risen, is_calling, has_deadline};
+ghost use Rattle.gmp_seq.specs.Table.{is_calling, is_ready_or_running, earlier, least_of};
+ghost use Rattle.gmp_table.specs.Contents.{epoch_in, answer_in, turned, risen, has_deadline};
 ghost use Rattle.gmp_table.specs.Kept.{count_status};
 ghost use Rattle.gmp_table.specs.declared.wake.Wake.{Wake};
 ghost use Rattle.gmp_table.specs.Waking.{IsFirst};
@@ -36,12 +36,6 @@ impl Model for Rows {
     ghost view = { λ r. r.list.items };
 
     ghost invariant = { λ r. IsCounted r.list.items r.bodies r.going r.calling r.timed };
-}
-
-fn is_calling(status: &Status) -> bool
-    ensures { result ≡ is_calling status.now }
-{
-    matches!(status, Status::Calling(_))
 }
 
 fn has_deadline(status: &Status) -> bool
@@ -128,11 +122,11 @@ impl Rows {
         let was = &self.list[i].status;
         let (going, calling, timed) = (
             was.is_ready_or_running(),
-            is_calling(was),
+            was.is_calling(),
             has_deadline(was),
         );
         self.going = self.going - going as usize + row.status.is_ready_or_running() as usize;
-        self.calling = self.calling - calling as usize + is_calling(&row.status) as usize;
+        self.calling = self.calling - calling as usize + row.status.is_calling() as usize;
         self.timed = self.timed - timed as usize + has_deadline(&row.status) as usize;
         self.list[i] = row;
     }

@@ -125,13 +125,8 @@ impl StatusTable {
         ensures { IsTrue result ↔ (status_at self.now.table g ≡ Some (Status.Running m)) }
     {
         match self.get(g) {
-            Some(
-                Goroutine {
-                    status: Status::Running(n),
-                    ..
-                },
-            ) => *n == m,
-            _ => false,
+            Some(row) => row.status.is_running_on(m),
+            None => false,
         }
     }
 

@@ -1,7 +1,7 @@
 -- Worked traces of several machines and processors.
 use Rattle.gmp_base.specs.declared.ask.Woke.TheVariants as woke
 use Rattle.gmp_seq.proofs.Runs.{run_join}
-use Rattle.gmp_seq.proofs.Traces.{goroutine, machine, processor, ticket, entry, does, limits}
+use Rattle.gmp_rows.proofs.Traces.{goroutine, machine, processor, ticket, entry, does, limits}
 use Rattle.gmp_seq.specs.Run.{Run}
 use Rattle.gmp_seq.specs.State.{State, opening}
 use Rattle.gmp_seq.specs.declared.call.Call.TheVariants as call

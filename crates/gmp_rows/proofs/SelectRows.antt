@@ -3,7 +3,7 @@ use Rattle.gmp_base.specs.declared.ask.Fault.TheVariants as fault
 use Rattle.gmp_base.specs.declared.ask.Woke.TheVariants as woke
 use Rattle.gmp_base.specs.declared.cases.Case.TheVariants as case
 use Rattle.gmp_seq.proofs.Runs.{run_join}
-use Rattle.gmp_seq.proofs.Traces.{goroutine, machine, processor, channel, ticket, entry, does, limits}
+use Rattle.gmp_rows.proofs.Traces.{goroutine, machine, processor, channel, ticket, entry, does, limits}
 use Rattle.gmp_seq.specs.Run.{Run}
 use Rattle.gmp_seq.specs.State.{State, opening}
 use Rattle.gmp_seq.specs.Waits.{new_channel}
