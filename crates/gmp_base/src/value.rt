@@ -114,33 +114,3 @@ impl<Q> Proc<Q> {
         (run, p, owner)
     }
 }
-
-#[cfg(test)]
-mod tests {
-    use super::*;
-    use crate::number::MNo;
-    use crate::pass::Pass;
-    use crate::refusal::{Refusal, Refused};
-
-    #[test]
-    fn parts_come_out_as_they_went_in(rt: HostRuntime) {
-        let ticket = Ticket::of(7, GNo(1), 2);
-        let readiness = Readiness {
-            g: GNo(1),
-            epoch: 2,
-        };
-        assert_eq!(rt; ticket.readiness(), readiness);
-        assert_eq!(rt; ticket.open(), (7, GNo(1), 2));
-        let held = Held::of(7, GNo(1), Woke::Number(3), "body");
-        assert_eq!(rt; held.open(), (7, GNo(1), Woke::Number(3), "body"));
-        let called = Called::of(7, GNo(1), "body");
-        assert_eq!(rt; called.open(), (7, GNo(1), "body"));
-        let proc = Proc::of(7, PNo(4), "owner");
-        assert_eq!(rt; proc.open(), (7, PNo(4), "owner"));
-        let mut pass = Pass::of(7, MNo(5), 6, 8);
-        pass.advance(9);
-        assert_eq!(rt; pass.open(), (7, MNo(5), 7, 9));
-        let refused = Refused::of(Refusal::Busy, "back");
-        assert_eq!(rt; refused.open(), (Refusal::Busy, "back"));
-    }
-}

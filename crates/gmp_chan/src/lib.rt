@@ -11,6 +11,3 @@ mod waiters;
 
 pub use cases::cases_rise;
 pub use channels::Channels;
-
-#[cfg(test)]
-mod tests;

@@ -72,6 +72,3 @@ pub fn check_view(alloc: Global, trace: TraceView) -> Result<Option<Outcome>, Ba
         }),
     }
 }
-
-#[cfg(test)]
-mod tests;

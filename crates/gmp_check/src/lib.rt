@@ -14,8 +14,6 @@ mod machines;
 mod replay;
 mod state;
 mod table;
-#[cfg(test)]
-mod tests;
 
 pub use checked::{check, check_view};
 pub use error::{OpenError, OutOfMemory, ReplayError};

@@ -13,6 +13,3 @@ mod want;
 
 pub use engine::Core;
 pub use want::Want;
-
-#[cfg(test)]
-mod tests;

@@ -20,8 +20,3 @@ pub use hunt::steal_goal;
 pub use load::Load;
 pub use place::{Place, Round};
 pub use registers::{CalledParts, HeldParts, ProcParts, Registers, fill};
-
-#[cfg(test)]
-mod row_tests;
-#[cfg(test)]
-mod tests;

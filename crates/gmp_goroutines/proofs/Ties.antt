@@ -17,7 +17,7 @@ use Rattle.gmp_seq.specs.declared.status.Transfer.{Transfer}
 use Rattle.gmp_seq.specs.declared.status.Transfer.TheVariants.{Failed, Handed, Stored, First, Relayed, Drained}
 use Rattle.gmp_seq.specs.State.{dormant, first_goroutine}
 use Rattle.gmp_seq.specs.Step.{served_by}
-use Rattle.gmp_seq.specs.Table.{IsOffShelf, RunsNothing, epoch_at, is_running_on, is_waiting, made_wait, some_status}
+use Rattle.gmp_seq.specs.Table.{IsOffShelf, RunsNothing, epoch_at, is_parked, is_running_on, is_waiting, made_wait, some_status}
 use Rattle.gmp_seq.specs.Waits.{Channel, Proceeds}
 use Rattle.gmp_table.proofs.Listing.{slice_get-set_same, slice_get-set_other}
 use Rattle.gmp_goroutines.specs.Tied.{IsTied}
@@ -30,6 +30,15 @@ is_idle _ = true
 
 not_idle : (s u : Status) → is_idle s ≡ true → is_idle u ≡ false → s ≡ u → ⊥
 not_idle s u idle busy e = false≢true (sym busy ∙ ap is_idle (sym e) ∙ idle)
+
+-- one that is parked waits so
+parked_waits : (s : Status) → is_parked s ≡ true → (w : Wait) × (s ≡ Waiting w) × (w.kind ≡ kind.Parked)
+parked_waits (Waiting w) e = (w, refl, by_kind w.kind e)
+  where
+    by_kind : (k : Kind) → is_parked (Waiting (record w { kind = k })) ≡ true → k ≡ kind.Parked
+    by_kind kind.Parked e = refl
+    by_kind _ e = absurd cc
+parked_waits _ e = absurd cc
 
 unwaiting : (s : Status) → is_idle s ≡ true → is_waiting s ≡ false
 unwaiting (Waiting w) e = absurd (false≢true e)
@@ -76,10 +85,13 @@ module _ {t : Table} {records : List Waiter} {bodies : ℕ} {runners : List GNo}
   kept g s y new was free idle is = offered_kept g y new (unwaiting_none t g s was free) idle is
 
   -- one that is parked is made ready
-  pub readied_kept : (g : GNo) (w : Wait) (y : Goroutine) (new : Table) → status_at t g ≡ Some (Waiting w) → w.kind ≡ kind.Parked → is_idle y.status ≡ true
+  pub readied_kept : (g : GNo) (s : Status) (y : Goroutine) (new : Table) → status_at t g ≡ Some s → is_parked s ≡ true → is_idle y.status ≡ true
       → new ≡ record t { goroutines = set t.goroutines g.0 y } → IsTied new records bodies runners
-  readied_kept g w y new was parked idle is =
-      offered_kept g y new (λ v o at within. let it : w ≡ v = cc in rw (ap (λ (u : Wait). u.offers) (sym it) ∙ tied.bare g w was parked) at within) idle is
+  readied_kept g s y new was parked idle is =
+      let w = parked_waits s parked in
+      offered_kept g y new (λ v o at within.
+        let it : w.0 ≡ v = cc in
+        rw (ap (λ (u : Wait). u.offers) (sym it) ∙ tied.bare g w.0 (was ∙ ap Some w.1) w.2) at within) idle is
 
   -- machine m ran none, and runs it from now on
   pub claimed_kept : (m : MNo) (g : GNo) (s : Status) (e : ℕ) (new : Table) → status_at t g ≡ Some s → is_waiting s ≡ false → RunsNothing t m → m.0 < length runners

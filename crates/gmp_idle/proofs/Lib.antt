@@ -2,4 +2,3 @@ pub mod Masks
 pub mod Marking
 pub mod Holding
 pub mod Moving
-pub mod Told

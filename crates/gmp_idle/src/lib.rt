@@ -10,6 +10,3 @@ mod processors;
 mod small_set;
 
 pub use machines::Machines;
-
-#[cfg(test)]
-mod tests;

@@ -5,3 +5,4 @@ pub mod ClockRows
 pub mod LimitRows
 pub mod MachineRows
 pub mod Refused
+pub mod DriverRows

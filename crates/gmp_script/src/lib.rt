@@ -5,8 +5,6 @@ mod commands;
 mod digits;
 mod lines;
 mod scripts;
-#[cfg(test)]
-mod tests;
 
 pub use commands::{Command, ScriptBody};
 pub use digits::number;

@@ -8,6 +8,3 @@ mod waiting;
 
 pub use choosing::{choose, ready_cases};
 pub use waiting::{are_made, complete, register, withdraw_all};
-
-#[cfg(test)]
-mod tests;

@@ -114,6 +114,3 @@ impl<T> Slots<T> {
         room
     }
 }
-
-#[cfg(test)]
-mod tests;

@@ -10,6 +10,3 @@ mod wake;
 
 pub use table::StatusTable;
 pub use wake::{Candidate, Rank, Wake};
-
-#[cfg(test)]
-mod tests;

@@ -1,6 +1,6 @@
 //! Want of memory: run with each allocation refused in turn. And what no trace can say, since two replies are spelled alike.
-use super::*;
 use gmp_base::{CNo, Fault, GNo, MNo, PNo, Readiness};
+use gmp_check::{OpenError, OutOfMemory, Replay, ReplayError, outcome_of};
 use gmp_seq::{Call, Entry, Limits, Outcome, Reply};
 
 const LIMITS: Limits = Limits {

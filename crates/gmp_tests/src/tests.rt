@@ -1,4 +1,4 @@
-//! Want of memory. Run with each allocation refused in turn. Bodies are 70 and up, owners 80 and up.
+//! Of what takes memory, run with each allocation refused in turn. Bodies are 70 and up, owners 80 and up.
 use gmp_base::Pass;
 use gmp_book::Book;
 use gmp_seq::Limits;
@@ -6,6 +6,11 @@ use std::process::Abort;
 
 mod making;
 mod opening;
+mod parts;
+mod replaying;
+mod stealing;
+mod texts;
+mod tokens;
 
 type Desk = Book<u32, u32>;
 

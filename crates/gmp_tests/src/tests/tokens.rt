@@ -1,4 +1,5 @@
-use super::*;
+//! Values that have to be spent.
+use gmp_slots::Slots;
 use std::process::Abort;
 use std::test::Fail;
 

@@ -1,6 +1,7 @@
-use super::*;
+//! Two machines, one of which steals.
 use gmp_acts::Choice;
 use gmp_base::{Ask, GNo, MNo, PNo, Readiness};
+use gmp_core::{Core, Want};
 use gmp_seq::{Call, Limits, Reply};
 use std::alloc::Global;
 use std::process::Abort;
