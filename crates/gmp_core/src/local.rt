@@ -78,8 +78,7 @@ pub(crate) fn tell<T>(driver: &mut Driver<T, ()>, what: Told)
     ensures told { driver.new ≡ after driver.old what }
     ensures fits { Fits driver.new.place driver.new.hand }
 {
-    let load = driver.give();
-    driver.got(load, what);
+    driver.tell(what);
 }
 
 /// The machine takes the first ticket of its own queue, which is one to claim, or finds none.

@@ -9,10 +9,9 @@ use crate::load::Load;
 use crate::place::Place;
 use crate::registers::{Registers, fill};
 use crate::seen::Seen;
-use crate::table::{act_at, next_fresh, next_place, next_turns};
+use crate::table::{act_at, go_on, next_fresh, next_turns};
 use gmp_base::{PNo, Pass, Woke};
 use std::marker::Model;
-use std::mem;
 
 /// One machine's program. A contract sees its place, its registers, the pass unless it is given out, and what it holds.
 ///
@@ -66,6 +65,8 @@ impl<T, Q> Driver<T, Q> {
     }
 
     /// What the machine does next.
+    // Inlined, here and below: whoever looks at one kind of act alone pays for no other.
+    #[inline(always)]
     pub fn next(&self) -> Act
         requires { IsSome self.now.pass }
         ensures act { result ≡ next_act self.now }
@@ -114,13 +115,27 @@ impl<T, Q> Driver<T, Q> {
         matches!(self.place, Place::Done)
     }
 
+    #[inline(always)]
     fn seen(&self) -> Seen
         ensures { result ≡ seen self.now }
     {
         Seen::of(self.procs, self.fresh, self.turns, &self.hand)
     }
 
+    /// Is told what came of an act, and goes on to the next place, where it must hold what that place says.
+    #[inline(always)]
+    pub fn tell(&mut self, told: Told)
+        requires { Fits (after self.old told).place self.old.hand }
+        ensures { self.new ≡ after self.old told }
+    {
+        let seen = self.seen();
+        self.fresh = next_fresh(&self.place, seen, &told);
+        self.turns = next_turns(&self.place, seen, &told);
+        go_on(&mut self.place, seen, told);
+    }
+
     /// Hands out the pass, and the values that the next act uses.
+    #[inline(always)]
     pub fn give(&mut self) -> Load<T, Q>
         requires { IsSome self.old.pass }
         ensures pass { self.old.pass ≡ Some result.pass }
@@ -129,13 +144,13 @@ impl<T, Q> Driver<T, Q> {
         ensures left { self.new ≡ record self.old { pass = None; hand = unused (next_act self.old) self.old.hand } }
     {
         let act = self.next();
-        let hand = self.hand.take_used(&act);
         let pass = self.pass.take().unwrap();
-        Load::of(self.run, pass, hand)
+        self.hand.take_used(self.run, pass, &act)
     }
 
     /// Takes back the pass and what the act left or was answered, is told what came of the act, and goes on to the next place, where
     /// it must hold what that place says.
+    #[inline(always)]
     pub fn got(&mut self, load: Load<T, Q>, told: Told)
         requires out { IsNone self.old.pass }
         requires run { IsOfRun self.old.run load }
@@ -143,13 +158,8 @@ impl<T, Q> Driver<T, Q> {
         requires fits { Fits (after (record self.old { hand = joined (parts_of load) self.old.hand }) told).place (joined (parts_of load) self.old.hand) }
         ensures { self.new ≡ after (record self.old { pass = Some load.pass; hand = joined (parts_of load) self.old.hand }) told }
     {
-        let (pass, came) = load.open();
-        self.hand.join(came);
-        let seen = Seen::of(self.procs, self.fresh, self.turns, &self.hand);
-        let here = mem::replace(&mut self.place, Place::Done);
-        self.fresh = next_fresh(&here, seen, &told);
-        self.turns = next_turns(&here, seen, &told);
-        self.place = next_place(here, seen, told);
+        let pass = self.hand.take_back(load);
+        self.tell(told);
         fill(&mut self.pass, pass);
     }
 }

@@ -1,10 +1,14 @@
 //! What an act is handed, and what comes back of it.
 ghost use Rattle.std.specs.Prelude.{◌≡◌};
+ghost use Rattle.std.specs.Option.{option_map};
 ghost use Rattle.gmp_base.specs.Values.{readiness_of};
+ghost use Rattle.gmp_driver.specs.Registers.{AreApart, but, joined, nothing, only, unused, used};
 ghost use Rattle.gmp_driver.specs.Loads.{called_of, called_parts, held_of, held_parts, load_of, parts_of, proc_of, proc_parts, ticket_of};
 
-use crate::registers::{CalledParts, HeldParts, ProcParts, Registers};
+use crate::act::{Act, Value};
+use crate::registers::{CalledParts, HeldParts, ProcParts, Registers, fill_if};
 use gmp_base::{Called, Held, Pass, Proc, Readiness, Ticket};
+use gmp_seq::Call;
 
 /// The pass, and the values that an act uses; afterwards those that it left, or was answered. `fill` adds a value.
 pub struct Load<T, Q> {
@@ -17,31 +21,66 @@ pub struct Load<T, Q> {
 }
 
 impl<T, Q> Load<T, Q> {
-    /// The values of this run, from their parts.
-    pub(crate) fn of(run: u64, pass: Pass, hand: Registers<T, Q>) -> Self
-        ensures { result ≡ load_of run pass hand }
+    /// The pass alone.
+    fn of_pass(pass: Pass) -> Self
+        ensures { result ≡ load_of 0 pass nothing }
     {
-        let Registers {
-            processor,
-            held,
-            called,
-            to_claim,
-            to_store,
-        } = hand;
         Load {
             pass,
-            held: held.map(|parts| parts.wrap(run)),
-            called: called.map(|parts| parts.wrap(run)),
-            to_claim: to_claim.map(|r| ticket(run, r)),
-            to_store: to_store.map(|r| ticket(run, r)),
-            proc: processor.map(|parts| parts.wrap(run)),
+            held: None,
+            called: None,
+            to_claim: None,
+            to_store: None,
+            proc: None,
         }
     }
+}
 
-    /// The pass, and the parts of the values.
-    pub(crate) fn open(self) -> (Pass, Registers<T, Q>)
-        ensures pass { result.0 ≡ self.pass }
-        ensures parts { result.1 ≡ parts_of self }
+impl<T, Q> Registers<T, Q> {
+    /// Takes this value out, of this run, beside the pass.
+    // Each value moves once, from its register into its place.
+    #[inline(always)]
+    fn take_one(&mut self, run: u64, pass: Pass, which: Option<Value>) -> Load<T, Q>
+        ensures taken { result ≡ load_of run pass (only which self.old) }
+        ensures left { self.new ≡ but which self.old }
+    {
+        let mut load = Load::of_pass(pass);
+        match which {
+            Some(Value::Held) => fill_if(&mut load.held, HeldParts::wrap(self.held.take(), run)),
+            Some(Value::Called) => {
+                fill_if(&mut load.called, CalledParts::wrap(self.called.take(), run));
+            }
+            Some(Value::ToClaim) => fill_if(&mut load.to_claim, ticket(run, self.to_claim.take())),
+            Some(Value::ToStore) => fill_if(&mut load.to_store, ticket(run, self.to_store.take())),
+            Some(Value::Proc) => fill_if(
+                &mut load.proc,
+                ProcParts::wrap(self.processor.take(), run),
+            ),
+            None => {}
+        }
+        load
+    }
+
+    /// Takes out what an act uses, of this run, beside the pass.
+    #[inline(always)]
+    pub(crate) fn take_used(&mut self, run: u64, pass: Pass, act: &Act) -> Load<T, Q>
+        ensures used { result ≡ load_of run pass (used act.now self.old) }
+        ensures left { self.new ≡ unused act.now self.old }
+    {
+        let which = self.one_used(act);
+        let mut load = self.take_one(run, pass, which);
+        if matches!(act, Act::Push | Act::Call(Call::Enter)) {
+            fill_if(&mut load.proc, ProcParts::wrap(self.processor.take(), run));
+        }
+        load
+    }
+
+    /// Puts what came into its registers, and answers the pass.
+    #[inline(always)]
+    pub(crate) fn take_back(&mut self, load: Load<T, Q>) -> Pass
+        requires { AreApart self.old (parts_of load) }
+        ensures hand { self.new ≡ joined (parts_of load) self.old }
+        ensures pass { result ≡ load.pass }
     {
         let Load {
             pass,
@@ -50,77 +89,90 @@ impl<T, Q> Load<T, Q> {
             to_claim,
             to_store,
             proc,
-        } = self;
-        let hand = Registers {
-            processor: proc.map(|proc| ProcParts::of(proc)),
-            held: held.map(|held| HeldParts::of(held)),
-            called: called.map(|called| CalledParts::of(called)),
-            to_claim: to_claim.map(|ticket| spent(ticket)),
-            to_store: to_store.map(|ticket| spent(ticket)),
-        };
-        (pass, hand)
+        } = load;
+        fill_if(&mut self.processor, ProcParts::of(proc));
+        fill_if(&mut self.held, HeldParts::of(held));
+        fill_if(&mut self.called, CalledParts::of(called));
+        fill_if(&mut self.to_claim, spent(to_claim));
+        fill_if(&mut self.to_store, spent(to_store));
+        pass
     }
 }
 
 impl<T> HeldParts<T> {
-    fn of(held: Held<T>) -> Self
-        ensures { result ≡ held_parts held }
+    /// The parts of a goroutine, where there is one.
+    #[inline(always)]
+    fn of(held: Option<Held<T>>) -> Option<Self>
+        ensures { result ≡ option_map held_parts held }
     {
-        let (_, g, woke, body) = held.open();
-        HeldParts { g, woke, body }
+        let (_, g, woke, body) = held?.open();
+        Some(HeldParts { g, woke, body })
     }
 
-    fn wrap(self, run: u64) -> Held<T>
-        ensures { result ≡ held_of run self }
+    /// The goroutine of these parts, where there are some.
+    #[inline(always)]
+    fn wrap(parts: Option<Self>, run: u64) -> Option<Held<T>>
+        ensures { result ≡ option_map (held_of run) parts }
     {
-        let HeldParts { g, woke, body } = self;
-        Held::of(run, g, woke, body)
+        let HeldParts { g, woke, body } = parts?;
+        Some(Held::of(run, g, woke, body))
     }
 }
 
 impl<T> CalledParts<T> {
-    fn of(called: Called<T>) -> Self
-        ensures { result ≡ called_parts called }
+    /// The parts of a goroutine in its blocking call, where there is one.
+    #[inline(always)]
+    fn of(called: Option<Called<T>>) -> Option<Self>
+        ensures { result ≡ option_map called_parts called }
     {
-        let (_, g, body) = called.open();
-        CalledParts { g, body }
+        let (_, g, body) = called?.open();
+        Some(CalledParts { g, body })
     }
 
-    fn wrap(self, run: u64) -> Called<T>
-        ensures { result ≡ called_of run self }
+    /// The goroutine of these parts, where there are some.
+    #[inline(always)]
+    fn wrap(parts: Option<Self>, run: u64) -> Option<Called<T>>
+        ensures { result ≡ option_map (called_of run) parts }
     {
-        let CalledParts { g, body } = self;
-        Called::of(run, g, body)
+        let CalledParts { g, body } = parts?;
+        Some(Called::of(run, g, body))
     }
 }
 
 impl<Q> ProcParts<Q> {
-    fn of(proc: Proc<Q>) -> Self
-        ensures { result ≡ proc_parts proc }
+    /// The parts of a processor, where there is one.
+    #[inline(always)]
+    fn of(proc: Option<Proc<Q>>) -> Option<Self>
+        ensures { result ≡ option_map proc_parts proc }
     {
-        let (_, p, owner) = proc.open();
-        ProcParts { p, owner }
+        let (_, p, owner) = proc?.open();
+        Some(ProcParts { p, owner })
     }
 
-    fn wrap(self, run: u64) -> Proc<Q>
-        ensures { result ≡ proc_of run self }
+    /// The processor of these parts, where there are some.
+    #[inline(always)]
+    fn wrap(parts: Option<Self>, run: u64) -> Option<Proc<Q>>
+        ensures { result ≡ option_map (proc_of run) parts }
     {
-        let ProcParts { p, owner } = self;
-        Proc::of(run, p, owner)
+        let ProcParts { p, owner } = parts?;
+        Some(Proc::of(run, p, owner))
     }
 }
 
-/// The ticket of a readiness.
-fn ticket(run: u64, readiness: Readiness) -> Ticket
-    ensures { result ≡ ticket_of run readiness }
+/// The ticket of a readiness, where there is one.
+#[inline(always)]
+fn ticket(run: u64, readiness: Option<Readiness>) -> Option<Ticket>
+    ensures { result ≡ option_map (ticket_of run) readiness }
 {
-    Ticket::of(run, readiness.g, readiness.epoch)
+    let r = readiness?;
+    Some(Ticket::of(run, r.g, r.epoch))
 }
 
-/// The readiness of a ticket, which is spent.
-fn spent(ticket: Ticket) -> Readiness
-    ensures { result ≡ readiness_of ticket }
+/// The readiness of a ticket, where there is one, which is spent.
+#[inline(always)]
+fn spent(ticket: Option<Ticket>) -> Option<Readiness>
+    ensures { result ≡ option_map readiness_of ticket }
 {
-    let (_, g, epoch) = ticket.open();
-    Readiness { g, epoch }
+    let (_, g, epoch) = ticket?.open();
+    Some(Readiness { g, epoch })
 }

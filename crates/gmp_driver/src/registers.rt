@@ -2,13 +2,12 @@
 ghost use Rattle.std.specs.Prelude.{◌≡◌, ◌⊎◌, IsNone, Some};
 ghost use Rattle.std.specs.Borrow.{sem};
 ghost use Rattle.std.specs.Option.{option_copied_mut};
-ghost use Rattle.gmp_driver.specs.Registers.{AreApart, but, first_of, first_value, joined, nothing, one_used, only, unused, used};
+ghost use Rattle.gmp_driver.specs.Registers.{first_of, first_value, nothing, one_used};
 
 use crate::act::{Act, Value};
 use crate::place::Place;
 use gmp_base::{GNo, PNo, Readiness, Woke};
 use gmp_seq::Call;
-use std::mem;
 
 /// A processor that the machine holds, with its owner.
 #[derive(Drop)]
@@ -43,6 +42,7 @@ pub struct Registers<T, Q> {
 }
 
 /// Puts a value into its register, which is empty.
+#[inline(always)]
 pub fn fill<X>(register: &mut Option<X>, value: X)
     requires { IsNone register.old }
     ensures { register.new ≡ Some value }
@@ -54,7 +54,8 @@ pub fn fill<X>(register: &mut Option<X>, value: X)
 }
 
 /// Puts a value, where there is one, into its register, which is empty then.
-fn fill_if<X>(register: &mut Option<X>, value: Option<X>)
+#[inline(always)]
+pub(crate) fn fill_if<X>(register: &mut Option<X>, value: Option<X>)
     requires { IsNone register.old ⊎ IsNone value }
     ensures { register.new ≡ first_of value register.old }
 {
@@ -98,25 +99,9 @@ impl<T, Q> Registers<T, Q> {
         }
     }
 
-    /// Takes this value out.
-    fn take_one(&mut self, which: Option<Value>) -> Self
-        ensures taken { result ≡ only which self.old }
-        ensures left { self.new ≡ but which self.old }
-    {
-        let mut taken = Registers::empty();
-        match which {
-            Some(Value::Held) => mem::swap(&mut taken.held, &mut self.held),
-            Some(Value::Called) => mem::swap(&mut taken.called, &mut self.called),
-            Some(Value::ToClaim) => mem::swap(&mut taken.to_claim, &mut self.to_claim),
-            Some(Value::ToStore) => mem::swap(&mut taken.to_store, &mut self.to_store),
-            Some(Value::Proc) => mem::swap(&mut taken.processor, &mut self.processor),
-            None => {}
-        }
-        taken
-    }
-
     /// Which value an act uses, beside the processor.
-    fn one_used(&self, act: &Act) -> Option<Value>
+    #[inline(always)]
+    pub(crate) fn one_used(&self, act: &Act) -> Option<Value>
         ensures { result ≡ one_used act.now self.now }
     {
         match act {
@@ -146,38 +131,6 @@ impl<T, Q> Registers<T, Q> {
             Act::Surrender(which) => *which,
             _ => None,
         }
-    }
-
-    /// Takes out what an act uses.
-    pub(crate) fn take_used(&mut self, act: &Act) -> Self
-        ensures used { result ≡ used act.now self.old }
-        ensures left { self.new ≡ unused act.now self.old }
-    {
-        let which = self.one_used(act);
-        let mut taken = self.take_one(which);
-        if matches!(act, Act::Push | Act::Call(Call::Enter)) {
-            mem::swap(&mut taken.processor, &mut self.processor);
-        }
-        taken
-    }
-
-    /// Puts what came into its registers.
-    pub(crate) fn join(&mut self, came: Self)
-        requires { AreApart self.old came }
-        ensures { self.new ≡ joined came self.old }
-    {
-        let Registers {
-            processor,
-            held,
-            called,
-            to_claim,
-            to_store,
-        } = came;
-        fill_if(&mut self.processor, processor);
-        fill_if(&mut self.held, held);
-        fill_if(&mut self.called, called);
-        fill_if(&mut self.to_claim, to_claim);
-        fill_if(&mut self.to_store, to_store);
     }
 
     /// Lends the body that is in hand at this place.

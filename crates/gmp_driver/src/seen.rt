@@ -24,6 +24,7 @@ pub struct Seen {
 }
 
 impl Seen {
+    #[inline(always)]
     pub(crate) fn of<T, Q>(procs: u8, fresh: bool, turns: u8, hand: &Registers<T, Q>) -> Self
         ensures { result ≡ seen_of procs fresh turns hand.now }
     {

@@ -11,6 +11,7 @@ use gmp_base::{Ask, PNo, Readiness, Refusal};
 use gmp_seq::{Call, Reply};
 
 /// The call that stands for an ask.
+#[inline(always)]
 fn call_for(ask: &Ask) -> Call
     ensures { result ≡ table.call_for ask.now }
 {
@@ -37,6 +38,7 @@ fn call_for(ask: &Ask) -> Call
 }
 
 /// Puts this ticket onto the shelf.
+#[inline(always)]
 fn put_call(ticket: Option<Readiness>) -> Act
     ensures { result ≡ table.put_call ticket }
 {
@@ -47,6 +49,7 @@ fn put_call(ticket: Option<Readiness>) -> Act
 }
 
 /// Claims this ticket.
+#[inline(always)]
 fn claim_call(ticket: Option<Readiness>) -> Act
     ensures { result ≡ table.claim_call ticket }
 {
@@ -57,6 +60,7 @@ fn claim_call(ticket: Option<Readiness>) -> Act
 }
 
 /// The act at each place.
+#[inline(always)]
 pub(crate) fn act_at(here: &Place, seen: Seen) -> Act
     requires { 1 ≤ seen.procs }
     ensures { result ≡ table.act_at seen here.now }
@@ -98,6 +102,7 @@ pub(crate) fn act_at(here: &Place, seen: Seen) -> Act
 }
 
 /// Where a call of the body leads.
+#[inline(always)]
 fn after_ask(reply: Reply) -> Place
     ensures { result ≡ table.after_ask reply }
 {
@@ -122,11 +127,12 @@ fn scanned(procs: u8, v: PNo) -> Place
     }
 }
 
-/// Where the machine stands after this reply.
-fn after_call(here: Place, seen: Seen, reply: Reply) -> Place
-    ensures { result ≡ table.next_place seen here (Told.Replied reply) }
+/// Goes where this reply leads.
+#[inline(always)]
+fn go_on_by(here: &mut Place, seen: Seen, reply: Reply)
+    ensures { here.new ≡ table.next_place seen here.old (Told.Replied reply) }
 {
-    match (here, reply) {
+    let there = match (&*here, reply) {
         (Place::Start, Reply::Proc(_)) => Place::Look,
         (Place::Start, Reply::Nothing) => Place::Bare,
         (Place::Ticking(_), Reply::Woke(_)) => Place::Look,
@@ -135,7 +141,7 @@ fn after_call(here: Place, seen: Seen, reply: Reply) -> Place
         (Place::Global, Reply::Nothing) => Place::Spin,
         (Place::Spin, Reply::Answer(true)) => Place::Hunt(None),
         (Place::Spin, Reply::Answer(false)) => Place::Drop,
-        (Place::PutMore(v, goal), Reply::Shelf) => more(v, goal),
+        (Place::PutMore(v, goal), Reply::Shelf) => more(*v, *goal),
         (Place::Unspin, Reply::Done) if seen.to_claim.is_some() => Place::Claim,
         (Place::Unspin, Reply::Done) => Place::Drop,
         (Place::Claim, Reply::Wakes(_) | Reply::Nothing) => Place::Claim,
@@ -157,46 +163,50 @@ fn after_call(here: Place, seen: Seen, reply: Reply) -> Place
         (Place::Rest, Reply::Answer(true)) => Place::Start,
         (Place::Rest, Reply::Answer(false)) => Place::Rest,
         (Place::MindTick(_), Reply::Woke(_)) => Place::Start,
-        (here, _) => here,
-    }
+        (_, _) => return,
+    };
+    *here = there;
 }
 
-/// Where the machine stands after what came of its act.
-pub(crate) fn next_place(here: Place, seen: Seen, told: Told) -> Place
+/// Goes where what came of the act leads.
+#[inline(always)]
+pub(crate) fn go_on(here: &mut Place, seen: Seen, told: Told)
     requires { 1 ≤ seen.procs }
-    ensures { result ≡ table.next_place seen here told }
+    ensures { here.new ≡ table.next_place seen here.old told }
 {
-    match (here, told) {
+    let there = match (&*here, told) {
         (_, Told::Refused(Refusal::Over)) => Place::Over,
-        (here, Told::Replied(reply)) => after_call(here, seen, reply),
+        (_, Told::Replied(reply)) => return go_on_by(here, seen, reply),
         (Place::Look, Told::Moment(now)) => Place::Ticking(now),
         (Place::Look, Told::Got) => Place::Claim,
         (Place::Look, Told::Empty) => Place::Global,
         (Place::Hunt(None), Told::Drew(word, tried)) => seen.hunted(seen.begin(word), tried),
-        (Place::Hunt(Some(round)), Told::Tried(tried)) => seen.hunted(round, tried),
+        (Place::Hunt(Some(round)), Told::Tried(tried)) => seen.hunted(*round, tried),
         (Place::More(v, goal), Told::Tried(Tried::Got(_))) => Place::StoreMore(
-            v,
+            *v,
             goal.saturating_sub(1),
         ),
         (Place::More(_, _), Told::Tried(_)) => Place::Unspin,
-        (Place::StoreMore(v, goal), Told::Pushed) => more(v, goal),
-        (Place::StoreMore(v, goal), Told::PushRefused) => Place::PutMore(v, goal),
+        (Place::StoreMore(v, goal), Told::Pushed) => more(*v, *goal),
+        (Place::StoreMore(v, goal), Told::PushRefused) => Place::PutMore(*v, *goal),
         (Place::Run, Told::Asked(ask)) => Place::Do(ask),
         (Place::Do(Ask::Make(_)), Told::Refused(Refusal::OutOfMemory)) => Place::Run,
         (Place::Store, Told::Pushed) => Place::Poke,
         (Place::Store, Told::PushRefused) => Place::PutStore,
         (Place::Block, Told::Number(number)) => Place::Leave(number),
         (Place::Scan(_), Told::Tried(Tried::Got(_))) => Place::Have,
-        (Place::Scan(v), Told::Tried(Tried::Empty)) => scanned(seen.procs, v),
-        (Place::Scan(v), Told::Tried(Tried::Unsure)) => Place::Scan(v),
+        (Place::Scan(v), Told::Tried(Tried::Empty)) => scanned(seen.procs, *v),
+        (Place::Scan(v), Told::Tried(Tried::Unsure)) => Place::Scan(*v),
         (Place::Mind(_), Told::Moment(now)) => Place::MindTick(now),
         (Place::Over, Told::Surrendered) => Place::Over,
         (Place::Over, Told::Nothing) => Place::Done,
-        (here, _) => here,
-    }
+        (_, _) => return,
+    };
+    *here = there;
 }
 
 /// Whether another machine is to be woken for what this one found.
+#[inline(always)]
 pub(crate) fn next_fresh(here: &Place, seen: Seen, told: &Told) -> bool
     ensures { result ≡ table.next_fresh seen here.now told.now }
 {
@@ -213,6 +223,7 @@ pub(crate) fn next_fresh(here: &Place, seen: Seen, told: &Told) -> bool
 }
 
 /// Claims since the last tick, up to 16.
+#[inline(always)]
 pub(crate) fn next_turns(here: &Place, seen: Seen, told: &Told) -> u8
     requires { seen.turns ≤ 16 }
     ensures turns { result ≡ table.next_turns seen here.now told.now }
