@@ -11,7 +11,7 @@ mod rounds;
 
 use anyhow::{Result, ensure};
 use gmp_check::outcome_of;
-use gmp_seq::Outcome;
+use gmp_seq::{MOST_BODIES, MOST_PROCS, Outcome};
 use std::time::Instant;
 
 /// A number from low to high: the word's, or the usual one where there is no word.
@@ -35,8 +35,8 @@ fn main(rt: HostRuntime) -> Result<()> {
         return Ok(());
     };
     let count: u32 = word.as_str().parse()?;
-    let goroutines = number(words.next(), 64, 3, 4_096)?;
-    let procs = number(words.next(), 2, 2, 32)? as u8;
+    let goroutines = number(words.next(), 64, 3, MOST_BODIES as u16)?;
+    let procs = number(words.next(), 2, 2, MOST_PROCS as u16)? as u8;
     let entries = rounds::history(rt.alloc(), count, goroutines, procs)?;
     let limits = rounds::limits(count, procs);
     let start = Instant::now(&rt)?;

@@ -4,14 +4,12 @@ ghost use Rattle.std.specs.Prelude.{◌≤◌};
 use crate::history::History;
 use crate::round::{FIRST, MAIN, SECOND, SPARE, Turn, close, play, wait_for_jobs};
 use gmp_base::{CNo, GNo, MNo, PNo};
-use gmp_seq::{Call, Entry, Limits, Reply};
+use gmp_seq::{Call, Entry, Limits, MOST_CHANNELS, Reply};
 use std::alloc::{AllocError, Global};
 
 const PROCS: u8 = 2;
 
 const MACHINES: u8 = 3;
-
-const MOST_CHANNELS: u16 = 1_024;
 
 /// A channel is made and closed each time that so many rounds are over.
 const ROUNDS_BETWEEN: u32 = 32;

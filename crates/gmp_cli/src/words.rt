@@ -11,6 +11,7 @@ use crate::options::{Settings, Task};
 use crate::said::Said;
 use clap::Command;
 use clap::error::ErrorKind;
+use gmp_seq::{LEAST_ENTRIES, MOST_CHANNELS, MOST_ENTRIES, MOST_MACHINES, MOST_PROCS};
 use std::alloc::{AllocError, Global};
 
 const PROCS: Numeric = Numeric {
@@ -18,7 +19,7 @@ const PROCS: Numeric = Numeric {
     option: "--procs",
     help: "Processors, 1 to 32 [default: 1]",
     least: 1,
-    most: 32,
+    most: MOST_PROCS as u64,
     default: 1,
 };
 
@@ -27,7 +28,7 @@ const MACHINES: Numeric = Numeric {
     option: "--machines",
     help: "Machines, 1 to 64 [default: 1]",
     least: 1,
-    most: 64,
+    most: MOST_MACHINES as u64,
     default: 1,
 };
 
@@ -36,7 +37,7 @@ const CHANNELS: Numeric = Numeric {
     option: "--channels",
     help: "The most channels, 0 to 1024 [default: 16]",
     least: 0,
-    most: 1024,
+    most: MOST_CHANNELS as u64,
     default: 16,
 };
 
@@ -44,8 +45,8 @@ const ENTRIES: Numeric = Numeric {
     id: "entries",
     option: "--entries",
     help: "The most entries, 16 to 1000000 [default: 10000]",
-    least: 16,
-    most: 1_000_000,
+    least: LEAST_ENTRIES as u64,
+    most: MOST_ENTRIES as u64,
     default: 10_000,
 };
 
