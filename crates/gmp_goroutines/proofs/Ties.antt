@@ -90,8 +90,8 @@ module _ {t : Table} {records : List Waiter} {bodies : ℕ} {runners : List GNo}
   readied_kept g s y new was parked idle is =
       let w = parked_waits s parked in
       offered_kept g y new (λ v o at within.
-        let it : w.0 ≡ v = cc in
-        rw (ap (λ (u : Wait). u.offers) (sym it) ∙ tied.bare g w.0 (was ∙ ap Some w.1) w.2) at within) idle is
+      let it : w.0 ≡ v = cc in
+      rw (ap (λ (u : Wait). u.offers) (sym it) ∙ tied.bare g w.0 (was ∙ ap Some w.1) w.2) at within) idle is
 
   -- machine m ran none, and runs it from now on
   pub claimed_kept : (m : MNo) (g : GNo) (s : Status) (e : ℕ) (new : Table) → status_at t g ≡ Some s → is_waiting s ≡ false → RunsNothing t m → m.0 < length runners
