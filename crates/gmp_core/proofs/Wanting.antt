@@ -1,5 +1,5 @@
 -- What an act reads, and what is in hand.
-use Rattle.std.proofs.Common.{◌≡◌, Bool, true, false, if◌then◌else◌, refl, sym, ap, ◌∙◌, Option, None, Some, is_some}
+use Rattle.std.proofs.Common.{◌≡◌, Bool, true, false, if◌then◌else◌, refl, sym, ap, Option, None, Some, is_some}
 use Rattle.std.specs.List.{slice_get}
 use Rattle.gmp_base.specs.declared.number.MNo.{MNo}
 use Rattle.gmp_base.specs.declared.number.Readiness.{Readiness}
@@ -14,7 +14,7 @@ use Rattle.gmp_driver.specs.Fits.{Fits}
 use Rattle.gmp_driver.specs.Machine.{Machine, held_at}
 use Rattle.gmp_driver.specs.Seen.{seen}
 use Rattle.gmp_driver.specs.Table.{act_at, claim_call, next_act, put_call}
-use Rattle.gmp_acts.specs.Hands.{PlainMachine, plain_machine}
+use Rattle.gmp_acts.specs.Hands.{plain_machine}
 use Rattle.gmp_acts.specs.System.{machine_at}
 use Rattle.gmp_core.specs.Inside.{IsCore, Parts, system_of}
 use Rattle.gmp_core.specs.Whole.{is_of_body, wanted_by}

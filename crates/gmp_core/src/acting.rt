@@ -17,6 +17,7 @@ use gmp_turn::{surrender, turn};
 use std::alloc::Global;
 
 /// Makes the act that machine m's program names next, and answers the call that the book accepted, if it was one.
+#[inline(always)]
 pub(crate) fn act<T>(
     alloc: Global,
     driver: &mut Driver<T, ()>,

@@ -15,6 +15,7 @@ pub(crate) fn has_few(ask: &Ask)
 }
 
 /// The same ask once more.
+#[inline(always)]
 pub(crate) fn copied_ask(ask: &Ask) -> Ask
     ensures { result ≡ ask.now }
 {
@@ -37,6 +38,7 @@ pub(crate) fn copied_ask(ask: &Ask) -> Ask
 }
 
 /// The same call once more.
+#[inline(always)]
 pub(crate) fn copied_call(call: &Call) -> Call
     ensures { result ≡ call.now }
 {

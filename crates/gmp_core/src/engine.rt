@@ -48,6 +48,8 @@ impl<T> Model for Core<T> {
 }
 
 /// What an act reads of a choice.
+// Inlined, here and in the other files: of an act whose kind is known its own arms alone are left.
+#[inline(always)]
 fn wanted(act: Act) -> Want
     ensures { result ≡ wanted_by act }
 {
@@ -60,6 +62,7 @@ fn wanted(act: Act) -> Want
 }
 
 /// Adds a call that was made.
+#[inline(always)]
 fn note(calls: &mut Vec<Made>, made: Option<Made>)
     requires room { IfSome made (λ _. length calls.old.items < vec_capacity calls.old) }
     ensures calls { calls.new.items ≡ with_made calls.old.items made }
@@ -127,6 +130,7 @@ impl<T> Core<T> {
     }
 
     /// One act of machine m, which the place of its program names. An act of a machine that isn't there changes nothing.
+    #[inline(always)]
     pub fn act(&mut self, m: MNo, choice: &Choice)
         ensures acts { Acts self.old.system m choice.now self.new.system }
         ensures stock { self.new.stock ≡ self.old.stock }
