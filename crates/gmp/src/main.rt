@@ -1,7 +1,7 @@
-//! The program `gmp`: runs scripts of goroutines, and prints what was done.
+//! The program `gmp`: runs scripts of goroutines and prints what was done, and checks what was printed.
 #![tactic(auto)]
 
-use gmp_cli::{Ended, Task, settings, step};
+use gmp_cli::{Ended, Task, check, settings, step};
 use std::io;
 use std::process::ExitCode;
 
@@ -25,6 +25,7 @@ fn main(rt: HostRuntime) -> io::Result<ExitCode> {
         Err(ended) => ended,
         Ok(settings) => match settings.task {
             Task::Step => step(alloc, &settings, &mut rt.reader(), &mut io::writer(&rt)),
+            Task::Check => check(alloc, &mut rt.reader(), &mut io::writer(&rt)),
         },
     };
     Ok(finish(&rt, &ended))

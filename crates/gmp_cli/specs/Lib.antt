@@ -4,3 +4,4 @@ pub mod Words
 pub mod Plays
 pub mod Staged
 pub mod Step
+pub mod Check

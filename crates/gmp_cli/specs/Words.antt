@@ -1,7 +1,19 @@
--- The options among the words of a command line.
-use Rattle.std.specs.Prelude.{ℕ, ◌+◌, Bool, ◌&&◌, ◌==◌, nat_lt, List, [], ◌∷◌, drop, take, length, slice_index, Option, Some, None, if◌then◌else◌}
+-- The command and the options among the words of a command line.
+use Rattle.std.specs.Prelude.{ℕ, ◌+◌, Bool, false, codes, slice_get, ◌&&◌, ◌==◌, nat_lt, List, [], ◌∷◌, drop, take, length, slice_index, Option, Some, None, if◌then◌else◌}
 use Rattle.std.specs.Str.{bytes_eq}
+use Rattle.std.specs.Option.{option_map_or}
 use Rattle.gmp_script.specs.Numbers.{number_of}
+use Rattle.gmp_cli.specs.declared.options.Task.{Task}
+use Rattle.gmp_cli.specs.declared.options.Task.TheVariants as task
+
+-- the word for what is to be done
+abbrev pub name_of : Task → List ℕ
+name_of task.Step = codes "step"
+name_of task.Check = codes "check"
+
+-- the word behind the program's name is this task's
+abbrev pub is_named : {W : Type 0} → (W → List ℕ) → List W → Task → Bool
+is_named text words task = option_map_or (λ word. bytes_eq (text word) (name_of task)) (slice_get words 1) false
 
 -- the word is the option with its value behind a `=`
 abbrev pub has_value : List ℕ → List ℕ → Bool

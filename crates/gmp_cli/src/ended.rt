@@ -5,7 +5,7 @@ ghost use Rattle.gmp_cli.specs.Step.{status_of};
 ghost use Rattle.gmp_cli.specs.Said.{goes_with};
 
 use crate::said::Said;
-use gmp_trace::End;
+use gmp_trace::{Bad, End, Why, WriteError};
 use std::alloc::AllocError;
 
 /// The exit status, and what is said: a status goes only with what it stands for.
@@ -40,6 +40,17 @@ impl Ended {
         }
     }
 
+    /// The trace that was read is right, and its summary was written.
+    pub fn passed() -> Self
+        ensures status { result.status ≡ 0 }
+        ensures said { result.said ≡ Said.Nothing }
+    {
+        Ended {
+            status: 0,
+            said: Said::Nothing,
+        }
+    }
+
     /// The script's line, numbered from 1, is bad.
     pub fn bad_line(line: u64) -> Self
         ensures status { result.status ≡ 1 }
@@ -48,6 +59,17 @@ impl Ended {
         Ended {
             status: 1,
             said: Said::BadLine(line),
+        }
+    }
+
+    /// The first bad line of the trace.
+    pub fn bad_trace(bad: Bad) -> Self
+        ensures status { result.status ≡ 1 }
+        ensures said { result.said ≡ Said.BadTrace bad }
+    {
+        Ended {
+            status: 1,
+            said: Said::BadTrace(bad),
         }
     }
 
@@ -136,5 +158,33 @@ impl From<AllocError> for Ended {
 
     fn from(_error: AllocError) -> Self {
         Ended::out_of_memory()
+    }
+}
+
+impl From<Bad> for Ended {
+    ghost use Rattle.std.specs.Prelude.{◌≡◌};
+    ghost use Rattle.gmp_cli.specs.Said.{said_for};
+
+    ghost from_gives = { λ bad e. e.said ≡ said_for bad.why bad };
+
+    fn from(bad: Bad) -> Self {
+        match bad.why {
+            Why::OutOfMemory => Ended::out_of_memory(),
+            _ => Ended::bad_trace(bad),
+        }
+    }
+}
+
+impl From<WriteError> for Ended {
+    ghost use Rattle.std.specs.Prelude.{◌≡◌};
+    ghost use Rattle.gmp_cli.specs.Said.{said_of_write};
+
+    ghost from_gives = { λ error e. e.said ≡ said_of_write error };
+
+    fn from(error: WriteError) -> Self {
+        match error {
+            WriteError::Device => Ended::output_failed(),
+            WriteError::OutOfMemory => Ended::out_of_memory(),
+        }
     }
 }

@@ -1,6 +1,7 @@
 //! The program `gmp` as functions: its command line, its input, its runs of scripts, and how it ends.
 #![tactic(auto)]
 
+mod checking;
 mod clock;
 mod ended;
 mod numeric;
@@ -12,11 +13,12 @@ mod said;
 mod stepping;
 mod words;
 
+pub use checking::check;
 pub use ended::Ended;
 pub use gmp_script::{Command, Script, ScriptBody};
 pub use options::{Settings, Task};
 pub use parsing::script;
-pub use reading::{MAX_INPUT, input};
+pub use reading::{MAX_SCRIPT, MAX_TRACE, input};
 pub use said::Said;
 pub use stepping::step;
 pub use words::settings;

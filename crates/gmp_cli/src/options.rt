@@ -7,6 +7,8 @@ ghost use Rattle.std.specs.Prelude.{◌≤◌};
 pub enum Task {
     /// Runs a script in one thread, and prints the trace.
     Step,
+    /// Reads a trace, checks it, and prints its summary.
+    Check,
 }
 
 /// What the command line says: the task, and the number of each option.

@@ -6,7 +6,7 @@ ghost use Rattle.gmp_script.specs.Lines.{lines, IsScript, IsFirstBad};
 ghost use Rattle.gmp_cli.specs.declared.said.Said.TheVariants.{BadLine, InputTooLong};
 
 use crate::ended::Ended;
-use crate::reading::input;
+use crate::reading::{MAX_SCRIPT, input};
 use gmp_script::Script;
 use std::alloc::Global;
 use std::io::Read;
@@ -41,6 +41,6 @@ pub fn script<R: Read>(alloc: Global, reader: &mut R) -> Result<Script, Ended>
     ensures too_long { IfErr result (λ e. e.said ≡ InputTooLong
         → IfSome (R.remaining reader.old) (λ all. 1048576 < length all)) }
 {
-    let text = input(alloc, reader)?;
+    let text = input(alloc, reader, MAX_SCRIPT)?;
     parsed(alloc, &text)
 }

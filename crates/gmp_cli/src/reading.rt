@@ -8,19 +8,22 @@ use crate::ended::Ended;
 use std::alloc::Global;
 use std::io::{ErrorKind, Read};
 
-/// The most bytes that an input may have.
-pub const MAX_INPUT: usize = 1_048_576;
+/// The most bytes that a script may have.
+pub const MAX_SCRIPT: usize = 1_048_576;
 
-/// All that the reader has left, if that is no more than `MAX_INPUT` bytes.
+/// The most bytes that a trace may have.
+pub const MAX_TRACE: usize = 1_073_741_824;
+
+/// All that the reader has left, if that is no more than `most` bytes.
 ///
 /// A read that was interrupted is tried again. On an error the reader is somewhere within its input.
-pub fn input<R: Read>(alloc: Global, reader: &mut R) -> Result<Vec<u8>, Ended>
+pub fn input<R: Read>(alloc: Global, reader: &mut R, most: usize) -> Result<Vec<u8>, Ended>
     ensures whole { IfOk result (λ text. IfSome (R.remaining reader.old) (λ all. text.items ≡ all)) }
-    ensures short { IfOk result (λ text. length text.items ≤ 1048576) }
+    ensures short { IfOk result (λ text. length text.items ≤ most) }
 
     ensures kinds { IfErr result (λ e. is_of_input e.said ≡ true) }
     ensures too_long { IfErr result (λ e. e.said ≡ InputTooLong
-        → IfSome (R.remaining reader.old) (λ all. 1048576 < length all)) }
+        → IfSome (R.remaining reader.old) (λ all. most < length all)) }
 {
     let mut text = Vec::new(alloc);
     let mut chunk = [0u8; 4096];
@@ -28,7 +31,7 @@ pub fn input<R: Read>(alloc: Global, reader: &mut R) -> Result<Vec<u8>, Ended>
         match reader.read(&mut chunk) {
             Ok(0) => return Ok(text),
             Ok(n) => {
-                if text.len() + n > MAX_INPUT {
+                if n > most - text.len() {
                     return Err(Ended::too_long());
                 }
                 if text.extend_from_slice(&chunk[..n]).is_err() {

@@ -1,16 +1,19 @@
 //! What the program says at its end.
 
+use gmp_trace::Bad;
 use std::fmt;
 
-/// What is said at the end, besides the trace.
+/// What is said at the end, besides the trace or the summary.
 ///
 /// Its text, by `Display`, ends with a line feed. `Nothing` has no text.
 #[derive(Debug, Drop)]
 pub enum Said {
-    /// The trace was written.
+    /// The trace or the summary was written.
     Nothing,
     /// This line of the script is the first bad one, numbered from 1.
     BadLine(u64),
+    /// The first bad line of the trace.
+    BadTrace(Bad),
     InputTooLong,
     InputUnreadable,
     OutputFailed,
@@ -30,6 +33,7 @@ impl fmt::Display for Said {
         match self {
             Said::Nothing => Ok(()),
             Said::BadLine(line) => writeln!(f, "gmp: line {line}: bad script line"),
+            Said::BadTrace(bad) => writeln!(f, "gmp: {bad}"),
             Said::InputTooLong => f.write_str("gmp: input too long\n"),
             Said::InputUnreadable => f.write_str("gmp: input unreadable\n"),
             Said::OutputFailed => f.write_str("gmp: output failed\n"),

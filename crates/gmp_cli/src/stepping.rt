@@ -11,12 +11,12 @@ use crate::ended::Ended;
 use crate::options::Settings;
 use crate::parsing::script;
 use crate::playing::Player;
-use crate::reading::MAX_INPUT;
+use crate::reading::MAX_SCRIPT;
 use crate::said::Said;
 use gmp_base::Refusal;
 use gmp_script::Script;
 use gmp_seq::Limits;
-use gmp_trace::{End, TraceView, WriteError, write_view};
+use gmp_trace::{End, TraceView, write_view};
 use std::alloc::Global;
 use std::io::{Read, Write};
 
@@ -64,8 +64,7 @@ fn run<W: Write>(alloc: Global, settings: &Settings, script: Script, writer: &mu
     player.close();
     match written {
         Ok(()) => Ended::traced(end),
-        Err(WriteError::Device) => Ended::output_failed(),
-        Err(WriteError::OutOfMemory) => Ended::out_of_memory(),
+        Err(error) => Ended::from(error),
     }
 }
 
@@ -88,7 +87,7 @@ pub fn step<R: Read, W: Write>(
     ensures first { (line : ℕ) → result.said ≡ BadLine line
         → IfSome (R.remaining reader.old) (λ all. IsFirstBad (lines all) line) }
     ensures too_long { result.said ≡ InputTooLong
-        → IfSome (R.remaining reader.old) (λ all. MAX_INPUT < length all) }
+        → IfSome (R.remaining reader.old) (λ all. MAX_SCRIPT < length all) }
     ensures limits { result.said ≡ BadLimits
         → IfSome (R.remaining reader.old) (λ all. IsOutOfLimits (limits_of settings.now) all) }
 {

@@ -1,8 +1,8 @@
 //! Reads the words of the command line.
 
-ghost use Rattle.std.specs.Prelude.{◌≡◌, ◌≢◌, ◌⊎◌, ◌≤◌, string_bytes, codes, true, Some, IfOk, IfErr};
+ghost use Rattle.std.specs.Prelude.{◌≡◌, ◌≢◌, ◌⊎◌, ◌≤◌, string_bytes, codes, true, Some, IfOk, IfErr, IfSome};
 ghost use Rattle.gmp_cli.specs.Said.{is_of_words};
-ghost use Rattle.gmp_cli.specs.Words.{number_given};
+ghost use Rattle.gmp_cli.specs.Words.{is_named, number_given};
 ghost use Rattle.clap.specs.Values.{kind_of};
 
 use crate::ended::Ended;
@@ -77,9 +77,13 @@ fn command<'a>(alloc: Global) -> Result<Command<'a>, AllocError> {
         .arg(ENTRIES.arg(alloc))?
         .arg(WORD.arg(alloc))?
         .arg(ACTS.arg(alloc))?;
+    let check = Command::new(alloc, "check").about(
+        "Reads a trace, checks it and prints its summary",
+    );
     Command::new(alloc, "gmp")
         .subcommand_required(true)
-        .subcommand(step)
+        .subcommand(step)?
+        .subcommand(check)
 }
 
 /// What a refusal by `clap` ends with: its own text, and for help that was asked for status 0.
@@ -99,10 +103,23 @@ fn refused(alloc: Global, error: &clap::Error) -> Ended
     }
 }
 
+/// The task that the words name.
+fn task(words: &[String]) -> Option<Task>
+    ensures { IfSome result (λ task. is_named string_bytes words.now task ≡ true) }
+{
+    match words.get(1)?.as_bytes() {
+        b"step" => Some(Task::Step),
+        b"check" => Some(Task::Check),
+        _ => None,
+    }
+}
+
 /// What the command line says, the program's name first.
 ///
 /// A line that `clap` refuses ends with status 64 and its text, help that was asked for with 0.
 pub fn settings<'a>(alloc: Global, words: &'a [String]) -> Result<Settings, Ended>
+    ensures task { IfOk result (λ s. is_named string_bytes words.now s.task ≡ true) }
+
     ensures procs { IfOk result (λ s. (1 ≤ s.procs) × (s.procs ≤ 32)) }
     ensures machines { IfOk result (λ s. (1 ≤ s.machines) × (s.machines ≤ 64)) }
     ensures channels { IfOk result (λ s. s.channels ≤ 1024) }
@@ -123,6 +140,10 @@ pub fn settings<'a>(alloc: Global, words: &'a [String]) -> Result<Settings, Ende
     if let Err(error) = command.try_get_matches_from_mut(words) {
         return Err(refused(alloc, &error));
     }
+    let Some(task) = task(words) else {
+        let error = command.error(ErrorKind::InvalidSubcommand, "there is no such command")?;
+        return Err(refused(alloc, &error));
+    };
     let (Some(procs), Some(machines), Some(channels), Some(entries), Some(word), Some(acts)) = (
         PROCS.read(words),
         MACHINES.read(words),
@@ -138,7 +159,7 @@ pub fn settings<'a>(alloc: Global, words: &'a [String]) -> Result<Settings, Ende
         return Err(refused(alloc, &error));
     };
     Ok(Settings {
-        task: Task::Step,
+        task,
         procs: procs as u8,
         machines: machines as u8,
         channels: channels as u16,

@@ -1,50 +1,10 @@
-//! What is wrong with runs, limits, and readers and writers that fail.
+//! Large runs, and readers and writers that fail.
 use crate::tests::settings_of;
-use gmp_cli::{MAX_INPUT, Said, step};
+use gmp_cli::{MAX_SCRIPT, Said, check, step};
 use std::alloc::Global;
 use std::io;
 use std::io::{ErrorKind, Read, Write};
 use std::test::Fail;
-
-#[test]
-fn faults_come_in_order(rt: HostRuntime) -> Result<(), Fail> {
-    let alloc = rt.alloc();
-    for (line, script, status, text) in [
-        ("gmp step", "", 64, "gmp: bad limits\n"),
-        (
-            "gmp step",
-            "body\nsend 0",
-            1,
-            "gmp: line 2: bad script line\n",
-        ),
-        ("gmp step --procs 2", "body", 64, "gmp: bad limits\n"),
-        (
-            "gmp step --machines 2 --channels 0",
-            "chan 1\nbody",
-            64,
-            "gmp: bad limits\n",
-        ),
-        (
-            "gmp step --procs 2",
-            "body\nagain",
-            1,
-            "gmp: line 2: bad script line\n",
-        ),
-    ] {
-        let settings = settings_of(&rt, alloc, line)?;
-        let mut out = Vec::new(alloc);
-        let ended = step(alloc, &settings, &mut script.as_bytes(), &mut out);
-        assert_eq!(rt; ended.status, status, "{line}: {script}");
-        let said = &ended.said;
-        assert_eq!(rt;
-            format!(in alloc; "{said}")?.as_str(),
-            text,
-            "{line}: {script}"
-        );
-        assert!(rt; out.is_empty(), "{line}: {script}");
-    }
-    Ok(())
-}
 
 /// A script in which main starts all others, of so many bodies, yields and exits.
 fn stock(alloc: Global, bodies: usize) -> Result<Vec<u8>, Fail> {
@@ -176,6 +136,14 @@ impl Write for Counts {
     }
 }
 
+/// A trace, whose summary is of 58 bytes.
+const TRACE: &str = "gmp-trace 1
+limits procs 1 machines 1 bodies 1 channels 16 entries 10000
+caps
+0 0.0 acquire -> proc 0
+end running
+";
+
 #[test]
 fn input_may_fail(rt: HostRuntime) -> Result<(), Fail> {
     let alloc = rt.alloc();
@@ -190,9 +158,16 @@ fn input_may_fail(rt: HostRuntime) -> Result<(), Fail> {
         assert!(rt; matches!(ended.said, Said::InputUnreadable), "{text}");
         assert!(rt; out.is_empty(), "{text}");
     }
+    let mut out = Vec::new(alloc);
+    let mut reader = Broken {
+        text: TRACE.as_bytes(),
+    };
+    let ended = check(alloc, &mut reader, &mut out);
+    assert!(rt; matches!(ended.said, Said::InputUnreadable));
+    assert!(rt; out.is_empty());
     // Too long comes before the bad line in it.
     let mut out = Vec::new(alloc);
-    let text = vec![in alloc; b'x'; MAX_INPUT + 1]?;
+    let text = vec![in alloc; b'x'; MAX_SCRIPT + 1]?;
     let ended = step(alloc, &settings, &mut text.as_slice(), &mut out);
     assert!(rt; matches!(ended.said, Said::InputTooLong));
     Ok(())
@@ -213,6 +188,11 @@ fn output_may_fail(rt: HostRuntime) -> Result<(), Fail> {
         let ended = step(alloc, &settings, &mut &script[..], &mut writer);
         assert_eq!(rt; ended.status, 1, "{room}");
         assert!(rt; matches!(ended.said, Said::OutputFailed), "{room}");
+    }
+    for (room, status) in [(0, 1), (57, 1), (58, 0)] {
+        let mut writer = Counts::with_room(room);
+        let ended = check(alloc, &mut TRACE.as_bytes(), &mut writer);
+        assert_eq!(rt; ended.status, status, "{room}");
     }
     // Bad limits come before a failing output.
     let settings = settings_of(&rt, alloc, "gmp step --procs 2")?;

@@ -1,5 +1,6 @@
 //! The command line, the input, and how the program ends.
 use gmp_cli::{Ended, Said, Settings, input, settings};
+use gmp_trace::{Bad, Why};
 use std::alloc::Global;
 use std::io;
 use std::io::{ErrorKind, Read};
@@ -63,6 +64,9 @@ fn bad_lines_are_refused(rt: HostRuntime) -> Result<(), Fail> {
         ("gmp step --word=18446744073709551616", 64),
         ("gmp step --words 1", 64),
         ("gmp step extra", 64),
+        ("gmp check --procs 1", 64),
+        ("gmp check extra", 64),
+        ("gmp check --help", 0),
         ("gmp run", 64),
         ("gmp", 64),
         ("gmp --help", 0),
@@ -85,6 +89,14 @@ fn texts_are_those_asked_for(rt: HostRuntime) -> Result<(), Fail> {
     let usage = String::from_str(rt.alloc(), "error: no\n")?;
     for (ended, status, text) in [
         (Ended::bad_line(2), 1, "gmp: line 2: bad script line\n"),
+        (
+            Ended::bad_trace(Bad {
+                line: 8,
+                why: Why::Step,
+            }),
+            1,
+            "gmp: line 8: step\n",
+        ),
         (Ended::too_long(), 1, "gmp: input too long\n"),
         (Ended::unreadable(), 1, "gmp: input unreadable\n"),
         (Ended::output_failed(), 1, "gmp: output failed\n"),
@@ -132,7 +144,7 @@ fn input_is_read_whole(rt: HostRuntime) -> Result<(), Fail> {
             interrupted: false,
             reads_left: reads,
         };
-        match input(rt.alloc(), &mut reader) {
+        match input(rt.alloc(), &mut reader, 7) {
             Ok(text) => {
                 assert_eq!(rt; status, 0, "{reads}");
                 assert_eq!(rt; text.as_slice(), b"one two".as_slice());
@@ -148,9 +160,9 @@ fn input_is_read_whole(rt: HostRuntime) -> Result<(), Fail> {
 
 #[test]
 fn input_has_a_limit(rt: HostRuntime) -> Result<(), Fail> {
-    for (len, is_fine) in [(1_048_576, true), (1_048_577, false)] {
+    for (len, is_fine) in [(9_999, true), (10_000, true), (10_001, false)] {
         let bytes = vec![in rt.alloc(); b'\n'; len]?;
-        match input(rt.alloc(), &mut bytes.as_slice()) {
+        match input(rt.alloc(), &mut bytes.as_slice(), 10_000) {
             Ok(text) => {
                 assert!(rt; is_fine, "{len}");
                 assert_eq!(rt; text.len(), len);

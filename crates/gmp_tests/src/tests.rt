@@ -11,6 +11,7 @@ mod replaying;
 mod stealing;
 mod texts;
 mod tokens;
+mod tracing;
 
 type Desk = Book<u32, u32>;
 

@@ -1,3 +1,4 @@
+pub mod Bad
 pub mod Guess
 pub mod HasText
 pub mod Reading

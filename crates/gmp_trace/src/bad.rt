@@ -1,39 +1,77 @@
 //! What is wrong with a trace.
 
-use thiserror::Error;
+ghost use Rattle.std.specs.Prelude.{◌≡◌};
+ghost use Rattle.gmp_trace.specs.Bad.{word_of};
 
-/// What is wrong with a line.
-#[derive(Clone, Copy, Debug, PartialEq, Eq, Error)]
+use std::error::Error;
+use std::fmt;
+
+/// What is wrong with a line. Its text, by `Display`, is its word.
+#[derive(Clone, Copy, Debug, PartialEq, Eq)]
 pub enum Why {
-    #[error("header")]
     Header,
-    #[error("limits")]
     Limits,
-    #[error("caps")]
     Caps,
-    #[error("grammar")]
     Grammar,
-    #[error("number")]
     Number,
-    #[error("end")]
     End,
-    #[error("extra")]
     Extra,
     /// No step of the plain scheduler is this entry.
-    #[error("step")]
     Step,
     /// The end is not that of the state.
-    #[error("outcome")]
     Outcome,
-    #[error("out of memory")]
     OutOfMemory,
 }
 
+impl Why {
+    fn word(self) -> &'static str
+        ensures { result.now ≡ word_of self }
+    {
+        match self {
+            Why::Header => "header",
+            Why::Limits => "limits",
+            Why::Caps => "caps",
+            Why::Grammar => "grammar",
+            Why::Number => "number",
+            Why::End => "end",
+            Why::Extra => "extra",
+            Why::Step => "step",
+            Why::Outcome => "outcome",
+            Why::OutOfMemory => "out of memory",
+        }
+    }
+}
+
+impl fmt::Display for Why {
+    ghost use Rattle.std.specs.Prelude.{Some};
+    ghost use Rattle.gmp_trace.specs.Bad.{word_of};
+
+    ghost output = { λ why. Some (word_of why) };
+
+    fn fmt<W: fmt::Write>(&self, f: &mut fmt::Formatter<W>) -> fmt::Result {
+        f.write_str(self.word())
+    }
+}
+
+impl Error for Why {}
+
 /// The first bad line, numbered from 1.
-#[derive(Clone, Copy, Debug, PartialEq, Eq, Error)]
-#[error("line {line}: {why}")]
+#[derive(Clone, Copy, Debug, PartialEq, Eq)]
 pub struct Bad {
     /// 0 where memory was refused.
     pub line: u64,
     pub why: Why,
 }
+
+impl fmt::Display for Bad {
+    ghost use Rattle.std.specs.Prelude.{Some};
+    ghost use Rattle.gmp_trace.specs.Bad.{bad_text};
+
+    ghost output = { λ bad. Some (bad_text bad) };
+
+    fn fmt<W: fmt::Write>(&self, f: &mut fmt::Formatter<W>) -> fmt::Result {
+        write!(f, "line {}: {}", self.line, self.why)
+    }
+}
+
+impl Error for Bad {}

@@ -31,6 +31,3 @@ pub use summing::summary;
 pub use trace::{End, Trace, TraceView};
 pub use whole::read;
 pub use writing::{WriteError, write, write_view};
-
-#[cfg(test)]
-mod tests;

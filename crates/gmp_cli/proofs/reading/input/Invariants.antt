@@ -4,6 +4,6 @@ use Rattle.gmp_cli.proofs.reading.input.Given as goal
 
 abbrev pub invariant-reads : goal.invariant-reads
 invariant-reads g l = record {
-  short : length l.text.items ≤ 1048576;
+  short : length l.text.items ≤ l.most;
   taken : Consumes (g.R.Read.remaining l.fn.reader) (g.R.Read.remaining l.reader) l.text.items;
 }

@@ -1,0 +1,49 @@
+//! The program, run on a text.
+
+use gmp_cli::{Said, check, settings, step};
+use std::alloc::{AllocError, Global};
+
+/// What it wrote and what it said.
+#[derive(Drop)]
+pub struct Ran {
+    pub written: Vec<u8>,
+    /// The text, which is empty where nothing is wrong.
+    pub said: String,
+    pub status: u8,
+}
+
+/// `gmp step` on a script. Its options are those of the first line, where that is a comment that begins with `gmp step`.
+pub fn stepped(alloc: Global, script: &[u8]) -> Result<Ran, AllocError> {
+    let first = script.split(|byte| *byte == b'\n').next().unwrap_or(&[]);
+    let first = str::from_utf8(first).unwrap_or("");
+    let command = match first.strip_prefix("# ") {
+        Some(command) if command.starts_with("gmp step") => command,
+        _ => "gmp step",
+    };
+    let mut words = Vec::new(alloc);
+    for word in command.split(' ') {
+        words.push(String::from_str(alloc, word)?)?;
+    }
+    let mut written = Vec::new(alloc);
+    let ended = match settings(alloc, &words) {
+        Ok(settings) => step(alloc, &settings, &mut &script[..], &mut written),
+        Err(ended) => ended,
+    };
+    done(alloc, written, ended.status, &ended.said)
+}
+
+/// `gmp check` on a trace.
+pub fn checked(alloc: Global, trace: &[u8]) -> Result<Ran, AllocError> {
+    let mut written = Vec::new(alloc);
+    let ended = check(alloc, &mut &trace[..], &mut written);
+    done(alloc, written, ended.status, &ended.said)
+}
+
+fn done(alloc: Global, written: Vec<u8>, status: u8, said: &Said) -> Result<Ran, AllocError> {
+    let said = format!(in alloc; "{said}")?;
+    Ok(Ran {
+        written,
+        said,
+        status,
+    })
+}

@@ -1,0 +1,41 @@
+//! A trace is read, written and summed up where there is memory.
+use gmp_trace::{Bad, Why, WriteError, read, summary, write};
+
+#[test]
+fn a_trace_is_read_written_and_summed_up(rt: HostRuntime) {
+    let alloc = rt.alloc();
+    let text = "gmp-trace 1
+limits procs 1 machines 1 bodies 1 channels 16 entries 10000
+caps 2 0
+0 0.0 acquire -> proc 0
+1 0.1 select recv:0 send:nil:1 default -> default
+end running
+";
+    let summed = "outcome: running
+entries: 2
+machine 0: 2
+acquire        1
+select         1
+";
+    let trace = match read(alloc, text.as_bytes()) {
+        Ok(trace) => trace,
+        Err(bad) => {
+            let why = Why::OutOfMemory;
+            assert_eq!(rt; bad, Bad { line: 0, why });
+            return;
+        }
+    };
+    // A `Vec` may fail as memory does.
+    let mut out = Vec::new(alloc);
+    match write(alloc, &trace, &mut out) {
+        Ok(()) => assert_eq!(rt; out.as_slice(), text.as_bytes()),
+        Err(WriteError::OutOfMemory) => assert!(rt; out.is_empty()),
+        Err(WriteError::Device) => {}
+    }
+    let mut out = Vec::new(alloc);
+    match summary(alloc, &trace, &mut out) {
+        Ok(()) => assert_eq!(rt; out.as_slice(), summed.as_bytes()),
+        Err(WriteError::OutOfMemory) => assert!(rt; out.is_empty()),
+        Err(WriteError::Device) => {}
+    }
+}
