@@ -15,9 +15,9 @@ pub(crate) struct Channel {
 
 impl Model for Channel {
     ghost use Rattle.std.specs.Prelude.{◌≤◌, length};
-    ghost use Rattle.gmp_seq.specs.Channels.{Channel as Contents};
+    ghost use Rattle.gmp_seq.specs.Channels.{Channel as PlainChannel};
 
-    ghost Value = { Contents };
+    ghost Value = { PlainChannel };
 
     ghost view = { λ c. record { capacity = c.items.capacity; items = c.items.items; closed = c.closed } };
 

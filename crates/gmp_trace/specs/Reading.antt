@@ -65,7 +65,7 @@ pub record IsMisnumbered (machines : ℕ) (es : List Entry) (text : List ℕ) : 
   pub wrong : n ≡ length es → IsNext machines es e → ⊥
 
 -- the text begins with the line of an end, and goes on
-pub record GoesOn (text : List ℕ) : Type 0 where
+pub record ReadsOn (text : List ℕ) : Type 0 where
   pub end : End
   pub more : List ℕ
   pub some : more ≢ []
@@ -76,7 +76,7 @@ abbrev pub IsRestFault : ℕ → List Entry → List ℕ → ℕ → Why → Typ
 IsRestFault machines es rest line why.Grammar = (line ≡ length es + 4) × IsUngrammatical rest
 IsRestFault machines es rest line why.Number = (line ≡ length es + 4) × IsMisnumbered machines es rest
 IsRestFault machines es rest line why.End = (line ≡ length es + 4) × (rest ≡ [])
-IsRestFault machines es rest line why.Extra = (line ≡ length es + 5) × GoesOn rest
+IsRestFault machines es rest line why.Extra = (line ≡ length es + 5) × ReadsOn rest
 IsRestFault machines es rest line other = ⊥
 
 -- some entries in their order, and what is wrong behind them
@@ -94,7 +94,7 @@ IsBodyFault machines text line what = IsFaultBehind machines text line what
 -- what is wrong with a text as that of an end, behind so many entries
 abbrev pub IsLastFault : ℕ → List ℕ → ℕ → Why → Type 0
 IsLastFault number text line why.Grammar = (line ≡ number + 4) × ((end : End) (more : List ℕ) → text ≢ end_text end ++ more)
-IsLastFault number text line why.Extra = (line ≡ number + 5) × GoesOn text
+IsLastFault number text line why.Extra = (line ≡ number + 5) × ReadsOn text
 IsLastFault number text line why.OutOfMemory = line ≡ 0
 IsLastFault number text line what = ⊥
 
