@@ -3,18 +3,20 @@ use Rattle.std.proofs.Common.{List, [], ◌∷◌, ◌++◌, refl, ◌∙◌, su
 use Rattle.gmp_base.specs.declared.number.MNo.{MNo}
 use Rattle.gmp_acts.specs.declared.choice.Choice.{Choice}
 use Rattle.gmp_acts.specs.Acts.{Acts, ActsAll}
-use Rattle.gmp_acts.specs.Headline.{SameOpening}
+use Rattle.gmp_acts.specs.Headline.{NoClaimIsRefused, SameOpening}
 use Rattle.gmp_acts.specs.System.{BookRun, System}
-use Rattle.gmp_core.specs.Whole.{GrantsAll, NoCallIsRefused}
+use Rattle.gmp_core.specs.Whole.{GrantsAll, NoCallIsRefused, TakesFixed}
 
 pub all_and_one : (moves : List (MNo × Choice)) (move : MNo × Choice) (k mid end : System) → ActsAll k moves mid → Acts mid move.0 move.1 end → ActsAll k (moves ++ move ∷ []) end
 all_and_one [] move k mid end all one = (end, subst (λ (j : System). Acts j move.0 move.1 end) all one, refl)
 all_and_one (first ∷ moves) move k mid end all one = (all.0, all.1, all_and_one moves move all.0 mid end all.2 one)
 
-pub grants_and_one : (moves : List (MNo × Choice)) (move : MNo × Choice) (k mid end : System) → GrantsAll k moves mid → Acts mid move.0 move.1 end → NoCallIsRefused mid move.0 end → GrantsAll k (moves ++ move ∷ []) end
-grants_and_one [] move k mid end all one granted =
-    (end, subst (λ (j : System). Acts j move.0 move.1 end) all one, subst (λ (j : System). NoCallIsRefused j move.0 end) all granted, refl)
-grants_and_one (first ∷ moves) move k mid end all one granted = (all.0, all.1, all.2, grants_and_one moves move all.0 mid end all.3 one granted)
+pub grants_and_one : (moves : List (MNo × Choice)) (move : MNo × Choice) (k mid end : System) → GrantsAll k moves mid → Acts mid move.0 move.1 end → NoCallIsRefused mid move.0 end
+    → NoClaimIsRefused mid move.0 end → TakesFixed mid move.0 move.1.word end → GrantsAll k (moves ++ move ∷ []) end
+grants_and_one [] move k mid end all one granted claimed fixed =
+    subst (λ (j : System). GrantsAll j (move ∷ []) end) all (end, one, granted, claimed, fixed, refl)
+grants_and_one (first ∷ moves) move k mid end all one granted claimed fixed =
+    (all.0, all.1, all.2, all.3, all.4, grants_and_one moves move all.0 mid end all.5 one granted claimed fixed)
 
 pub opened_on : (a b c : BookRun) → SameOpening a b → SameOpening b c → SameOpening a c
 opened_on a b c x y = record { run = y.run ∙ x.run; limits = y.limits ∙ x.limits; bodies = y.bodies ∙ x.bodies; capacities = y.capacities ∙ x.capacities }

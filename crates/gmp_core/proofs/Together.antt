@@ -11,7 +11,8 @@ use Rattle.gmp_base.specs.declared.refusal.Refusal.{Refusal}
 use Rattle.gmp_seq.specs.declared.call.Call.{Call}
 use Rattle.gmp_seq.specs.declared.call.Entry.{Entry}
 use Rattle.gmp_seq.specs.declared.call.Reply.{Reply}
-use Rattle.gmp_seq.specs.Table.{is_outstanding}
+use Rattle.gmp_seq.specs.Table.{is_outstanding, is_shelved}
+use Rattle.gmp_table.specs.Kept.{IsListing}
 use Rattle.gmp_ledger.specs.Grants.{Chooses}
 use Rattle.gmp_book.specs.Book.{BookContents}
 use Rattle.gmp_driver.specs.declared.act.Act.{Act}
@@ -118,11 +119,11 @@ module _ {T : Type 0} (c : Parts T) (m : MNo) (x : Machine T Unit) (is : slice_g
     pub calls_so : NoCallIsRefused k m (system_of c')
     calls_so asked inside next goes = entry_or_memory k m choice asked (system_of c') core.sound inside next goes acts_so
 
-    pub fixed_so : TakesFixed k m choice.word (system_of c')
-    fixed_so asked answer inside next more =
+    pub fixed_so : IsListing is_shelved c.book.log.state.table.goroutines c.book.log.shelf → TakesFixed k m choice.word (system_of c')
+    fixed_so listed asked answer inside next more =
         let at : next_act x ≡ act.Call asked = sym (ap next_act (machine_is c m x is) ∙ next_plain x) ∙ next in
         let made_so = subst (λ (a : Act). Does a m choice (record { machine = x; book = c.book; rings = c.rings }) now made) at d in
-        (c.book.log.shelf, chosen x now.machine c.book now.book m (count_of k.book m) asked choice.word answer made_so.0 made_so.1 more)
+        (c.book.log.shelf, listed, chosen x now.machine c.book now.book m (count_of k.book m) asked choice.word answer made_so.0 made_so.1 more)
 
     pub headline_so : HeadlineOf (system_of c')
     headline_so = headline_of (system_of c') core_so.sound

@@ -6,6 +6,8 @@ use Rattle.gmp_base.specs.declared.number.MNo.{MNo}
 use Rattle.gmp_seq.specs.declared.call.Call.{Call}
 use Rattle.gmp_seq.specs.declared.call.Reply.{Reply}
 use Rattle.gmp_seq.specs.Needs.{WantsMemory}
+use Rattle.gmp_seq.specs.Table.{is_shelved}
+use Rattle.gmp_table.specs.Kept.{IsListing}
 use Rattle.gmp_ledger.specs.Grants.{Chooses}
 use Rattle.gmp_core.specs.declared.want.Want.{Want}
 use Rattle.gmp_core.specs.declared.want.Want.TheVariants as want
@@ -20,7 +22,7 @@ use Rattle.gmp_turn.specs.Values.{body_in}
 use Rattle.gmp_acts.specs.declared.choice.Choice.{Choice}
 use Rattle.gmp_acts.specs.Acts.{Acts}
 use Rattle.gmp_acts.specs.Hands.{PlainHand}
-use Rattle.gmp_acts.specs.Headline.{Headline, Lasts}
+use Rattle.gmp_acts.specs.Headline.{Headline, Lasts, NoClaimIsRefused}
 use Rattle.gmp_acts.specs.System.{System, called_number, count_of, held_number, machine_at}
 
 -- the state, and the stock of bodies: body g is that of goroutine g, in the book or with a machine
@@ -69,17 +71,22 @@ abbrev pub NoCallIsRefused : System → MNo → System → Type 0
 NoCallIsRefused k m k' = (asked : Call) → m.0 < length k.machines → next_act (machine_at k m) ≡ act.Call asked
     → Lasts k (EntersCall k m asked k' ⊎ (WantsMemory k.book.limits asked k.book.state × (k'.book ≡ k.book)))
 
--- acts in a row, no call of which is refused
-abbrev pub GrantsAll : System → List (MNo × Choice) → System → Type 0
-GrantsAll k [] k' = k' ≡ k
-GrantsAll k (move ∷ moves) k' = (mid : System) × Acts k move.0 move.1 mid × NoCallIsRefused k move.0 mid × GrantsAll mid moves k'
-
 -- Where the scheduler leaves a choice, a call that makes its entry takes what is fixed: the least idle processor, the least parked machine,
--- the case of the word; and from the shelf, in some order of it, the first.
+-- the case of the word. A take gives the first of some list of those on the shelf, whichever: the state has no order of them.
 abbrev pub TakesFixed : System → MNo → ℕ → System → Type 0
 TakesFixed k m word k' = (asked : Call) (answer : Reply) → m.0 < length k.machines → next_act (machine_at k m) ≡ act.Call asked
     → k'.book.history ≡ k.book.history ++ record { m = m; k = count_of k.book m; call = asked; reply = answer } ∷ []
-    → (shelf : List GNo) × Chooses asked word answer k.book.state shelf
+    → (shelf : List GNo) × IsListing is_shelved k.book.state.table.goroutines shelf × Chooses asked word answer k.book.state shelf
+
+-- Acts in a row: no call of them is refused, no claim is, and each takes what is fixed.
+abbrev pub GrantsAll : System → List (MNo × Choice) → System → Type 0
+GrantsAll k [] k' = k' ≡ k
+GrantsAll k (move ∷ moves) k' = (mid : System)
+    × Acts k move.0 move.1 mid
+    × NoCallIsRefused k move.0 mid
+    × NoClaimIsRefused k move.0 mid
+    × TakesFixed k move.0 move.1.word mid
+    × GrantsAll mid moves k'
 
 -- The body in hand
 

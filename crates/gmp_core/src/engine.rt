@@ -141,6 +141,8 @@ impl<T> Core<T> {
         ensures opened { SameOpening self.old.system.book self.new.system.book }
     {
         has_few(&choice.ask);
+        // The book lists who is on the shelf.
+        let _ = self.book.history();
         let Some(driver) = self.drivers.get_mut(m.0 as usize) else {
             return;
         };

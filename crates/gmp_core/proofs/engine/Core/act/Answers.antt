@@ -56,7 +56,7 @@ returns-clause-calls g c =
 pub returns-clause-fixed : goal.returns-clause-fixed
 returns-clause-fixed g c =
     let at = found c.self.inside.drivers.items c.args.m.0 c.in-Some.driver.now c.in-Some.ensures.item.3.0 c.in-Some.ensures.value in
-    rw (← ap (λ (w : Whole _). w.system) c.self.view_is) (fixed_so _ c.args.m c.in-Some.driver.now at c.self.invariant c.args.choice.now _ c.act-made.result c.has_few.ensures c.act-made.ensures.does)
+    rw (← ap (λ (w : Whole _). w.system) c.self.view_is) (fixed_so _ c.args.m c.in-Some.driver.now at c.self.invariant c.args.choice.now _ c.act-made.result c.has_few.ensures c.act-made.ensures.does c.history.ensures.listing)
 
 pub returns-clause-headline : goal.returns-clause-headline
 returns-clause-headline g c =

@@ -15,7 +15,7 @@ loop-m-preserved g c =
     let so_far = c.loop-m.invariant in
     record {
       acts = rw (take_more c.args.moves.now c.loop-m.m-index c.loop-m-item.result c.loop-m-test.true, ← c.loop-m-item.is) (all_and_one _ c.loop-m-item.result _ _ _ so_far.acts c.act.ensures.acts);
-      calls = rw (take_more c.args.moves.now c.loop-m.m-index c.loop-m-item.result c.loop-m-test.true, ← c.loop-m-item.is) (grants_and_one _ c.loop-m-item.result _ _ _ so_far.calls c.act.ensures.acts c.act.ensures.calls);
+      calls = rw (take_more c.args.moves.now c.loop-m.m-index c.loop-m-item.result c.loop-m-test.true, ← c.loop-m-item.is) (grants_and_one _ c.loop-m-item.result _ _ _ so_far.calls c.act.ensures.acts c.act.ensures.calls c.act.ensures.claims c.act.ensures.fixed);
       stock = c.act.ensures.stock ∙ so_far.stock;
       opened = opened_on _ _ _ so_far.opened c.act.ensures.opened;
     }
