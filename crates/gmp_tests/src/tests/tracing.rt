@@ -25,17 +25,15 @@ select         1
             return;
         }
     };
-    // A `Vec` may fail as memory does.
-    let mut out = Vec::new(alloc);
-    match write(alloc, &trace, &mut out) {
-        Ok(()) => assert_eq!(rt; out.as_slice(), text.as_bytes()),
-        Err(WriteError::OutOfMemory) => assert!(rt; out.is_empty()),
-        Err(WriteError::Device) => {}
+    // Both fit, so that nothing but memory may be wanting.
+    let mut written = [0u8; 168];
+    match write(alloc, &trace, &mut &mut written[..]) {
+        Ok(()) => assert_eq!(rt; &written[..], text.as_bytes()),
+        Err(error) => assert_eq!(rt; error, WriteError::OutOfMemory),
     }
-    let mut out = Vec::new(alloc);
-    match summary(alloc, &trace, &mut out) {
-        Ok(()) => assert_eq!(rt; out.as_slice(), summed.as_bytes()),
-        Err(WriteError::OutOfMemory) => assert!(rt; out.is_empty()),
-        Err(WriteError::Device) => {}
+    let mut written = [0u8; 75];
+    match summary(alloc, &trace, &mut &mut written[..]) {
+        Ok(()) => assert_eq!(rt; &written[..], summed.as_bytes()),
+        Err(error) => assert_eq!(rt; error, WriteError::OutOfMemory),
     }
 }
