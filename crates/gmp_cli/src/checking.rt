@@ -1,6 +1,6 @@
 //! The check of a trace.
 
-ghost use Rattle.std.specs.Prelude.{◌≡◌, ◌≢◌, ◌↔◌, ◌<◌, ◌||◌, true, length, IfErr, IfOk, IfSome};
+ghost use Rattle.std.specs.Prelude.{◌≡◌, ◌≢◌, ◌↔◌, ◌<◌, ◌≤◌, ◌||◌, true, false, length, IfErr, IfOk, IfSome};
 ghost use Rattle.gmp_trace.specs.declared.bad.Bad.{Bad};
 ghost use Rattle.gmp_trace.specs.Text.{content};
 ghost use Rattle.gmp_cli.specs.Check.{HasNoRightTrace, IsBadLine, IsRead, IsRightTrace, WritesSummary};
@@ -35,6 +35,9 @@ fn traced<R: Read>(alloc: Global, reader: &mut R) -> Result<Trace, Ended>
     ensures first { IfErr result (λ e. (bad : Bad) → e.said ≡ BadTrace bad → IfSome (R.remaining reader.old) (λ all. IsBadLine all bad)) }
     ensures too_long { IfErr result (λ e. e.said ≡ InputTooLong → IfSome (R.remaining reader.old) (λ all. MAX_TRACE < length all)) }
     ensures exact { IfErr result (λ e. (bad : Bad) → e.said ≡ BadTrace bad → IfSome (R.remaining reader.old) HasNoRightTrace) }
+
+    ensures short_ok { IfOk result (λ _. IfSome (R.remaining reader.old) (λ all. length all ≤ MAX_TRACE)) }
+    ensures short { IfErr result (λ e. is_of_input e.said ≡ false → IfSome (R.remaining reader.old) (λ all. length all ≤ MAX_TRACE)) }
 {
     let bytes = input(alloc, reader, MAX_TRACE)?;
     judged(alloc, &bytes)
@@ -53,6 +56,7 @@ pub fn check<R: Read, W: Write>(alloc: Global, reader: &mut R, writer: &mut W) -
 
     ensures first { (bad : Bad) → result.said ≡ BadTrace bad → IfSome (R.remaining reader.old) (λ all. IsBadLine all bad) }
     ensures too_long { result.said ≡ InputTooLong → IfSome (R.remaining reader.old) (λ all. MAX_TRACE < length all) }
+    ensures short { is_of_input result.said ≡ false → IfSome (R.remaining reader.old) (λ all. length all ≤ MAX_TRACE) }
     ensures exact { (bad : Bad) → result.said ≡ BadTrace bad → IfSome (R.remaining reader.old) HasNoRightTrace }
 {
     let trace = match traced(alloc, reader) {

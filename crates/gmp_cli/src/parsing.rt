@@ -1,6 +1,6 @@
 //! Reads a script.
 
-ghost use Rattle.std.specs.Prelude.{◌≡◌, ◌<◌, ◌≤◌, ◌||◌, ℕ, true, length, IfOk, IfErr, IfSome};
+ghost use Rattle.std.specs.Prelude.{◌≡◌, ◌<◌, ◌≤◌, ◌||◌, ℕ, true, false, length, IfOk, IfErr, IfSome};
 ghost use Rattle.gmp_cli.specs.Said.{is_of_input, is_of_script};
 ghost use Rattle.gmp_script.specs.Lines.{lines, IsScript, IsFirstBad};
 ghost use Rattle.gmp_cli.specs.declared.said.Said.TheVariants.{BadLine, InputTooLong};
@@ -40,6 +40,10 @@ pub fn script<R: Read>(alloc: Global, reader: &mut R) -> Result<Script, Ended>
         → IfSome (R.remaining reader.old) (λ all. IsFirstBad (lines all) line)) }
     ensures too_long { IfErr result (λ e. e.said ≡ InputTooLong
         → IfSome (R.remaining reader.old) (λ all. 1048576 < length all)) }
+
+    // An input that is too long is said to be so, or unreadable, or memory ends before.
+    ensures short_ok { IfOk result (λ _. IfSome (R.remaining reader.old) (λ all. length all ≤ 1048576)) }
+    ensures short { IfErr result (λ e. is_of_input e.said ≡ false → IfSome (R.remaining reader.old) (λ all. length all ≤ 1048576)) }
 {
     let text = input(alloc, reader, MAX_SCRIPT)?;
     parsed(alloc, &text)

@@ -1,10 +1,10 @@
 //! One run of a script.
 
-ghost use Rattle.std.specs.Prelude.{◌≡◌, ◌<◌, ℕ, true, length, IfSome};
+ghost use Rattle.std.specs.Prelude.{◌≡◌, ◌<◌, ◌≤◌, ℕ, true, false, length, IfSome};
 ghost use Rattle.gmp_cli.specs.declared.said.Said.TheVariants.{BadLine, InputTooLong, BadLimits};
 ghost use Rattle.gmp_script.specs.Lines.{lines, IsFirstBad};
 ghost use Rattle.gmp_seq.specs.Fits.{AreLimits};
-ghost use Rattle.gmp_cli.specs.Said.{is_before_writing, is_of_run, is_of_step};
+ghost use Rattle.gmp_cli.specs.Said.{is_before_writing, is_of_input, is_of_run, is_of_step};
 ghost use Rattle.gmp_cli.specs.Step.{limits_of, IsOutOfLimits, WritesRun, WritesTrace};
 
 use crate::ended::Ended;
@@ -88,6 +88,8 @@ pub fn step<R: Read, W: Write>(
         → IfSome (R.remaining reader.old) (λ all. IsFirstBad (lines all) line) }
     ensures too_long { result.said ≡ InputTooLong
         → IfSome (R.remaining reader.old) (λ all. MAX_SCRIPT < length all) }
+    ensures short { is_of_input result.said ≡ false
+        → IfSome (R.remaining reader.old) (λ all. length all ≤ MAX_SCRIPT) }
     ensures limits { result.said ≡ BadLimits
         → IfSome (R.remaining reader.old) (λ all. IsOutOfLimits (limits_of settings.now) all) }
 {
