@@ -2,7 +2,6 @@
 use Rattle.std.proofs.Common.{◌≡◌, ℕ, All, List, length, sym, ap, ◌∙◌, subst}
 use Rattle.gmp_seq.specs.Fits.{AreLimits, Fits}
 use Rattle.gmp_acts.specs.Headline.{SameOpening}
-use Rattle.gmp_acts.specs.System.{BookRun}
 use Rattle.gmp_core.specs.Whole.{HeadlineOf}
 use Rattle.gmp_script.specs.Script.{Commands}
 use Rattle.gmp_trace.specs.HasText.{HasText}
