@@ -58,6 +58,7 @@ fn open_queues(
 }
 
 // Opens a queue, and adds a thief of it to each row.
+#[tactic(auto, using(crate::proofs::Keeps::begins))]
 fn open_queue(alloc: Global, run: u64, rows: &mut [Vec<Thief>]) -> Result<Owner, AllocError>
     requires { length rows.old ≤ 64 }
     ensures { IfOk result (λ owner. IsFresh run (length rows.old) owner × AddsThief owner rows.old rows.new) }

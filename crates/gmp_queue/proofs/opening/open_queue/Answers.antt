@@ -2,12 +2,8 @@ use Rattle.std.proofs.Common.{List, ◌≡◌, ◌≢◌, ℕ, ◌<◌, ◌-◌,
 use Rattle.std.specs.Global.{Vec}
 use Rattle.gmp_queue.specs.declared.ends.Thief.{Thief}
 use Rattle.gmp_queue.specs.Queue.{all_parts, view_with, kept}
-use Rattle.gmp_queue.proofs.Keeps.{begins}
 use Rattle.gmp_queue.proofs.Opens.{adds_one, one_less, same_entry}
 use Rattle.gmp_queue.proofs.opening.open_queue.Goals as goal
-
-pub fifo_as-requires : goal.fifo_as-requires
-fifo_as-requires c = begins
 
 pub loop-row-preserved : goal.loop-row-preserved
 loop-row-preserved c =
