@@ -1,11 +1,11 @@
 -- All ends of one queue: as they are opened, and after pushes, pops and steals.
-use Rattle.std.proofs.Common.{◌≡◌, ℕ, List, [], ◌∷◌, ◌++◌, length, All, sym, subst, ap, ◌∙◌, arith, length-append, refl}
+use Rattle.std.proofs.Common.{◌≡◌, ℕ, List, [], ◌∷◌, ◌++◌, length, All, sym, subst, ap, ◌∙◌, arith, length-append}
 use Rattle.std.specs.Global.{Vec}
 use Rattle.std.specs.List.{AllZip}
 use Rattle.std.proofs.lemmas.List.Elements.{All-nil, All-cons, All-head, All-tail}
 use Rattle.gmp_queue.specs.declared.ends.Owner.{Owner}
 use Rattle.gmp_queue.specs.declared.ends.Thief.{Thief}
-use Rattle.gmp_queue.specs.Ends.{thief_view, KeepsOwner, KeepsThief, IsThiefOf, AreTheEnds}
+use Rattle.gmp_queue.specs.Ends.{KeepsOwner, KeepsThief, IsThiefOf, AreTheEnds}
 use Rattle.gmp_queue.specs.Opened.{IsFresh, IsFreshThiefOf, IsOpened}
 
 -- of one owner there is one thief
