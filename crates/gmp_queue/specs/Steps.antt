@@ -5,10 +5,11 @@ use Rattle.gmp_base.specs.declared.number.Readiness.{Readiness}
 use Rattle.gmp_queue.specs.declared.rule.View.{View}
 use Rattle.gmp_queue.specs.Queue.{IsQueue, PutLast, PoppedFirst, StoleFirst, FoundNone}
 
--- a pass of the owner, or of anybody, that has a part
+-- the owner's pass, with a part
 abbrev pub IsOwner : View → Type 0
 IsOwner v = (v.owner ≡ true) × (0 < v.parts)
 
+-- any pass with a part, as a thief's
 abbrev pub IsActive : View → Type 0
 IsActive v = 0 < v.parts
 
