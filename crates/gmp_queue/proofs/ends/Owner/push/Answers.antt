@@ -1,0 +1,5 @@
+use Rattle.gmp_queue.proofs.Keeps.{puts}
+use Rattle.gmp_queue.proofs.ends.Owner.push.Goals as goal
+
+pub push_as-requires-clause-pushes : goal.push_as-requires-clause-pushes
+push_as-requires-clause-pushes c = puts _ _ _ c.args.self.now.owns c.args.self.now.has_part

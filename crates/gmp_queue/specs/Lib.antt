@@ -1,0 +1,5 @@
+pub mod Queue
+pub mod Ends
+pub mod Opened
+pub mod Closed
+pub mod Steps

@@ -1,0 +1,7 @@
+//! The rule of a local queue, as a law.
+ghost use Rattle.gmp_queue.specs.Steps.{KeepTheRule};
+
+/// Each of the five kinds of step keeps the rule.
+pub fn steps_keep_the_rule()
+    ensures { KeepTheRule }
+{}

@@ -1,0 +1,38 @@
+//! Queues of run 7, whose tickets have the numbers from 0 up, each with epoch 1.
+ghost use Rattle.std.specs.Prelude.{◌≡◌, [], ◌∷◌, IfSome};
+ghost use Rattle.gmp_queue.specs.Ends.{AreTheEnds};
+
+use gmp_base::{GNo, Ticket};
+use gmp_queue::{Owner, Thief, open};
+use std::alloc::Global;
+
+mod keeping;
+mod refusing;
+mod stealing;
+
+const TICKETS: u16 = 4096;
+
+fn ticket(g: u16) -> Ticket {
+    Ticket::of(7, GNo(g), 1)
+}
+
+/// Its goroutine's number.
+fn spend(ticket: Ticket) -> u16 {
+    let (_, g, _) = ticket.open();
+    g.0
+}
+
+/// A queue with two thieves.
+fn queue_of_two(alloc: Global) -> Option<(Owner, Thief, Thief)>
+    ensures { IfSome result (λ q. AreTheEnds q.0 (q.1 ∷ q.2 ∷ [])) }
+{
+    let Ok((mut owners, mut rows)) = open(alloc, 7, 1, 2) else {
+        return None;
+    };
+    let owner = owners.pop()?;
+    let mut second = rows.pop()?;
+    let mut first = rows.pop()?;
+    let two = second.pop()?;
+    let one = first.pop()?;
+    Some((owner, one, two))
+}

@@ -1,0 +1,104 @@
+//! What two thieves take on two threads, while the owner puts.
+ghost use Rattle.std.specs.Prelude.{[], ◌∷◌};
+ghost use Rattle.gmp_queue.specs.Ends.{AreTheEnds, KeepsOwner, KeepsThief};
+
+use super::{TICKETS, queue_of_two, spend, ticket};
+use gmp_base::GNo;
+use gmp_queue::{Owner, Stole, Thief, close};
+use std::alloc::Global;
+use std::test::Fail;
+use std::thread::{Threads, join};
+
+const TRIES: u32 = 100_000;
+
+/// Puts the tickets. True if all were put.
+fn put_all(mut owner: Owner) -> (Owner, bool)
+    ensures { KeepsOwner owner result.0 }
+{
+    let mut all = true;
+    for g in 0..TICKETS {
+        if let Err(back) = owner.push(ticket(g)) {
+            spend(back);
+            all = false;
+        }
+    }
+    (owner, all)
+}
+
+/// Tries to steal, and notes the numbers of what it got.
+fn steal_all(alloc: Global, mut thief: Thief) -> (Thief, Vec<u16>)
+    ensures { KeepsThief thief result.0 }
+{
+    let mut got = Vec::new(alloc);
+    for _ in 0..TRIES {
+        match thief.steal() {
+            Stole::Got(ticket) => {
+                let _ = got.push(spend(ticket));
+            }
+            Stole::Empty | Stole::Unsure => {}
+        }
+    }
+    (thief, got)
+}
+
+/// What two thieves got, each in order, and what was left then.
+fn exchange<R: Threads + Sync>(
+    rt: &R,
+    alloc: Global,
+    owner: Owner,
+    first: Thief,
+    second: Thief,
+) -> Option<(Vec<u16>, Vec<u16>, Vec<(GNo, u64)>)>
+    requires { AreTheEnds owner (first ∷ second ∷ []) }
+{
+    let mut thieves = Vec::new(alloc);
+    thieves.reserve(2).ok()?;
+    let ((owner, all), ((first, one), (second, two))) = join(
+        rt,
+        move ||
+            ensures { KeepsOwner owner result.0 }
+        { put_all(owner) },
+        move ||
+            ensures { KeepsThief first result.0.0 × KeepsThief second result.1.0 }
+        {
+            join(
+                rt,
+                move ||
+                    ensures { KeepsThief first result.0 }
+                { steal_all(alloc, first) },
+                move ||
+                    ensures { KeepsThief second result.0 }
+                { steal_all(alloc, second) },
+            )
+        },
+    );
+    thieves.push_reserved(first);
+    thieves.push_reserved(second);
+    let mut rest = Vec::new(alloc);
+    if !all || close(owner, thieves, &mut rest).is_err() {
+        return None;
+    }
+    Some((one, two, rest))
+}
+
+#[test]
+fn steals_once(rt: HostRuntime) -> Result<(), Fail> {
+    let alloc = rt.alloc();
+    let (owner, first, second) = queue_of_two(alloc).ok_or("no queue")?;
+    let (one, two, rest) = exchange(&rt, alloc, owner, first, second).ok_or("not closed")?;
+    assert!(rt; one.is_sorted() && two.is_sorted());
+    let mut all = one;
+    for g in two.as_slice() {
+        all.push(*g)?;
+    }
+    for (g, epoch) in rest.as_slice() {
+        assert_eq!(rt; *epoch, 1);
+        all.push(g.0)?;
+    }
+    all.sort()?;
+    assert_eq!(rt; all.len(), usize::from(TICKETS));
+    for (at, g) in all.iter().enumerate() {
+        assert_eq!(rt; usize::from(*g), at);
+    }
+    Ok(())
+}
