@@ -1,2 +1,7 @@
+pub mod Filled
 pub mod Finding
-pub mod Roomy
+pub mod First
+pub mod Goroutines
+pub mod Opened
+pub mod Ordered
+pub mod Ringed
