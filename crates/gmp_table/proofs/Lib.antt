@@ -1,3 +1,4 @@
+pub mod Due
 pub mod Listing
 pub mod Moves
 pub mod Waking

@@ -4,6 +4,7 @@
 //! deadline; every other call but `open` is constant in g.
 #![tactic(auto)]
 
+mod deadlines;
 mod rows;
 mod table;
 mod wake;

@@ -25,7 +25,7 @@ pub struct Rank {
 }
 
 impl Rank {
-    fn is_before(self, other: Rank) -> bool
+    pub(crate) fn is_before(self, other: Rank) -> bool
         ensures { result ≡ is_before self other }
     {
         self.moment < other.moment || (self.moment == other.moment && self.arrival < other.arrival)
