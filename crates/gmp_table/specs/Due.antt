@@ -1,5 +1,5 @@
 -- The deadlines of those who wait, as they are kept.
-use Rattle.std.specs.Prelude.{◌≡◌, ℕ, ◌≤◌, ◌&&◌, ◌||◌, nat_lt, not, true, Bool, Option, None, List, length, AllPairs, Contains, slice_get, ◌↔◌, Some}
+use Rattle.std.specs.Prelude.{◌≡◌, ℕ, ◌<◌, ◌≤◌, ◌^◌, ◌&&◌, ◌||◌, nat_lt, not, true, Bool, Option, None, List, length, AllPairs, Contains, slice_get, ◌↔◌, Some}
 use Rattle.std.specs.Option.{option_map, option_map_or}
 use Rattle.gmp_base.specs.declared.number.GNo.{GNo}
 use Rattle.gmp_seq.specs.declared.status.Goroutine.{Goroutine}
@@ -36,8 +36,9 @@ pub record DueContents : Type 0 where
   pub list : List Deadline
   pub room : ℕ
 
--- the rows are counted, and their deadlines stand in the list, which has room for one of each
+-- the rows are few and counted, and their deadlines stand in the list, which has room for one of each
 pub record IsTimed (rows : List Goroutine) (bodies going calling : ℕ) (due : DueContents) : Type 0 where
   pub counted : IsCounted rows bodies going calling (length due.list)
   pub each : AreDue rows due.list
   pub room : bodies ≤ due.room
+  pub few : bodies < 2 ^ 16

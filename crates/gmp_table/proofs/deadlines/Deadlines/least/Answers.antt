@@ -1,4 +1,4 @@
-use Rattle.std.proofs.Common.{◌≡◌, ◌-◌, false, Option, Some, None, List, length, get_or, slice_get, All, IfSome, refl, sym, ap, ◌∙◌, subst}
+use Rattle.std.proofs.Common.{◌≡◌, ◌-◌, false, Option, Some, None, List, length, slice_get, All, IfSome, sym, ap, ◌∙◌, subst}
 use Rattle.std.proofs.lemmas.Option.{get_or_from_slice_get}
 use Rattle.gmp_table.specs.declared.deadlines.Deadline.{Deadline}
 use Rattle.gmp_table.specs.Due.{is_sooner, IsLatestFirst}
