@@ -1,3 +1,5 @@
+pub mod Due
 pub mod Listing
 pub mod Moves
+pub mod Timed
 pub mod Waking

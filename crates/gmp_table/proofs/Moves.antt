@@ -1,5 +1,5 @@
 -- A status table is kept where one goroutine changes, and the shelf with it.
-use Rattle.std.proofs.Common.{◌≡◌, ℕ, zero, suc, ◌+◌, ◌-◌, ◌<◌, ◌==◌, Bool, true, false, ◌&&◌, ◌||◌, List, [], ◌∷◌, ◌++◌, Option, Some, None, is_some, length, set, drop, replicate, slice_get, nat_lt, refl, sym, ◌∙◌, ap, arith, length-set}
+use Rattle.std.proofs.Common.{◌≡◌, ℕ, zero, suc, ◌+◌, ◌-◌, ◌<◌, ◌==◌, Bool, true, false, ◌&&◌, ◌||◌, List, [], ◌∷◌, ◌++◌, Option, Some, None, length, set, drop, replicate, slice_get, nat_lt, refl, sym, ◌∙◌, ap, arith, length-set}
 use Rattle.std.proofs.lemmas.Bool.Decides.{nat_tests}
 use Rattle.std.proofs.lemmas.Grind.{common_steps}
 use Rattle.std.proofs.lemmas.List.{length-replicate}
@@ -16,7 +16,7 @@ use Rattle.gmp_seq.specs.declared.status.Place.TheVariants.{Shelf, Out}
 use Rattle.gmp_seq.specs.declared.status.Status.{Status}
 use Rattle.gmp_seq.specs.declared.status.Status.TheVariants.{Dormant, Ready, Running, Calling, Waiting, Dead}
 use Rattle.gmp_seq.specs.State.{dormant, first_goroutine}
-use Rattle.gmp_seq.specs.Table.{is_shelved, is_out, is_astir, is_calling, is_ready_or_running, deadline_of, earlier, least_of}
+use Rattle.gmp_seq.specs.Table.{is_shelved, is_out, is_astir, is_calling, is_ready_or_running}
 use Rattle.gmp_table.specs.Contents.{answer_in, turned, epoch_in, has_deadline}
 use Rattle.gmp_table.specs.Kept.{count_status, IsListing, IsTable}
 use Rattle.gmp_table.proofs.Listing.{slice_get-set_same, pushed, popped, passed_by, first_passes, HasRow, row_of, listed_fewer, any_counted, some_listed, dormant_listing}
@@ -185,23 +185,6 @@ pub astir_counted : (rows : List Goroutine)
 astir_counted rows =
     any_either rows
     ∙ rw (any_counted (λ (x : Goroutine). is_ready_or_running x.status) rows, any_counted (λ (x : Goroutine). is_calling x.status) rows, any_counted (λ (x : Goroutine). has_deadline x.status) rows) refl
-
--- Where nobody waits with a deadline, there is no least one.
-
-least_of_none : (xs : List Goroutine) → list_any (λ (x : Goroutine). has_deadline x.status) xs ≡ false → least_of xs ≡ None
-least_of_none [] h = refl
-least_of_none (x ∷ xs) h = by_deadline (deadline_of x.status) refl (λ none. least_of_none xs none)
-  where
-    by_deadline : (d : Option ℕ) → deadline_of x.status ≡ d → (list_any (λ (y : Goroutine). has_deadline y.status) xs ≡ false → least_of xs ≡ None)
-        → least_of (x ∷ xs) ≡ None
-    by_deadline None is below =
-        ap (λ d. earlier d (least_of xs)) is ∙ below (ap (λ d. is_some d || list_any (λ (y : Goroutine). has_deadline y.status) xs) (sym is) ∙ h)
-    by_deadline (Some u) is below =
-        let some : true ≡ false = ap (λ d. is_some d || list_any (λ (y : Goroutine). has_deadline y.status) xs) (sym is) ∙ h in
-        absurd cc
-
-pub none_timed : (rows : List Goroutine) → nat_lt 0 (count_status has_deadline rows) ≡ false → least_of rows ≡ None
-none_timed rows none = least_of_none rows (any_counted (λ (x : Goroutine). has_deadline x.status) rows ∙ none)
 
 -- The opening
 

@@ -1,135 +1,33 @@
 -- Waking goroutines one after another, by rank.
-use Rattle.std.proofs.Common.{◌≡◌, ℕ, zero, suc, ◌+◌, ◌<◌, ◌==◌, ◌&&◌, ◌||◌, nat_lt, Bool, true, false, cond, ◌⊎◌, inl, inr, Option, Some, None, List, [], ◌∷◌, ◌++◌, length, map, set, slice_get, count_by, refl, sym, ap, ◌∙◌, add-zero, zero-add, append_assoc, append-nil, arith}
-use Rattle.std.proofs.lemmas.Bool.{false≢true, cases_eq}
+use Rattle.std.proofs.Common.{◌≡◌, ℕ, zero, suc, ◌+◌, ◌<◌, ◌==◌, Bool, true, false, Option, Some, None, List, [], ◌∷◌, ◌++◌, length, map, set, slice_get, count_by, refl, sym, ap, ◌∙◌, add-zero, zero-add, append_assoc, append-nil, arith}
+use Rattle.std.proofs.lemmas.Bool.{false≢true}
 use Rattle.std.proofs.lemmas.Bool.Decides.{nat_tests}
 use Rattle.std.proofs.lemmas.List.Sums.{sum_by_push, sum_by-cons}
 use Rattle.std.proofs.lemmas.List.Elements.{All-push}
 use Rattle.std.proofs.lemmas.List.Quantifiers.{all_pairs_push}
 use Rattle.std.proofs.lemmas.Option.{slice_get_within}
 use Rattle.std.specs.List.{All, AllPairs}
-use Rattle.std.specs.Option.{option_map, option_map_or, is_some}
+use Rattle.std.specs.Option.{option_map_or, is_some}
 use Rattle.gmp_base.specs.declared.number.GNo.{GNo}
 use Rattle.gmp_base.specs.declared.ask.Woke.{Woke}
-use Rattle.gmp_seq.proofs.Asleep.{fails_at}
 use Rattle.gmp_seq.proofs.Epochs.{at_set}
 use Rattle.gmp_seq.specs.declared.status.Goroutine.{Goroutine}
 use Rattle.gmp_seq.specs.declared.status.Place.{Place}
 use Rattle.gmp_seq.specs.declared.status.Place.TheVariants.{Shelf}
-use Rattle.gmp_seq.specs.declared.status.Status.{Status}
-use Rattle.gmp_seq.specs.declared.status.Status.TheVariants.{Dormant, Ready, Running, Calling, Waiting, Dead}
-use Rattle.gmp_seq.specs.Table.{Table, due_answer, made_ready, all_woken, how_many_woken, woken_with}
-use Rattle.gmp_table.proofs.Listing.{any_counted, count_by-set, slice_get-set_same, slice_get-set_other}
-use Rattle.gmp_table.specs.Contents.{TableContents, has_deadline}
-use Rattle.gmp_table.specs.Kept.{count_status, tally, times}
+use Rattle.gmp_seq.specs.declared.status.Status.TheVariants.{Ready}
+use Rattle.gmp_seq.specs.Table.{Table, made_ready, all_woken, how_many_woken, woken_with}
+use Rattle.gmp_table.proofs.Listing.{count_by-set, slice_get-set_same, slice_get-set_other}
+use Rattle.gmp_table.specs.Contents.{TableContents}
+use Rattle.gmp_table.specs.Kept.{tally, times}
 use Rattle.gmp_table.specs.declared.wake.Candidate.{Candidate}
-use Rattle.gmp_table.specs.declared.wake.Rank.{Rank}
 use Rattle.gmp_table.specs.declared.wake.Wake.{Wake}
 use Rattle.gmp_table.specs.declared.wake.Wake.TheVariants.{Closed, Due}
-use Rattle.gmp_table.specs.Waking.{answer_of, rank_of, rank_at, is_before, is_woken_at, IsWakeOrder, candidate_of, earlier_of, IsFirst}
+use Rattle.gmp_table.specs.Waking.{answer_of, rank_of, rank_at, is_before, is_woken_at, IsWakeOrder, IsFirst}
 
--- Ranks
-
-itself : (a : Rank) → is_before a a ≡ false
-itself a = let m = a.moment in let n = a.arrival in grind (arith, nat_tests)
-
-behind_numbers : (ym ya xm xa bm ba : ℕ) → (nat_lt ym bm || (ym == bm && nat_lt ya ba)) ≡ false → (nat_lt xm bm || (xm == bm && nat_lt xa ba)) ≡ true
-    → (nat_lt ym xm || (ym == xm && nat_lt ya xa)) ≡ false
-behind_numbers ym ya xm xa bm ba later sooner = grind (arith, nat_tests)
-
-behind : (y x b : Rank) → is_before y b ≡ false → is_before x b ≡ true → is_before y x ≡ false
-behind y x b later sooner = behind_numbers y.moment y.arrival x.moment x.arrival b.moment b.arrival later sooner
-
--- Where nobody waits with a deadline, none is due.
-
-untimed : (now : ℕ) (s : Status) → has_deadline s ≡ false → due_answer now s ≡ None
-untimed now Dormant h = refl
-untimed now (Ready place woke) h = refl
-untimed now (Running m) h = refl
-untimed now (Calling m) h = refl
-untimed now (Waiting w) h = by_deadline w.until refl
-  where
-    by_deadline : (d : Option ℕ) → w.until ≡ d → due_answer now (Waiting w) ≡ None
-    by_deadline None is = rw is refl
-    by_deadline (Some until) is = let some : true ≡ false = ap is_some (sym is) ∙ h in absurd cc
-untimed now Dead h = refl
-
-pub none_due : (now : ℕ) (rows : List Goroutine) → nat_lt 0 (count_status has_deadline rows) ≡ false → IsFirst (Due now) rows (length rows) None
-none_due now rows none =
-    λ k x below at.
-    untimed now x.status
-    (fails_at (λ (y : Goroutine). has_deadline y.status) rows k x (any_counted (λ (y : Goroutine). has_deadline y.status) rows ∙ none) at)
-
--- The scan
-
-below_or_last : (k n : ℕ) → k < n + 1 → (k ≡ n) ⊎ (k < n)
-below_or_last k n below = elim (cases_eq k n) [ inl same ↦ inl same | inr other ↦ inr (omega arith) ]
+-- Who is woken
 
 some_none : {X : Type 0} (o : Option X) → o ≡ None → is_some o ≡ true → ⊥
 some_none o none some = let e : is_some o ≡ false = rw none refl in false≢true (sym e ∙ some)
-
-abbrev candidate_from : Wake → GNo → Status → Option Woke → Option Candidate
-candidate_from wake g s o = option_map (λ (woke : Woke). let x : Candidate = record { g = g; rank = rank_of wake s; woke = woke } in x) o
-
-pub first_step : (wake : Wake) (rows : List Goroutine) (n : ℕ) (x : Goroutine) (best : Option Candidate) → slice_get rows n ≡ Some x → IsFirst wake rows n best
-    → IsFirst wake rows (n + 1) (earlier_of best (candidate_of wake (record { 0 = n }) x.status))
-first_step wake rows n x best at first = by_answer (answer_of wake x.status) refl best first
-  where
-    last : (k : ℕ) (y : Goroutine) → k ≡ n → slice_get rows k ≡ Some y → y ≡ x
-    last k y same here = let e : slice_get rows n ≡ Some y = rw (← same) here in cc
-
-    by_rank : (woke : Woke) → answer_of wake x.status ≡ Some woke → (b : Candidate) → IsFirst wake rows n (Some b)
-        → (before : Bool) → is_before (rank_of wake x.status) b.rank ≡ before
-        → IsFirst wake rows (n + 1) (Some (cond before (record { g = record { 0 = n }; rank = rank_of wake x.status; woke = woke }) b))
-    by_rank woke is b (z, there, was, rank, least) true before = (
-      x,
-      at,
-      is,
-      refl,
-      λ k y below here some. elim (below_or_last k n below) [
-        | inl same ↦ ap (λ (u : Goroutine). is_before (rank_of wake u.status) (rank_of wake x.status)) (last k y same here) ∙ itself (rank_of wake x.status)
-        | inr less ↦ behind (rank_of wake y.status) (rank_of wake x.status) b.rank (least k y less here some) before
-      ],
-    )
-    by_rank woke is b (z, there, was, rank, least) false before = (
-      z,
-      there,
-      was,
-      rank,
-      λ k y below here some. elim (below_or_last k n below) [
-        | inl same ↦ ap (λ (u : Goroutine). is_before (rank_of wake u.status) b.rank) (last k y same here) ∙ before
-        | inr less ↦ least k y less here some
-      ],
-    )
-
-    by_answer : (o : Option Woke) → answer_of wake x.status ≡ o → (best : Option Candidate) → IsFirst wake rows n best
-        → IsFirst wake rows (n + 1) (earlier_of best (candidate_from wake (record { 0 = n }) x.status o))
-    by_answer None is None none = λ k y below here. elim (below_or_last k n below) [
-      | inl same ↦ ap (λ (u : Goroutine). answer_of wake u.status) (last k y same here) ∙ is
-      | inr less ↦ none k y less here
-    ]
-    by_answer None is (Some b) (z, there, was, rank, least) = (
-      z,
-      there,
-      was,
-      rank,
-      λ k y below here some. elim (below_or_last k n below) [
-        | inl same ↦ absurd (some_none _ (ap (λ (u : Goroutine). answer_of wake u.status) (last k y same here) ∙ is) some)
-        | inr less ↦ least k y less here some
-      ],
-    )
-    by_answer (Some woke) is None none = (
-      x,
-      at,
-      is,
-      refl,
-      λ k y below here some. elim (below_or_last k n below) [
-        | inl same ↦ ap (λ (u : Goroutine). is_before (rank_of wake u.status) (rank_of wake x.status)) (last k y same here) ∙ itself (rank_of wake x.status)
-        | inr less ↦ absurd (some_none _ (none k y less here) some)
-      ],
-    )
-    by_answer (Some woke) is (Some b) first = by_rank woke is b first (is_before (rank_of wake x.status) b.rank) refl
-
--- Who is woken
 
 ready_unanswered : (wake : Wake) (place : Place) (woke : Woke) → answer_of wake (Ready place woke) ≡ None
 ready_unanswered (Closed c) place woke = refl

@@ -1,9 +1,11 @@
 //! What each goroutine does, and the shelf: the scheduler's own queue of tickets that nobody has.
 //!
-//! What the calls cost, where g is the number of goroutines: `due` and `least_deadline` look at all goroutines, where somebody waits with a
-//! deadline; every other call but `open` is constant in g.
+//! What the calls cost: `open` is linear in the number of goroutines. A call that gives a goroutine a deadline, or ends its wait for one, finds
+//! the place of that deadline by halves, and moves those that are sooner: none where a tick wakes it. Every other call is constant, `due` and
+//! `least_deadline` among them.
 #![tactic(auto)]
 
+mod deadlines;
 mod rows;
 mod table;
 mod wake;

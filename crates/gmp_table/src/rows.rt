@@ -1,12 +1,13 @@
-//! The rows of the table, with counts, so that a question about all of them needs no scan.
+//! The rows of the table, with counts and the deadlines in order, so that a question about all of them needs no scan.
 ghost use Rattle.std.specs.Prelude.{◌≡◌, ◌+◌, ◌<◌, ◌^◌, replicate, length, slice_get, slice_set, option_copied, nat_lt, IfOk};
 ghost use Rattle.gmp_seq.specs.State.{dormant};
-ghost use Rattle.gmp_seq.specs.Table.{is_calling, is_ready_or_running, earlier, least_of};
+ghost use Rattle.gmp_seq.specs.Table.{is_calling, is_ready_or_running, least_of};
 ghost use Rattle.gmp_table.specs.Contents.{epoch_in, answer_in, turned, risen, has_deadline};
 ghost use Rattle.gmp_table.specs.Kept.{count_status};
 ghost use Rattle.gmp_table.specs.declared.wake.Wake.{Wake};
 ghost use Rattle.gmp_table.specs.Waking.{IsFirst};
 
+use crate::deadlines::{Deadline, Deadlines};
 use crate::wake::Candidate;
 use gmp_base::{GNo, Woke};
 use gmp_seq::{Goroutine, Place, Status};
@@ -22,37 +23,20 @@ pub(crate) struct Rows {
     going: usize,
     /// How many are in a blocking call.
     calling: usize,
-    /// How many wait with a deadline.
-    timed: usize,
+    /// Those of all who wait with one.
+    deadlines: Deadlines,
 }
 
 impl Model for Rows {
     ghost use Rattle.std.specs.Prelude.{List};
     ghost use Rattle.gmp_seq.specs.declared.status.Goroutine.{Goroutine};
-    ghost use Rattle.gmp_table.specs.Kept.{IsCounted};
+    ghost use Rattle.gmp_table.specs.Due.{IsTimed};
 
     ghost Value = { List Goroutine };
 
     ghost view = { λ r. r.list.items };
 
-    ghost invariant = { λ r. IsCounted r.list.items r.bodies r.going r.calling r.timed };
-}
-
-fn has_deadline(status: &Status) -> bool
-    ensures { result ≡ has_deadline status.now }
-{
-    status.deadline().is_some()
-}
-
-/// The earlier of two deadlines, where they stand.
-fn earlier(a: Option<u64>, b: Option<u64>) -> Option<u64>
-    ensures { result ≡ earlier a b }
-{
-    match (a, b) {
-        (None, b) => b,
-        (a, None) => a,
-        (Some(x), Some(y)) => Some(x.min(y)),
-    }
+    ghost invariant = { λ r. IsTimed r.list.items r.bodies r.going r.calling r.deadlines };
 }
 
 impl Rows {
@@ -67,12 +51,13 @@ impl Rows {
                 epoch: 0,
             });
         }
+        let deadlines = Deadlines::open(alloc, bodies)?;
         Ok(Rows {
             list,
             bodies,
             going: 0,
             calling: 0,
-            timed: 0,
+            deadlines,
         })
     }
 
@@ -120,14 +105,11 @@ impl Rows {
     {
         let i = g.0 as usize;
         let was = &self.list[i].status;
-        let (going, calling, timed) = (
-            was.is_ready_or_running(),
-            was.is_calling(),
-            has_deadline(was),
-        );
+        let (going, calling) = (was.is_ready_or_running(), was.is_calling());
+        self.deadlines.withdraw(Deadline::of(g, was));
+        self.deadlines.add(Deadline::of(g, &row.status));
         self.going = self.going - going as usize + row.status.is_ready_or_running() as usize;
         self.calling = self.calling - calling as usize + row.status.is_calling() as usize;
-        self.timed = self.timed - timed as usize + has_deadline(&row.status) as usize;
         self.list[i] = row;
     }
 
@@ -176,7 +158,7 @@ impl Rows {
     pub(crate) fn any_timed(&self) -> bool
         ensures { result ≡ nat_lt 0 (count_status has_deadline self.now) }
     {
-        self.timed > 0
+        !self.deadlines.is_empty()
     }
 
     /// Who is woken next by a tick, and what it is told.
@@ -184,28 +166,15 @@ impl Rows {
         ensures first { IsFirst (Wake.Due now) self.now (length self.now) result }
         ensures few { length self.now < 2 ^ 16 }
     {
-        let bodies = self.bodies;
-        if !self.any_timed() {
-            return None;
-        }
-        let mut best = None;
-        for i in 0..bodies {
-            let next = Candidate::due(now, GNo(i), &self.list[i as usize].status);
-            best = Candidate::earlier(best, next);
-        }
-        best
+        let soonest = self.deadlines.least()?;
+        let row = &self.list[soonest.g.0 as usize];
+        Candidate::due(now, soonest.g, &row.status)
     }
 
     /// The least deadline.
     pub(crate) fn least_deadline(&self) -> Option<u64>
         ensures { result ≡ least_of self.now }
     {
-        let mut least = None;
-        let mut i = self.list.len();
-        while i > 0 {
-            i -= 1;
-            least = earlier(self.list[i].status.deadline(), least);
-        }
-        least
+        Some(self.deadlines.least()?.rank.moment)
     }
 }

@@ -95,13 +95,10 @@ impl StatusTable {
         self.rows.any_going() | self.rows.any_calling() | self.rows.any_timed()
     }
 
-    /// The least deadline of all that wait, in nanoseconds: where one stands, found by a look at all goroutines.
+    /// The least deadline of all that wait, in nanoseconds.
     pub fn least_deadline(&self) -> Option<u64>
         ensures { result ≡ least_deadline self.now.table }
     {
-        if !self.rows.any_timed() {
-            return None;
-        }
         self.rows.least_deadline()
     }
 
@@ -138,7 +135,7 @@ impl StatusTable {
     }
 
     /// Who of those whose deadline is at this moment, in nanoseconds, or before is woken first, by deadline and then by arrival, and what
-    /// it is told: found by a look at all goroutines, at none where nobody waits with a deadline.
+    /// it is told.
     pub fn due(&self, now: u64) -> Option<Candidate>
         ensures first { IsFirst (Wake.Due now) self.now.table.goroutines (length self.now.table.goroutines) result }
         // So few can be woken.

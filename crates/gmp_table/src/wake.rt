@@ -1,7 +1,7 @@
 //! Whom a close or a tick wakes.
 ghost use Rattle.std.specs.Prelude.{◌≡◌};
 ghost use Rattle.gmp_table.specs.declared.wake.Wake.{Wake};
-ghost use Rattle.gmp_table.specs.Waking.{is_before, candidate_of, earlier_of};
+ghost use Rattle.gmp_table.specs.Waking.{is_before, candidate_of};
 
 use gmp_base::{CNo, GNo, Woke};
 use gmp_seq::Status;
@@ -25,7 +25,7 @@ pub struct Rank {
 }
 
 impl Rank {
-    fn is_before(self, other: Rank) -> bool
+    pub(crate) fn is_before(self, other: Rank) -> bool
         ensures { result ≡ is_before self other }
     {
         self.moment < other.moment || (self.moment == other.moment && self.arrival < other.arrival)
@@ -60,22 +60,5 @@ impl Candidate {
             },
             woke: wait.kind.late_answer(),
         })
-    }
-
-    /// The one to be woken first.
-    pub(crate) fn earlier(best: Option<Candidate>, next: Option<Candidate>) -> Option<Candidate>
-        ensures { result ≡ earlier_of best next }
-    {
-        match (best, next) {
-            (best, None) => best,
-            (None, next) => next,
-            (Some(b), Some(x)) => {
-                if x.rank.is_before(b.rank) {
-                    Some(x)
-                } else {
-                    Some(b)
-                }
-            }
-        }
     }
 }
