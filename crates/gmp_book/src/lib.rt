@@ -2,15 +2,16 @@
 //!
 //! What the calls cost:
 //!
-//! - `take`, `put`, `claim`, `go`, `yield_to`, `exit`, `make`, `len`, `cap`, `sleep`, `park_g`, `ready`, `enter`, `leave` are constant: a
-//!   row of the status table, an end of the shelf, a place of bodies, one entry.
+//! - `take`, `put`, `claim`, `go`, `yield_to`, `exit`, `make`, `len`, `cap`, `park_g`, `ready`, `enter`, `leave` are constant: a row of the
+//!   status table, an end of the shelf, a place of bodies, one entry.
 //! - `acquire`, `declare`, `declare_bare`, `spin`, `unspin`, `poke`, `woken` are constant: a mask of processors or of machines, one entry;
 //!   `is_parked` is, without one.
-//! - `send`, `recv` and each case of a `select` look at the offers of those who wait on channels, 8 a goroutine at most, and at no row of
-//!   a goroutine but those of the two.
-//! - `park` answers from counts; where nobody is ready or running and a deadline stands, it looks at all goroutines.
-//! - `close` looks at all offers of those who wait, for each that it wakes and once more; `tick` at all goroutines likewise, and at nobody
-//!   once no deadline stands.
+//! - `send`, `recv` and each case of a `select` are constant: who waits first on the channel, the 8 cells of a goroutine that is served, and
+//!   no row but those of the two.
+//! - `sleep`, and a `select` that waits until a moment, find the place of their deadline by halves, and move those that are sooner; so does
+//!   the end of such a wait.
+//! - `park` answers from counts and the least deadline. `close` and `tick` are constant for each that is woken: who waits first on the channel,
+//!   or has the least deadline.
 //! - `outcome`, `history` and the surrenders are constant.
 //! - `open` takes memory for the limits' entries and all goroutines; `into_report` moves each body and owner once. No call but `open`
 //!   and a make takes memory.

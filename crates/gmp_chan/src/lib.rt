@@ -1,7 +1,8 @@
 //! The channels, and those who wait on them.
 //!
-//! What asks who waits looks at the offers of those who do, 8 of each goroutine at most: a send, a receive, a withdrawal, `can`,
-//! `first_waiting`, `is_waiting`, `is_later`. The rest is constant. Only the opening and `make` take memory.
+//! What a call costs does not grow with those who wait: a send, a receive, `can` and `first_waiting` look at who waits first on the channel,
+//! `wait_on` links each offer behind the last one, and `is_waiting` and a withdrawal look at the goroutine's own 8 cells. `is_later` alone,
+//! which tests what `wait_on` requires, looks at all cells. Only the opening and `make` take memory.
 #![tactic(auto)]
 
 mod cases;

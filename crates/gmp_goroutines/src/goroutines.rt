@@ -156,7 +156,7 @@ impl Goroutines {
         self.table.has_astir()
     }
 
-    /// The least deadline, where nobody is ready or running: where one stands, it is found by a look at all goroutines.
+    /// The least deadline, where nobody is ready or running.
     pub fn minded(&self) -> Option<u64>
         ensures { result ≡ minded self.now.table }
     {
