@@ -1,0 +1,54 @@
+//! `gmp_scanned N` gives N lists of drawn asks to the channels of gmp_chan, whose waiters are linked, and to channels whose waiters are one
+//! list that is scanned, and compares what comes of each ask (docs/TESTS.md).
+//!
+//! It prints how often what came, or the first ask at which the two differ.
+#![tactic(auto)]
+
+mod drawing;
+mod pair;
+mod scanned;
+mod short;
+mod tally;
+
+use crate::drawing::{ASKS, Draw};
+use crate::pair::Pair;
+use crate::short::Short;
+use crate::tally::Tally;
+use anyhow::{Context, Result};
+use std::alloc::Global;
+use std::env;
+use std::process::ExitCode;
+
+/// Gives both the list of this seed; where they differ, with the number of the ask.
+fn compare(alloc: Global, seed: u64, tally: &mut Tally) -> Result<(), (u32, Short)> {
+    let mut draw = Draw::new(seed);
+    let mut pair = match Pair::open(alloc, &draw.capacities()) {
+        Ok(pair) => pair,
+        Err(short) => return Err((0, short)),
+    };
+    for i in 0..ASKS {
+        let g = draw.goroutine();
+        let asked = draw.asked();
+        match pair.ask(g, &asked, draw.word()) {
+            Ok(came) => tally.add(came),
+            Err(short) => return Err((i, short)),
+        }
+    }
+    Ok(())
+}
+
+fn main(rt: HostRuntime) -> Result<ExitCode> {
+    let mut words = env::args(&rt)?;
+    let _program = words.next();
+    let word = words.next().context("gmp_scanned N")?;
+    let count: u64 = word.as_str().parse()?;
+    let mut tally = Tally::default();
+    for seed in 0..count {
+        if let Err((i, short)) = compare(rt.alloc(), seed, &mut tally) {
+            println!(rt; "list {seed}, ask {i}: {short}")?;
+            return Ok(ExitCode::FAILURE);
+        }
+    }
+    println!(rt; "{count} lists of {ASKS} asks: {tally}")?;
+    Ok(ExitCode::SUCCESS)
+}

@@ -1,0 +1,162 @@
+//! Both kinds of channels, side by side.
+
+use crate::drawing::{Asked, BODIES, CHANNELS};
+use crate::scanned::Scanned;
+use crate::short::Short;
+use gmp_base::{CNo, Case, GNo};
+use gmp_chan::{Channels, cases_rise};
+use gmp_seq::{Kind, Offers, Transfer, channel_of};
+use std::alloc::Global;
+
+/// What came of an ask, of both alike.
+#[derive(Clone, Copy)]
+pub enum Came {
+    /// It proceeded, and served one that waited, or none.
+    Proceeded(bool),
+    /// The goroutine waits.
+    Waits,
+    /// It waited, and does so no more.
+    Left,
+    /// The channel is closed, which woke so many.
+    Closed(u32),
+}
+
+/// The same channels twice.
+#[derive(Drop)]
+pub struct Pair {
+    linked: Channels,
+    scanned: Scanned,
+    arrivals: u64,
+}
+
+impl Pair {
+    pub fn open(alloc: Global, capacities: &[u32; CHANNELS as usize]) -> Result<Self, Short> {
+        let linked = Channels::open(alloc, CHANNELS, BODIES, capacities)?;
+        let scanned = Scanned::open(alloc, capacities)?;
+        Ok(Pair {
+            linked,
+            scanned,
+            arrivals: 0,
+        })
+    }
+
+    fn is_waiting(&self, g: GNo) -> Result<bool, Short> {
+        let waits = self.linked.is_waiting(g);
+        if self.scanned.is_waiting(g) == waits {
+            Ok(waits)
+        } else {
+            Err(Short::Differ)
+        }
+    }
+
+    fn can(&self, case: Case) -> Result<bool, Short> {
+        let can = self.linked.can(case);
+        if self.scanned.can(case) == can {
+            Ok(can)
+        } else {
+            Err(Short::Differ)
+        }
+    }
+
+    fn proceed(&mut self, case: Case) -> Result<Option<Transfer>, Short> {
+        if !self.linked.has(channel_of(case)) {
+            return Err(Short::Unfit);
+        }
+        let how = self.linked.proceed(case);
+        if self.scanned.proceed(case)? == how {
+            Ok(how)
+        } else {
+            Err(Short::Differ)
+        }
+    }
+
+    fn withdraw(&mut self, g: GNo) {
+        self.linked.withdraw(g);
+        self.scanned.withdraw(g);
+    }
+
+    fn wait_on(&mut self, g: GNo, kind: Kind, offers: &Offers) -> Result<Came, Short> {
+        let arrival = self.arrivals;
+        self.arrivals = arrival.wrapping_add(1);
+        let suits = g.0 < self.linked.bodies()
+            && !self.linked.is_waiting(g)
+            && self.linked.is_later(arrival)
+            && self.linked.has_all(offers)
+            && cases_rise(offers);
+        if !suits {
+            return Err(Short::Unfit);
+        }
+        self.linked.wait_on(g, arrival, kind, offers);
+        self.scanned.wait_on(g, arrival, kind, offers)?;
+        Ok(Came::Waits)
+    }
+
+    fn deal(&mut self, g: GNo, case: Case) -> Result<Came, Short> {
+        match self.proceed(case)? {
+            Some(how) => Ok(proceeded(how)),
+            None => self.wait_on(g, Kind::Plain, &Offers::of(&[case])),
+        }
+    }
+
+    /// Of the r cases that can proceed, number `word mod r` does.
+    fn select(&mut self, g: GNo, cases: &[Case], word: u64) -> Result<Came, Short> {
+        let mut count = 0u64;
+        for case in cases {
+            count = count.wrapping_add(u64::from(self.can(*case)?));
+        }
+        if count == 0 {
+            if cases.len() > 8 {
+                return Err(Short::Unfit);
+            }
+            return self.wait_on(g, Kind::Select, &Offers::of(cases));
+        }
+        let mut passed = word % count;
+        for case in cases {
+            if !self.can(*case)? {
+                continue;
+            }
+            if passed == 0 {
+                return self.deal(g, *case);
+            }
+            passed -= 1;
+        }
+        Err(Short::Differ)
+    }
+
+    /// Closes the channel, and wakes those who wait on it, one after another.
+    fn close(&mut self, c: CNo) -> Result<Came, Short> {
+        if !self.linked.has(Some(c)) {
+            return Err(Short::Unfit);
+        }
+        self.linked.close(c);
+        self.scanned.close(c);
+        for woken in 0..=u32::from(BODIES) {
+            let first = self.linked.first_waiting(c);
+            if self.scanned.first_waiting(c) != first {
+                return Err(Short::Differ);
+            }
+            match first {
+                Some(w) => self.withdraw(w.g),
+                None => return Ok(Came::Closed(woken)),
+            }
+        }
+        Err(Short::Differ)
+    }
+
+    /// What comes of what g asks, or, where it waits, of the end of its wait.
+    pub fn ask(&mut self, g: GNo, asked: &Asked, word: u64) -> Result<Came, Short> {
+        if self.is_waiting(g)? {
+            self.withdraw(g);
+            return Ok(Came::Left);
+        }
+        match asked {
+            Asked::Deal(case) => self.deal(g, *case),
+            Asked::Select(cases) => self.select(g, cases.as_slice(), word),
+            Asked::Close(c) => self.close(*c),
+        }
+    }
+}
+
+fn proceeded(how: Transfer) -> Came {
+    Came::Proceeded(matches!(how, Transfer::Handed(_) | Transfer::Relayed(..)))
+}
