@@ -13,7 +13,8 @@ use crate::call::put_call;
 use crate::guess::guess_call;
 use crate::put::{put, put_word};
 use crate::words::split;
-use gmp_seq::{Call, Entry, Limits};
+use gmp_base::MNo;
+use gmp_seq::{Call, Entry, Limits, Reply};
 use std::alloc::{AllocError, Global};
 
 /// The call that a text spells, without a space before it.
@@ -89,7 +90,8 @@ pub fn read_entry(alloc: Global, line: &[u8]) -> Result<Option<(u64, Entry)>, Al
     let text = fed(alloc, line)?;
     let mut words = Vec::new(alloc);
     let mut guessed = Vec::new(alloc);
-    let Some((n, entry, rest)) = entry_at(&text, &mut words, &mut guessed)? else {
+    let mut entry = Entry::new(MNo(0), 0, Call::Yield, Reply::Nothing);
+    let Some((n, rest)) = entry_at(&text, &mut words, &mut guessed, &mut entry)? else {
         return Ok(None);
     };
     if !rest.is_empty() {

@@ -13,7 +13,7 @@ ghost use Rattle.gmp_trace.specs.Text.{Content, capacities_text, content, end_te
 use crate::at::{behind, capacities_at, end_at, entry_at, limits_at};
 use crate::bad::{Bad, Why};
 use crate::trace::{End, Trace};
-use gmp_base::Fault;
+use gmp_base::{Fault, MNo};
 use gmp_seq::{Call, Entry, Limits, Reply};
 use std::alloc::{AllocError, Global};
 
@@ -122,23 +122,24 @@ fn is_answered(call: &Call, reply: &Reply) -> bool
     }
 }
 
-/// The entry by the table whose line the text begins with, its number before it, and the text behind the line.
+/// Reads the entry by the table whose line the text begins with. It answers the number before it, and the text behind the line.
 fn answered_at<'a>(
     text: &'a [u8],
     words: &mut Vec<&'a [u8]>,
     line: &mut Vec<u8>,
-) -> Result<Option<(u64, Entry, &'a [u8])>, AllocError>
-    ensures found { IfOk result (λ o. IfSome o (λ r. (text.now ≡ entry_text r.0 r.1 ++ r.2.now) × IsEntry r.0 r.1)) }
+    entry: &mut Entry,
+) -> Result<Option<(u64, &'a [u8])>, AllocError>
+    ensures found { IfOk result (λ o. IfSome o (λ r. (text.now ≡ entry_text r.0 entry.new ++ r.1.now) × IsEntry r.0 entry.new)) }
     ensures only { IfOk result (λ o. (n : ℕ) (e : Entry) (more : List ℕ) → IsEntry n e → text.now ≡ entry_text n e ++ more
-        → IsSomeAnd o (λ r. (r.0 ≡ n) × (r.1 ≡ e) × (r.2.now ≡ more))) }
+        → IsSomeAnd o (λ r. (r.0 ≡ n) × (entry.new ≡ e) × (r.1.now ≡ more))) }
 {
-    let Some((n, entry, rest)) = entry_at(text, words, line)? else {
+    let Some((n, rest)) = entry_at(text, words, line, entry)? else {
         return Ok(None);
     };
     if !is_answered(&entry.call, &entry.reply) {
         return Ok(None);
     }
-    Ok(Some((n, entry, rest)))
+    Ok(Some((n, rest)))
 }
 
 /// The end that the text says behind so many entries.
@@ -196,10 +197,11 @@ fn body(alloc: Global, machines: u8, text: &[u8]) -> Result<(Vec<Entry>, End), B
     let mut rest = text;
     while !rest.is_empty() {
         let number = entries.len() as u64;
-        let Ok(found) = answered_at(rest, &mut words, &mut line) else {
+        let mut entry = Entry::new(MNo(0), 0, Call::Yield, Reply::Nothing);
+        let Ok(found) = answered_at(rest, &mut words, &mut line, &mut entry) else {
             return Err(OUT_OF_MEMORY);
         };
-        let Some((n, entry, more)) = found else {
+        let Some((n, more)) = found else {
             return match last(number, rest, &mut words, &mut line) {
                 Ok(end) => Ok((entries, end)),
                 Err(bad) => Err(bad),
