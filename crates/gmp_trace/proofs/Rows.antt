@@ -2,6 +2,7 @@
 use Rattle.std.proofs.Common.{◌≡◌, ℕ, zero, suc, ◌<◌, ◌≤◌, ◌^◌, ◌==◌, Bool, true, false, List, [], ◌∷◌, ◌++◌, map, length, Option, Some, None, refl, ap, ap₂, ◌∙◌, append_assoc, arith, rules, decimal, codes, IfSome, IsTrue, All}
 use Rattle.std.specs.List.{AllByRecursion}
 use Rattle.std.specs.Str.{bytes_eq}
+use Rattle.std.proofs.lemmas.Bool.{false≢true}
 use Rattle.std.proofs.lemmas.List.{map-append}
 use Rattle.std.proofs.lemmas.List.Elements.{All-head, All-tail}
 use Rattle.gmp_base.specs.declared.ask.Fault.{Fault}
@@ -233,4 +234,4 @@ reply_again call.Park reply.Work a h = refl
 reply_again call.Park (reply.Mind until) a h = ap reply.Mind (number_again until h)
 reply_again call.Park reply.AllAsleep a h = refl
 reply_again (call.Tick moment) (reply.Woke n) a h = ap reply.Woke (number_again n h)
-reply_again _ _ a h = absurd a
+reply_again _ _ a h = absurd (false≢true a)
