@@ -16,8 +16,8 @@ returns-then-not-is_next-clause-only c es end h =
     let few : length c.loop-rest.entries.items < 2 ^ 64 = omega (arith, c.loop-rest.entries.ok.0) in
     let agrees = c.is_next.ensures c.loop-rest.entries.items c.loop-rest.invariant.counts.1 in
     let found = rw c.in-Some.is at c.in-Ok.ensures.found in
-    let only : OnlyEntry c.loop-rest.rest.now c.in-Some.n c.in-Some.entry c.in-Some.more.now = λ m d behind is text. rw c.in-Some.is at (c.in-Ok.ensures.only m d behind is text) in
-    let next = next_of_left c.args.machines c.args.text.now c.loop-rest.entries.items c.loop-rest.rest.now es end c.in-Some.n c.in-Some.entry c.in-Some.more.now h
+    let only : OnlyEntry c.loop-rest.rest.now c.in-Some.n c.answered_at.new.entry c.in-Some.more.now = λ m d behind is text. rw c.in-Some.is at (c.in-Ok.ensures.only m d behind is text) in
+    let next = next_of_left c.args.machines c.args.text.now c.loop-rest.entries.items c.loop-rest.rest.now es end c.in-Some.n c.answered_at.new.entry c.in-Some.more.now h
     (c.loop-rest.invariant.left es end h) few found.1.number found.0 only in
     absurd (search (rules, agrees.1 (next.number ∙ omega (arith, c.len-number.ensures, c.loop-rest.entries.ok.0), next.next)))
 
@@ -33,7 +33,7 @@ returns-then-not-is_next-clause-fault c =
         omega (arith, c.len-number.ensures, c.loop-rest.entries.ok.0),
         record {
           n = c.in-Some.n;
-          e = c.in-Some.entry;
+          e = c.answered_at.new.entry;
           more = c.in-Some.more.now;
           entry = found.1;
           whole = found.0;
@@ -55,18 +55,18 @@ bounds-counts-from-in-loop-rest c =
 pub loop-rest-smaller : goal.loop-rest-smaller
 loop-rest-smaller c =
     let found = rw c.in-Some.is at c.in-Ok.ensures.found in
-    shorter c.in-Some.n c.in-Some.entry c.loop-rest.rest.now c.in-Some.more.now found.0
+    shorter c.in-Some.n c.answered_at.new.entry c.loop-rest.rest.now c.in-Some.more.now found.0
 
 pub loop-rest-preserved : goal.loop-rest-preserved
 loop-rest-preserved c =
     let few : length c.loop-rest.entries.items < 2 ^ 64 = omega (arith, c.loop-rest.entries.ok.0) in
     let agreed = (c.is_next.ensures c.loop-rest.entries.items c.loop-rest.invariant.counts.1).0 c.if-not-is_next.false in
     let found = rw c.in-Some.is at c.in-Ok.ensures.found in
-    let only : OnlyEntry c.loop-rest.rest.now c.in-Some.n c.in-Some.entry c.in-Some.more.now = λ m d behind is text. rw c.in-Some.is at (c.in-Ok.ensures.only m d behind is text) in
+    let only : OnlyEntry c.loop-rest.rest.now c.in-Some.n c.answered_at.new.entry c.in-Some.more.now = λ m d behind is text. rw c.in-Some.is at (c.in-Ok.ensures.only m d behind is text) in
     rw c.in-Ok-push.ensures.items (record {
-      starts = starts_more c.args.machines c.args.text.now c.loop-rest.entries.items c.loop-rest.rest.now c.in-Some.n c.in-Some.entry c.in-Some.more.now c.loop-rest.invariant.starts found.0 (agreed.0 ∙ omega (arith, c.len-number.ensures, c.loop-rest.entries.ok.0)) agreed.1 found.1;
-      counts = rw c.from.ensures (counts_more c.loop-rest.counts c.loop-rest.entries.items c.in-Some.entry c.loop-rest.invariant.counts (omega (arith, agreed.1.0, c.requires)));
-      left = λ xs end h. (next_of_left c.args.machines c.args.text.now c.loop-rest.entries.items c.loop-rest.rest.now xs end c.in-Some.n c.in-Some.entry c.in-Some.more.now h
+      starts = starts_more c.args.machines c.args.text.now c.loop-rest.entries.items c.loop-rest.rest.now c.in-Some.n c.answered_at.new.entry c.in-Some.more.now c.loop-rest.invariant.starts found.0 (agreed.0 ∙ omega (arith, c.len-number.ensures, c.loop-rest.entries.ok.0)) agreed.1 found.1;
+      counts = rw c.from.ensures (counts_more c.loop-rest.counts c.loop-rest.entries.items c.answered_at.new.entry c.loop-rest.invariant.counts (omega (arith, agreed.1.0, c.requires)));
+      left = λ xs end h. (next_of_left c.args.machines c.args.text.now c.loop-rest.entries.items c.loop-rest.rest.now xs end c.in-Some.n c.answered_at.new.entry c.in-Some.more.now h
           (c.loop-rest.invariant.left xs end h) few found.1.number found.0 only).left;
     })
 
