@@ -17,7 +17,7 @@ use crate::line::{put_capacities, put_end, put_entry, put_limits};
 use crate::trace::End;
 use crate::words::{narrow8, narrow16, narrow32, number, part, sides, skip, split, word};
 use gmp_base::MNo;
-use gmp_seq::{Entry, Limits};
+use gmp_seq::{Call, Entry, Limits, Reply};
 use std::alloc::{AllocError, Global};
 
 /// The text behind the line, if it begins with the line.
@@ -108,8 +108,13 @@ fn guess_entry(words: &[&[u8]], entry: &mut Entry)
     let (asked, answered) = sides(skip(words, 2));
     entry.m = MNo(narrow8(number(m)));
     entry.k = number(k);
-    entry.call = guess_call(asked);
+    guess_call(asked, &mut entry.call);
     entry.reply = guess_reply(&entry.call, answered);
+}
+
+/// An entry to read into.
+pub fn blank() -> Entry {
+    Entry::new(MNo(0), 0, Call::Yield, Reply::Nothing)
 }
 
 /// Reads the entry whose line the text begins with. It answers the number before it, and the text behind the line. What is answered `idle P` is

@@ -1,9 +1,12 @@
 //! The call that words may say. Nothing is refused: who reads writes the guess, and compares.
 
 ghost use Rattle.std.specs.Prelude.{◌≡◌, ◌<◌, ◌++◌, ◌∷◌, [], length, map};
+ghost use Rattle.gmp_seq.specs.Fits.{FitsCall};
 ghost use Rattle.gmp_trace.specs.Guess.{is_case, case_of, cases_of, default_of, until_of, select_of, call_named, call_of};
 
-use crate::words::{byte, channel, letter, narrow16, narrow32, number, part, readiness, skip, word};
+use crate::words::{
+    byte, channel, letter, narrow16, narrow32, number, part, readiness, skip, word,
+};
 use gmp_base::{Case, Cases, GNo};
 use gmp_seq::Call;
 
@@ -82,44 +85,46 @@ fn select(words: &[&[u8]]) -> Call
 }
 
 #[tactic(auto, unfolding(crate::specs::Guess::call_named))]
-fn named(first: u8, third: u8, words: &[&[u8]]) -> Call
-    ensures { result ≡ call_named first third (map (λ w. w.now) words.now) }
+fn named(first: u8, third: u8, words: &[&[u8]], call: &mut Call)
+    ensures value { call.new ≡ call_named first third (map (λ w. w.now) words.now) }
+    ensures fits { FitsCall call.new }
 {
     let about = word(words, 1);
     match (first, third) {
-        (b'a', _) => Call::Acquire,
-        (b'b', _) => Call::Bare,
-        (b'c', b'a') => Call::Claim(readiness(about)),
-        (b'c', b'o') => Call::Close(channel(about)),
-        (b'c', _) => Call::Cap(channel(about)),
-        (b'd', _) => Call::Declare,
-        (b'e', b'i') => Call::Exit,
-        (b'e', _) => Call::Enter,
-        (b'g', b'p') => Call::Gopark,
-        (b'g', _) => Call::Go(GNo(narrow16(number(about)))),
-        (b'l', b'a') => Call::Leave(number(about)),
-        (b'l', _) => Call::Len(channel(about)),
-        (b'm', _) => Call::Make(narrow32(number(about))),
-        (b'p', b't') => Call::Put(readiness(about)),
-        (b'p', b'k') => Call::Poke,
-        (b'p', _) => Call::Park,
-        (b'r', b'a') => Call::Ready(GNo(narrow16(number(about)))),
-        (b'r', _) => Call::Recv(channel(about)),
-        (b's', b'n') => Call::Send(channel(about), number(word(words, 2))),
-        (b's', b'l') => select(skip(words, 1)),
-        (b's', b'e') => Call::Sleep(number(about)),
-        (b's', _) => Call::Spin,
-        (b't', b'k') => Call::Take,
-        (b't', _) => Call::Tick(number(about)),
-        (b'u', _) => Call::Unspin,
-        (b'w', _) => Call::Woken,
-        _ => Call::Yield,
+        (b'a', _) => *call = Call::Acquire,
+        (b'b', _) => *call = Call::Bare,
+        (b'c', b'a') => *call = Call::Claim(readiness(about)),
+        (b'c', b'o') => *call = Call::Close(channel(about)),
+        (b'c', _) => *call = Call::Cap(channel(about)),
+        (b'd', _) => *call = Call::Declare,
+        (b'e', b'i') => *call = Call::Exit,
+        (b'e', _) => *call = Call::Enter,
+        (b'g', b'p') => *call = Call::Gopark,
+        (b'g', _) => *call = Call::Go(GNo(narrow16(number(about)))),
+        (b'l', b'a') => *call = Call::Leave(number(about)),
+        (b'l', _) => *call = Call::Len(channel(about)),
+        (b'm', _) => *call = Call::Make(narrow32(number(about))),
+        (b'p', b't') => *call = Call::Put(readiness(about)),
+        (b'p', b'k') => *call = Call::Poke,
+        (b'p', _) => *call = Call::Park,
+        (b'r', b'a') => *call = Call::Ready(GNo(narrow16(number(about)))),
+        (b'r', _) => *call = Call::Recv(channel(about)),
+        (b's', b'n') => *call = Call::Send(channel(about), number(word(words, 2))),
+        (b's', b'l') => *call = select(skip(words, 1)),
+        (b's', b'e') => *call = Call::Sleep(number(about)),
+        (b's', _) => *call = Call::Spin,
+        (b't', b'k') => *call = Call::Take,
+        (b't', _) => *call = Call::Tick(number(about)),
+        (b'u', _) => *call = Call::Unspin,
+        (b'w', _) => *call = Call::Woken,
+        _ => *call = Call::Yield,
     }
 }
 
 /// The call that these words may say. The first and the third letter of its name decide.
-pub fn guess_call(words: &[&[u8]]) -> Call
-    ensures { result ≡ call_of (map (λ w. w.now) words.now) }
+pub fn guess_call(words: &[&[u8]], call: &mut Call)
+    ensures value { call.new ≡ call_of (map (λ w. w.now) words.now) }
+    ensures fits { FitsCall call.new }
 {
-    named(letter(words, 0), byte(word(words, 0), 2), words)
+    named(letter(words, 0), byte(word(words, 0), 2), words, call);
 }

@@ -67,7 +67,11 @@ fn taken(words: &[&[u8]]) -> Taken
 {
     match letter(words, 0) {
         b's' => Taken::Sent(served(words)),
-        b'g' => Taken::Got(number(word(words, 1)), letter(words, 2) == b't', relay(words)),
+        b'g' => Taken::Got(
+            number(word(words, 1)),
+            letter(words, 2) == b't',
+            relay(words),
+        ),
         _ => Taken::Failed,
     }
 }

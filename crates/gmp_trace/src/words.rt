@@ -42,9 +42,7 @@ pub fn number(word: &[u8]) -> u64
 {
     let mut n = 0u64;
     for digit in word {
-        n = n
-            .wrapping_mul(10)
-            .wrapping_add(u64::from(digit % 16));
+        n = n.wrapping_mul(10).wrapping_add(u64::from(digit % 16));
     }
     n
 }

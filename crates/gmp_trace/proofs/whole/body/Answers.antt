@@ -5,14 +5,14 @@ use Rattle.gmp_trace.proofs.Body.{Left, NoEntry, OnlyEntry, left_start, next_of_
 use Rattle.gmp_trace.proofs.whole.body.Goals as goal
 
 pub loop-rest-init : goal.loop-rest-init
-loop-rest-init c = rw c.new-entries.ensures.items (record {
+loop-rest-init g c = rw c.new-entries.ensures.items (record {
   starts = starts_none c.args.machines c.args.text.now;
   counts = counts_start _ refl;
   left = λ xs end h. left_start c.args.machines c.args.text.now xs end h;
 })
 
 pub returns-then-not-is_next-clause-only : goal.returns-then-not-is_next-clause-only
-returns-then-not-is_next-clause-only c es end h =
+returns-then-not-is_next-clause-only g c es end h =
     let few : length c.loop-rest.entries.items < 2 ^ 64 = omega (arith, c.loop-rest.entries.ok.0) in
     let agrees = c.is_next.ensures c.loop-rest.entries.items c.loop-rest.invariant.counts.1 in
     let found = rw c.in-Some.is at c.in-Ok.ensures.found in
@@ -22,7 +22,7 @@ returns-then-not-is_next-clause-only c es end h =
     absurd (search (rules, agrees.1 (next.number ∙ omega (arith, c.len-number.ensures, c.loop-rest.entries.ok.0), next.next)))
 
 pub returns-then-not-is_next-clause-fault : goal.returns-then-not-is_next-clause-fault
-returns-then-not-is_next-clause-fault c =
+returns-then-not-is_next-clause-fault g c =
     let agrees = c.is_next.ensures c.loop-rest.entries.items c.loop-rest.invariant.counts.1 in
     let found = rw c.in-Some.is at c.in-Ok.ensures.found in
     record {
@@ -43,22 +43,22 @@ returns-then-not-is_next-clause-fault c =
     }
 
 pub bounds-counts-from : goal.bounds-counts-from
-bounds-counts-from c =
+bounds-counts-from g c =
     let next = (c.is_next.ensures c.loop-rest.entries.items c.loop-rest.invariant.counts.1).0 c.if-not-is_next.false in
     omega (arith, next.1.0, c.from.ensures, c.requires)
 
 pub bounds-counts-from-in-loop-rest : goal.bounds-counts-from-in-loop-rest
-bounds-counts-from-in-loop-rest c =
+bounds-counts-from-in-loop-rest g c =
     let next = (c.is_next.ensures c.loop-rest.entries.items c.loop-rest.invariant.counts.1).0 c.if-not-is_next.false in
     omega (arith, next.1.0, c.from.ensures, c.requires)
 
 pub loop-rest-smaller : goal.loop-rest-smaller
-loop-rest-smaller c =
+loop-rest-smaller g c =
     let found = rw c.in-Some.is at c.in-Ok.ensures.found in
     shorter c.in-Some.n c.answered_at.new.entry c.loop-rest.rest.now c.in-Some.more.now found.0
 
 pub loop-rest-preserved : goal.loop-rest-preserved
-loop-rest-preserved c =
+loop-rest-preserved g c =
     let few : length c.loop-rest.entries.items < 2 ^ 64 = omega (arith, c.loop-rest.entries.ok.0) in
     let agreed = (c.is_next.ensures c.loop-rest.entries.items c.loop-rest.invariant.counts.1).0 c.if-not-is_next.false in
     let found = rw c.in-Some.is at c.in-Ok.ensures.found in
@@ -71,19 +71,19 @@ loop-rest-preserved c =
     })
 
 pub returns-clause-only : goal.returns-clause-only
-returns-clause-only c es end h =
+returns-clause-only g c es end h =
     let empty : c.loop-rest.rest.now ≡ [] = nil_from_length c.loop-rest.rest.now (eqb-true _ 0 (sym c.loop-rest-test.ensures)) in
     absurd (some_left c.loop-rest.entries.items es end (subst (λ (r : List ℕ). Left c.loop-rest.entries.items r es end) empty (c.loop-rest.invariant.left es end h)))
 
 pub returns-in-Ok-last-clause-only : goal.returns-in-Ok-last-clause-only
-returns-in-Ok-last-clause-only c es end h =
+returns-in-Ok-last-clause-only g c es end h =
     let few : length c.loop-rest.entries.items < 2 ^ 64 = omega (arith, c.loop-rest.entries.ok.0) in
     let none : NoEntry c.loop-rest.rest.now = λ m d behind is text. rw c.in_default-found.is at (c.in-Ok.ensures.only m d behind is text) in
     let over = none_left c.args.machines c.args.text.now c.loop-rest.entries.items c.loop-rest.rest.now es end h (c.loop-rest.invariant.left es end h) few none in
     (over.0, c.in-Ok-last.ensures.only end over.1)
 
 pub returns-in-Err-clause-only : goal.returns-in-Err-clause-only
-returns-in-Err-clause-only c es end h =
+returns-in-Err-clause-only g c es end h =
     let few : length c.loop-rest.entries.items < 2 ^ 64 = omega (arith, c.loop-rest.entries.ok.0) in
     let none : NoEntry c.loop-rest.rest.now = λ m d behind is text. rw c.in_default-found.is at (c.in-Ok.ensures.only m d behind is text) in
     let over = none_left c.args.machines c.args.text.now c.loop-rest.entries.items c.loop-rest.rest.now es end h (c.loop-rest.invariant.left es end h) few none in
