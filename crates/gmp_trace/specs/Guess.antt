@@ -1,5 +1,5 @@
 -- What words are taken for before a reader compares. Nothing is refused.
-use Rattle.std.specs.Prelude.{ℕ, zero, suc, ◌||◌, ◌+◌, ◌-◌, ◌*◌, ◌%◌, ◌^◌, ◌==◌, Bool, true, false, if◌then◌else◌, List, [], ◌∷◌, ◌++◌, map, codes, drop, slice_index_or, Option, None, Some}
+use Rattle.std.specs.Prelude.{ℕ, zero, suc, ◌||◌, ◌+◌, ◌*◌, ◌%◌, ◌^◌, ◌==◌, Bool, true, false, if◌then◌else◌, List, [], ◌∷◌, ◌++◌, map, codes, drop, slice_index_or, Option, None, Some}
 use Rattle.std.specs.Str.{bytes_eq}
 use Rattle.gmp_base.specs.declared.ask.Fault.{Fault}
 use Rattle.gmp_base.specs.declared.ask.Fault.TheVariants as fault
