@@ -61,9 +61,12 @@ word_at i words = slice_index_or words i []
 abbrev pub byte_at : ℕ → List ℕ → ℕ
 byte_at i word = slice_index_or word i 0
 
--- the first byte of a word, or 0
+-- the first byte of a text, or 0
+abbrev pub letter : List ℕ → ℕ
+letter text = byte_at 0 text
+
 abbrev pub letter_at : ℕ → List (List ℕ) → ℕ
-letter_at i words = byte_at 0 (word_at i words)
+letter_at i words = letter (word_at i words)
 
 abbrev pub number_at : ℕ → List (List ℕ) → ℕ
 number_at i words = number_of (word_at i words)
@@ -106,20 +109,20 @@ select_of words =
 -- The first and the third letter of a call's name tell it from the others.
 unfoldable pub call_named : ℕ → ℕ → List (List ℕ) → Call
 call_named first third words =
-    if first == 97 then call.Acquire
-    else (if first == 98 then call.Bare
-    else (if first == 99 then (if third == 97 then call.Claim (readiness_of (word_at 1 words)) else (if third == 111 then call.Close (channel_of (word_at 1 words)) else call.Cap (channel_of (word_at 1 words))))
-    else (if first == 100 then call.Declare
-    else (if first == 101 then (if third == 105 then call.Exit else call.Enter)
-    else (if first == 103 then (if third == 112 then call.Gopark else call.Go (record { 0 = narrow 16 (number_at 1 words) }))
-    else (if first == 108 then (if third == 97 then call.Leave (number_at 1 words) else call.Len (channel_of (word_at 1 words)))
-    else (if first == 109 then call.Make (narrow 32 (number_at 1 words))
-    else (if first == 112 then (if third == 116 then call.Put (readiness_of (word_at 1 words)) else (if third == 107 then call.Poke else call.Park))
-    else (if first == 114 then (if third == 97 then call.Ready (record { 0 = narrow 16 (number_at 1 words) }) else call.Recv (channel_of (word_at 1 words)))
-    else (if first == 115 then (if third == 110 then call.Send (channel_of (word_at 1 words)) (number_at 2 words) else (if third == 108 then select_of (drop 1 words) else (if third == 101 then call.Sleep (number_at 1 words) else call.Spin)))
-    else (if first == 116 then (if third == 107 then call.Take else call.Tick (number_at 1 words))
-    else (if first == 117 then call.Unspin
-    else (if first == 119 then call.Woken
+    if first == letter (codes "acquire") then call.Acquire
+    else (if first == letter (codes "bare") then call.Bare
+    else (if first == letter (codes "claim") then (if third == byte_at 2 (codes "claim") then call.Claim (readiness_of (word_at 1 words)) else (if third == byte_at 2 (codes "close") then call.Close (channel_of (word_at 1 words)) else call.Cap (channel_of (word_at 1 words))))
+    else (if first == letter (codes "declare") then call.Declare
+    else (if first == letter (codes "exit") then (if third == byte_at 2 (codes "exit") then call.Exit else call.Enter)
+    else (if first == letter (codes "gopark") then (if third == byte_at 2 (codes "gopark") then call.Gopark else call.Go (record { 0 = narrow 16 (number_at 1 words) }))
+    else (if first == letter (codes "leave") then (if third == byte_at 2 (codes "leave") then call.Leave (number_at 1 words) else call.Len (channel_of (word_at 1 words)))
+    else (if first == letter (codes "make") then call.Make (narrow 32 (number_at 1 words))
+    else (if first == letter (codes "put") then (if third == byte_at 2 (codes "put") then call.Put (readiness_of (word_at 1 words)) else (if third == byte_at 2 (codes "poke") then call.Poke else call.Park))
+    else (if first == letter (codes "ready") then (if third == byte_at 2 (codes "ready") then call.Ready (record { 0 = narrow 16 (number_at 1 words) }) else call.Recv (channel_of (word_at 1 words)))
+    else (if first == letter (codes "send") then (if third == byte_at 2 (codes "send") then call.Send (channel_of (word_at 1 words)) (number_at 2 words) else (if third == byte_at 2 (codes "select") then select_of (drop 1 words) else (if third == byte_at 2 (codes "sleep") then call.Sleep (number_at 1 words) else call.Spin)))
+    else (if first == letter (codes "take") then (if third == byte_at 2 (codes "take") then call.Take else call.Tick (number_at 1 words))
+    else (if first == letter (codes "unspin") then call.Unspin
+    else (if first == letter (codes "woken") then call.Woken
     else call.Yield)))))))))))))
 
 abbrev pub call_of : List (List ℕ) → Call
@@ -141,22 +144,22 @@ fault_of n =
 
 -- of `sent`, who was served
 abbrev pub served_of : List (List ℕ) → Option Readiness
-served_of words = if letter_at 1 words == 119 then Some (readiness_of (word_at 2 words)) else None
+served_of words = if letter_at 1 words == letter (codes "wakes") then Some (readiness_of (word_at 2 words)) else None
 
 -- of `got` with its value, who was served
 abbrev pub relay_of : List (List ℕ) → Option Relay
 relay_of words =
-    if letter_at 3 words == 119 then Some (record { sender = readiness_of (word_at 4 words); value = number_at 6 words }) else None
+    if letter_at 3 words == letter (codes "wakes") then Some (record { sender = readiness_of (word_at 4 words); value = number_at 6 words }) else None
 
 -- of `idle` with its processor, which machine was woken
 abbrev pub woken_of : List (List ℕ) → Option MNo
-woken_of words = if letter_at 2 words == 119 then Some (record { 0 = narrow 8 (number_at 3 words) }) else None
+woken_of words = if letter_at 2 words == letter (codes "wakes") then Some (record { 0 = narrow 8 (number_at 3 words) }) else None
 
 -- what stands behind the case of a select
 unfoldable pub taken_of : List (List ℕ) → Taken
 taken_of words =
-    if letter_at 0 words == 115 then taken.Sent (served_of words)
-    else (if letter_at 0 words == 103 then taken.Got (number_at 1 words) (letter_at 2 words == 116) (relay_of words)
+    if letter_at 0 words == letter (codes "sent") then taken.Sent (served_of words)
+    else (if letter_at 0 words == letter (codes "got") then taken.Got (number_at 1 words) (letter_at 2 words == letter (codes "true")) (relay_of words)
     else taken.Failed)
 
 abbrev pub processor_at : ℕ → List (List ℕ) → PNo
@@ -172,40 +175,40 @@ abbrev pub refused_of : List (List ℕ) → Reply
 refused_of words = reply.Fault (fault_of (number_at 1 words))
 
 abbrev pub waits_of : ℕ → List (List ℕ) → Reply
-waits_of letter words = if letter == 119 then reply.Waits else refused_of words
+waits_of name words = if name == letter (codes "waits") then reply.Waits else refused_of words
 
 -- The first letter tells a reply from the others that the call may have.
 unfoldable pub reply_named : Call → ℕ → List (List ℕ) → Reply
-reply_named call.Acquire letter words = if letter == 112 then reply.Proc (processor_at 1 words) else reply.Nothing
-reply_named call.Take letter words = if letter == 116 then ticket_of words else reply.Nothing
-reply_named (call.Put r) letter words = reply.Shelf
-reply_named (call.Claim r) letter words = reply.Held
-reply_named (call.Go g) letter words = if letter == 116 then ticket_of words else refused_of words
-reply_named call.Yield letter words = shelf_of words
-reply_named call.Exit letter words = if letter == 100 then reply.Dead else reply.MainEnded
-reply_named (call.Make capacity) letter words = if letter == 99 then reply.Channel (record { 0 = narrow 16 (number_at 1 words) }) else refused_of words
-reply_named (call.Send c v) letter words = if letter == 115 then reply.Sent (served_of words) else waits_of letter words
-reply_named (call.Recv c) letter words =
-    if letter == 103 then reply.Got (number_at 1 words) (letter_at 2 words == 116) (relay_of words) else waits_of letter words
-reply_named (call.Close c) letter words = if letter == 99 then reply.Closed (number_at 1 words) else refused_of words
-reply_named (call.Len c) letter words = if letter == 110 then reply.Number (number_at 1 words) else refused_of words
-reply_named (call.Cap c) letter words = if letter == 110 then reply.Number (number_at 1 words) else refused_of words
-reply_named (call.Select cases has_default until) letter words =
-    if letter == 99 then reply.Chose (narrow 8 (number_at 1 words)) (taken_of (drop 2 words)) else (if letter == 100 then reply.Default else waits_of letter words)
-reply_named (call.Sleep until) letter words = reply.Waits
-reply_named call.Gopark letter words = reply.Waits
-reply_named (call.Ready g) letter words = if letter == 116 then ticket_of words else refused_of words
-reply_named call.Enter letter words = reply.Entered (processor_at 1 words) (woken_of words)
-reply_named (call.Leave n) letter words = if letter == 114 then reply.Runs (processor_at 1 words) else shelf_of words
-reply_named call.Spin letter words = reply.Answer (letter == 116)
-reply_named call.Woken letter words = reply.Answer (letter == 116)
-reply_named call.Unspin letter words = reply.Done
-reply_named call.Poke letter words = if letter == 119 then reply.Wakes (record { 0 = narrow 8 (number_at 1 words) }) else reply.Nothing
-reply_named call.Declare letter words = reply.Idle (processor_at 1 words)
-reply_named call.Bare letter words = reply.Done
-reply_named call.Park letter words =
-    if letter == 112 then reply.Parked else (if letter == 119 then reply.Work else (if letter == 109 then reply.Mind (number_at 1 words) else reply.AllAsleep))
-reply_named (call.Tick moment) letter words = reply.Woke (number_at 1 words)
+reply_named call.Acquire name words = if name == letter (codes "proc") then reply.Proc (processor_at 1 words) else reply.Nothing
+reply_named call.Take name words = if name == letter (codes "ticket") then ticket_of words else reply.Nothing
+reply_named (call.Put r) name words = reply.Shelf
+reply_named (call.Claim r) name words = reply.Held
+reply_named (call.Go g) name words = if name == letter (codes "ticket") then ticket_of words else refused_of words
+reply_named call.Yield name words = shelf_of words
+reply_named call.Exit name words = if name == letter (codes "dead") then reply.Dead else reply.MainEnded
+reply_named (call.Make capacity) name words = if name == letter (codes "chan") then reply.Channel (record { 0 = narrow 16 (number_at 1 words) }) else refused_of words
+reply_named (call.Send c v) name words = if name == letter (codes "sent") then reply.Sent (served_of words) else waits_of name words
+reply_named (call.Recv c) name words =
+    if name == letter (codes "got") then reply.Got (number_at 1 words) (letter_at 2 words == letter (codes "true")) (relay_of words) else waits_of name words
+reply_named (call.Close c) name words = if name == letter (codes "closed") then reply.Closed (number_at 1 words) else refused_of words
+reply_named (call.Len c) name words = if name == letter (codes "number") then reply.Number (number_at 1 words) else refused_of words
+reply_named (call.Cap c) name words = if name == letter (codes "number") then reply.Number (number_at 1 words) else refused_of words
+reply_named (call.Select cases has_default until) name words =
+    if name == letter (codes "chose") then reply.Chose (narrow 8 (number_at 1 words)) (taken_of (drop 2 words)) else (if name == letter (codes "default") then reply.Default else waits_of name words)
+reply_named (call.Sleep until) name words = reply.Waits
+reply_named call.Gopark name words = reply.Waits
+reply_named (call.Ready g) name words = if name == letter (codes "ticket") then ticket_of words else refused_of words
+reply_named call.Enter name words = reply.Entered (processor_at 1 words) (woken_of words)
+reply_named (call.Leave n) name words = if name == letter (codes "runs") then reply.Runs (processor_at 1 words) else shelf_of words
+reply_named call.Spin name words = reply.Answer (name == letter (codes "true"))
+reply_named call.Woken name words = reply.Answer (name == letter (codes "true"))
+reply_named call.Unspin name words = reply.Done
+reply_named call.Poke name words = if name == letter (codes "wakes") then reply.Wakes (record { 0 = narrow 8 (number_at 1 words) }) else reply.Nothing
+reply_named call.Declare name words = reply.Idle (processor_at 1 words)
+reply_named call.Bare name words = reply.Done
+reply_named call.Park name words =
+    if name == letter (codes "parked") then reply.Parked else (if name == letter (codes "work") then reply.Work else (if name == letter (codes "mind") then reply.Mind (number_at 1 words) else reply.AllAsleep))
+reply_named (call.Tick moment) name words = reply.Woke (number_at 1 words)
 
 abbrev pub reply_of : Call → List (List ℕ) → Reply
 reply_of asked words = reply_named asked (letter_at 0 words) words
