@@ -2,7 +2,6 @@
 use Rattle.std.proofs.Common.{◌≡◌, ℕ, zero, suc, ◌<◌, ◌≤◌, ◌^◌, ◌==◌, Bool, true, false, List, [], ◌∷◌, ◌++◌, map, length, Option, Some, None, refl, ap, ap₂, ◌∙◌, append_assoc, arith, rules, decimal, codes, IfSome, IsTrue, All}
 use Rattle.std.specs.List.{AllByRecursion}
 use Rattle.std.specs.Str.{bytes_eq}
-use Rattle.std.proofs.lemmas.Bool.{false≢true}
 use Rattle.std.proofs.lemmas.List.{map-append}
 use Rattle.std.proofs.lemmas.List.Elements.{All-head, All-tail}
 use Rattle.gmp_base.specs.declared.ask.Fault.{Fault}
@@ -11,6 +10,7 @@ use Rattle.gmp_base.specs.declared.cases.Case.{Case}
 use Rattle.gmp_base.specs.declared.cases.Case.TheVariants as case
 use Rattle.gmp_base.specs.declared.number.CNo.{CNo}
 use Rattle.gmp_base.specs.declared.number.MNo.{MNo}
+use Rattle.gmp_base.specs.declared.number.PNo.{PNo}
 use Rattle.gmp_base.specs.declared.number.Readiness.{Readiness}
 use Rattle.gmp_base.specs.Fits.{IsWord, IsChannelNumber, FitsCase}
 use Rattle.gmp_base.specs.Numbers.{fault_number}
@@ -23,9 +23,9 @@ use Rattle.gmp_seq.specs.declared.call.Taken.{Taken}
 use Rattle.gmp_seq.specs.declared.call.Taken.TheVariants as taken
 use Rattle.gmp_seq.specs.Fits.{FitsReadiness, FitsCall, FitsReply, FitsRelay, FitsTaken, IsMachineNumber}
 use Rattle.gmp_trace.specs.HasText.{answers}
-use Rattle.gmp_trace.specs.Text.{Piece, piece_text, channel_text, case_text, readiness, boolean, call_pieces, reply_pieces, default_pieces, until_pieces, served_pieces, moved_pieces, woken_pieces, got_pieces, taken_pieces}
+use Rattle.gmp_trace.specs.Text.{Piece, piece_text, channel_text, case_text, readiness, boolean, call_pieces, reply_pieces, default_pieces, until_pieces, served_pieces, moved_pieces, woken_pieces, taken_pieces}
 use Rattle.gmp_trace.specs.Text.Piece.{OfCase}
-use Rattle.gmp_trace.specs.Guess.{parted, number_of, narrow, byte_at, word_at, readiness_of, channel_of, is_case, case_of, cases_of, default_of, until_of, select_of, call_named, call_of, fault_of, served_of, relay_of, woken_of, taken_of, reply_named, reply_of}
+use Rattle.gmp_trace.specs.Guess.{parted, number_of, narrow, byte_at, word_at, readiness_of, channel_of, is_case, case_of, cases_of, default_of, until_of, select_of, call_named, call_of, fault_of, served_of, relay_of, woken_of, taken_of, idle_of, shelf_of, reply_named, reply_of}
 use Rattle.gmp_trace.proofs.Numbers.{number_again, narrow_again, decimal_digits, IsDigit}
 use Rattle.gmp_trace.proofs.Lexing.{HasNo, pair_parted, parted_again, decimal_has_no}
 use Rattle.gmp_trace.proofs.WordRows.{select_pieces}
@@ -166,11 +166,6 @@ taken_again (taken.Got v sent from) h =
     rw (number_again v h.0, true_again sent, relay_again (codes "got") (decimal v) (piece_text (boolean sent)) from h.1) refl
 taken_again taken.Failed h = refl
 
-got_again : (v : ℕ) (sent : Bool) (from : Option Relay) → IsWord v → IfSome from FitsRelay
-    → reply_of (call.Recv None) (map piece_text (got_pieces v sent from)) ≡ reply.Got v sent from
-unfolding reply_named
-got_again v sent from h k = rw (number_again v h, true_again sent, relay_again (codes "got") (decimal v) (piece_text (boolean sent)) from k) refl
-
 fault_again : (f : Fault) → fault_of (number_of (decimal (fault_number f))) ≡ f
 unfolding fault_of
 fault_again fault.NoSuchBody = rw (number_again 1 (omega arith)) refl
@@ -183,54 +178,45 @@ fault_again fault.NotParked = rw (number_again 7 (omega arith)) refl
 fault_again fault.BadCapacity = rw (number_again 8 (omega arith)) refl
 fault_again fault.TooManyChannels = rw (number_again 9 (omega arith)) refl
 
+-- only a declare is answered that its processor is idle, and only an enter what woke
+idle_declares : (asked : Call) (p : PNo) → IsTrue (answers asked (reply.Idle p)) → idle_of asked p None ≡ reply.Idle p
+unfolding idle_of
+idle_declares call.Declare p h = refl
+idle_declares _ p h = absurd cc
+
+idle_enters : (asked : Call) (p : PNo) (m : Option MNo) → IsTrue (answers asked (reply.Entered p m)) → idle_of asked p m ≡ reply.Entered p m
+unfolding idle_of
+idle_enters call.Enter p m h = refl
+idle_enters _ p m h = absurd cc
+
+-- a text that begins with digits is not empty
+pair_not_empty : (ds rest : List ℕ) → bytes_eq (ds ++ codes "." ++ rest) [] ≡ false
+pair_not_empty [] rest = refl
+pair_not_empty (d ∷ ds) rest = refl
+
+shelved_again : (r : Readiness) → FitsReadiness r → shelf_of (piece_text (readiness r)) ≡ reply.Shelved r
+shelved_again r h = rw (pair_not_empty (decimal r.g.0) (decimal r.epoch), readiness_again r h) refl
+
 pub reply_again : (asked : Call) (r : Reply) → IsTrue (answers asked r) → FitsReply r → reply_of asked (map piece_text (reply_pieces r)) ≡ r
 unfolding reply_named
-reply_again call.Acquire (reply.Proc p) a h = rw (again8 p.0 h) refl
-reply_again call.Acquire reply.Nothing a h = refl
-reply_again call.Take (reply.Ticket r) a h = ap reply.Ticket (readiness_again r h)
-reply_again call.Take reply.Nothing a h = refl
-reply_again (call.Put r) reply.Shelf a h = refl
-reply_again (call.Claim r) reply.Held a h = refl
-reply_again (call.Go g) (reply.Ticket r) a h = ap reply.Ticket (readiness_again r h)
-reply_again (call.Go g) (reply.Fault f) a h = ap reply.Fault (fault_again f)
-reply_again call.Yield (reply.Shelved r) a h = ap reply.Shelved (readiness_again r h)
-reply_again call.Exit reply.Dead a h = refl
-reply_again call.Exit reply.MainEnded a h = refl
-reply_again (call.Make capacity) (reply.Channel c) a h = rw (again16 c.0 h) refl
-reply_again (call.Make capacity) (reply.Fault f) a h = ap reply.Fault (fault_again f)
-reply_again (call.Send c v) (reply.Sent to) a h = ap reply.Sent (served_again (codes "sent") to h)
-reply_again (call.Send c v) reply.Waits a h = refl
-reply_again (call.Send c v) (reply.Fault f) a h = ap reply.Fault (fault_again f)
-reply_again (call.Recv c) (reply.Got v sent from) a h = got_again v sent from h.0 h.1
-reply_again (call.Recv c) reply.Waits a h = refl
-reply_again (call.Recv c) (reply.Fault f) a h = ap reply.Fault (fault_again f)
-reply_again (call.Close c) (reply.Closed n) a h = ap reply.Closed (number_again n h)
-reply_again (call.Close c) (reply.Fault f) a h = ap reply.Fault (fault_again f)
-reply_again (call.Len c) (reply.Number n) a h = ap reply.Number (number_again n h)
-reply_again (call.Len c) (reply.Fault f) a h = ap reply.Fault (fault_again f)
-reply_again (call.Cap c) (reply.Number n) a h = ap reply.Number (number_again n h)
-reply_again (call.Cap c) (reply.Fault f) a h = ap reply.Fault (fault_again f)
-reply_again (call.Select cases has_default until) (reply.Chose i told) a h = ap₂ reply.Chose (again8 i h.0) (taken_again told h.1)
-reply_again (call.Select cases has_default until) reply.Default a h = refl
-reply_again (call.Select cases has_default until) reply.Waits a h = refl
-reply_again (call.Select cases has_default until) (reply.Fault f) a h = ap reply.Fault (fault_again f)
-reply_again (call.Sleep until) reply.Waits a h = refl
-reply_again call.Gopark reply.Waits a h = refl
-reply_again (call.Ready g) (reply.Ticket r) a h = ap reply.Ticket (readiness_again r h)
-reply_again (call.Ready g) (reply.Fault f) a h = ap reply.Fault (fault_again f)
-reply_again call.Enter (reply.Entered p m) a h = rw (again8 p.0 h.0, woken_again (codes "idle") (decimal p.0) m h.1) refl
-reply_again (call.Leave n) (reply.Runs p) a h = rw (again8 p.0 h) refl
-reply_again (call.Leave n) (reply.Shelved r) a h = ap reply.Shelved (readiness_again r h)
-reply_again call.Spin (reply.Answer b) a h = ap reply.Answer (true_again b)
-reply_again call.Woken (reply.Answer b) a h = ap reply.Answer (true_again b)
-reply_again call.Unspin reply.Done a h = refl
-reply_again call.Poke (reply.Wakes m) a h = rw (again8 m.0 h) refl
-reply_again call.Poke reply.Nothing a h = refl
-reply_again call.Declare (reply.Idle p) a h = rw (again8 p.0 h) refl
-reply_again call.Bare reply.Done a h = refl
-reply_again call.Park reply.Parked a h = refl
-reply_again call.Park reply.Work a h = refl
-reply_again call.Park (reply.Mind until) a h = ap reply.Mind (number_again until h)
-reply_again call.Park reply.AllAsleep a h = refl
-reply_again (call.Tick moment) (reply.Woke n) a h = ap reply.Woke (number_again n h)
-reply_again _ _ a h = absurd (false≢true a)
+reply_again asked (reply.Proc p) a h = rw (again8 p.0 h) refl
+reply_again asked (reply.Ticket r) a h = ap reply.Ticket (readiness_again r h)
+reply_again asked (reply.Fault f) a h = ap reply.Fault (fault_again f)
+reply_again asked (reply.Shelved r) a h = shelved_again r h
+reply_again asked (reply.Channel c) a h = rw (again16 c.0 h) refl
+reply_again asked (reply.Sent to) a h = ap reply.Sent (served_again (codes "sent") to h)
+reply_again asked (reply.Got v sent from) a h =
+    rw (number_again v h.0, true_again sent, relay_again (codes "got") (decimal v) (piece_text (boolean sent)) from h.1) refl
+reply_again asked (reply.Closed n) a h = ap reply.Closed (number_again n h)
+reply_again asked (reply.Number n) a h = ap reply.Number (number_again n h)
+reply_again asked (reply.Chose i told) a h = ap₂ reply.Chose (again8 i h.0) (taken_again told h.1)
+reply_again asked (reply.Entered p m) a h =
+    rw (again8 p.0 h.0, woken_again (codes "idle") (decimal p.0) m h.1) (idle_enters asked p m a)
+reply_again asked (reply.Runs p) a h = rw (again8 p.0 h) refl
+reply_again asked (reply.Answer true) a h = refl
+reply_again asked (reply.Answer false) a h = refl
+reply_again asked (reply.Wakes m) a h = rw (again8 m.0 h) refl
+reply_again asked (reply.Idle p) a h = rw (again8 p.0 h) (idle_declares asked p a)
+reply_again asked (reply.Mind until) a h = ap reply.Mind (number_again until h)
+reply_again asked (reply.Woke n) a h = ap reply.Woke (number_again n h)
+reply_again asked _ a h = refl

@@ -162,56 +162,37 @@ taken_of words =
     else (if letter_at 0 words == letter (codes "got") then taken.Got (number_at 1 words) (letter_at 2 words == letter (codes "true")) (relay_of words)
     else taken.Failed)
 
-abbrev pub processor_at : ℕ → List (List ℕ) → PNo
-processor_at i words = record { 0 = narrow 8 (number_at i words) }
+-- of a declare, the processor that was given up; of any other call, what an enter is answered
+unfoldable pub idle_of : Call → PNo → Option MNo → Reply
+idle_of call.Declare p None = reply.Idle p
+idle_of _ p woken = reply.Entered p woken
 
-abbrev pub ticket_of : List (List ℕ) → Reply
-ticket_of words = reply.Ticket (readiness_of (word_at 1 words))
+abbrev pub shelf_of : List ℕ → Reply
+shelf_of word = if bytes_eq word [] then reply.Shelf else reply.Shelved (readiness_of word)
 
-abbrev pub shelf_of : List (List ℕ) → Reply
-shelf_of words = reply.Shelved (readiness_of (word_at 1 words))
-
-abbrev pub refused_of : List (List ℕ) → Reply
-refused_of words = reply.Fault (fault_of (number_at 1 words))
-
-abbrev pub waits_of : ℕ → List (List ℕ) → Reply
-waits_of name words = if name == letter (codes "waits") then reply.Waits else refused_of words
-
--- The first letter tells a reply from the others that the call may have.
-unfoldable pub reply_named : Call → ℕ → List (List ℕ) → Reply
-reply_named call.Acquire name words = if name == letter (codes "proc") then reply.Proc (processor_at 1 words) else reply.Nothing
-reply_named call.Take name words = if name == letter (codes "ticket") then ticket_of words else reply.Nothing
-reply_named (call.Put r) name words = reply.Shelf
-reply_named (call.Claim r) name words = reply.Held
-reply_named (call.Go g) name words = if name == letter (codes "ticket") then ticket_of words else refused_of words
-reply_named call.Yield name words = shelf_of words
-reply_named call.Exit name words = if name == letter (codes "dead") then reply.Dead else reply.MainEnded
-reply_named (call.Make capacity) name words = if name == letter (codes "chan") then reply.Channel (record { 0 = narrow 16 (number_at 1 words) }) else refused_of words
-reply_named (call.Send c v) name words = if name == letter (codes "sent") then reply.Sent (served_of words) else waits_of name words
-reply_named (call.Recv c) name words =
-    if name == letter (codes "got") then reply.Got (number_at 1 words) (letter_at 2 words == letter (codes "true")) (relay_of words) else waits_of name words
-reply_named (call.Close c) name words = if name == letter (codes "closed") then reply.Closed (number_at 1 words) else refused_of words
-reply_named (call.Len c) name words = if name == letter (codes "number") then reply.Number (number_at 1 words) else refused_of words
-reply_named (call.Cap c) name words = if name == letter (codes "number") then reply.Number (number_at 1 words) else refused_of words
-reply_named (call.Select cases has_default until) name words =
-    if name == letter (codes "chose") then reply.Chose (narrow 8 (number_at 1 words)) (taken_of (drop 2 words)) else (if name == letter (codes "default") then reply.Default else waits_of name words)
-reply_named (call.Sleep until) name words = reply.Waits
-reply_named call.Gopark name words = reply.Waits
-reply_named (call.Ready g) name words = if name == letter (codes "ticket") then ticket_of words else refused_of words
-reply_named call.Enter name words = reply.Entered (processor_at 1 words) (woken_of words)
-reply_named (call.Leave n) name words = if name == letter (codes "runs") then reply.Runs (processor_at 1 words) else shelf_of words
-reply_named call.Spin name words = reply.Answer (name == letter (codes "true"))
-reply_named call.Woken name words = reply.Answer (name == letter (codes "true"))
-reply_named call.Unspin name words = reply.Done
-reply_named call.Poke name words = if name == letter (codes "wakes") then reply.Wakes (record { 0 = narrow 8 (number_at 1 words) }) else reply.Nothing
-reply_named call.Declare name words = reply.Idle (processor_at 1 words)
-reply_named call.Bare name words = reply.Done
-reply_named call.Park name words =
-    if name == letter (codes "parked") then reply.Parked else (if name == letter (codes "work") then reply.Work else (if name == letter (codes "mind") then reply.Mind (number_at 1 words) else reply.AllAsleep))
-reply_named (call.Tick moment) name words = reply.Woke (number_at 1 words)
+-- The first three letters of a reply's name tell it from the others.
+unfoldable pub reply_named : Call → ℕ → ℕ → ℕ → List (List ℕ) → Reply
+reply_named asked first second third words =
+    if first == letter (codes "all") then reply.AllAsleep
+    else (if first == letter (codes "chan") then (if third == byte_at 2 (codes "chan") then reply.Channel (record { 0 = narrow 16 (number_at 1 words) }) else (if second == byte_at 1 (codes "closed") then reply.Closed (number_at 1 words) else reply.Chose (narrow 8 (number_at 1 words)) (taken_of (drop 2 words))))
+    else (if first == letter (codes "dead") then (if third == byte_at 2 (codes "dead") then reply.Dead else (if third == byte_at 2 (codes "default") then reply.Default else reply.Done))
+    else (if first == letter (codes "fault") then (if third == byte_at 2 (codes "fault") then reply.Fault (fault_of (number_at 1 words)) else reply.Answer false)
+    else (if first == letter (codes "got") then reply.Got (number_at 1 words) (letter_at 2 words == letter (codes "true")) (relay_of words)
+    else (if first == letter (codes "held") then reply.Held
+    else (if first == letter (codes "idle") then idle_of asked (record { 0 = narrow 8 (number_at 1 words) }) (woken_of words)
+    else (if first == letter (codes "main") then (if third == byte_at 2 (codes "main") then reply.MainEnded else reply.Mind (number_at 1 words))
+    else (if first == letter (codes "none") then (if third == byte_at 2 (codes "none") then reply.Nothing else reply.Number (number_at 1 words))
+    else (if first == letter (codes "proc") then (if third == byte_at 2 (codes "proc") then reply.Proc (record { 0 = narrow 8 (number_at 1 words) }) else reply.Parked)
+    else (if first == letter (codes "runs") then reply.Runs (record { 0 = narrow 8 (number_at 1 words) })
+    else (if first == letter (codes "shelf") then (if third == byte_at 2 (codes "shelf") then shelf_of (word_at 1 words) else reply.Sent (served_of words))
+    else (if first == letter (codes "ticket") then (if third == byte_at 2 (codes "ticket") then reply.Ticket (readiness_of (word_at 1 words)) else reply.Answer true)
+    else (if third == byte_at 2 (codes "waits") then reply.Waits
+    else (if third == byte_at 2 (codes "work") then reply.Work
+    else (if second == byte_at 1 (codes "wakes") then reply.Wakes (record { 0 = narrow 8 (number_at 1 words) })
+    else reply.Woke (number_at 1 words))))))))))))))))
 
 abbrev pub reply_of : Call → List (List ℕ) → Reply
-reply_of asked words = reply_named asked (letter_at 0 words) words
+reply_of asked words = reply_named asked (letter_at 0 words) (byte_at 1 (word_at 0 words)) (byte_at 2 (word_at 0 words)) words
 
 -- Lines
 

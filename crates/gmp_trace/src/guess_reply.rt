@@ -1,9 +1,9 @@
 //! The reply that words may say. Nothing is refused: who reads writes the guess, and compares.
 
 ghost use Rattle.std.specs.Prelude.{◌≡◌, map};
-ghost use Rattle.gmp_trace.specs.Guess.{fault_of, served_of, relay_of, woken_of, taken_of, reply_named, reply_of};
+ghost use Rattle.gmp_trace.specs.Guess.{fault_of, served_of, relay_of, woken_of, taken_of, idle_of, shelf_of, reply_named, reply_of};
 
-use crate::words::{letter, narrow8, narrow16, number, readiness, skip, word};
+use crate::words::{byte, letter, narrow8, narrow16, number, readiness, skip, word};
 use gmp_base::{CNo, Fault, MNo, PNo, Readiness};
 use gmp_seq::{Call, Relay, Reply, Taken};
 
@@ -76,48 +76,68 @@ fn taken(words: &[&[u8]]) -> Taken
     }
 }
 
-#[tactic(auto, unfolding(crate::specs::Guess::reply_named))]
-fn named(call: &Call, name: u8, words: &[&[u8]]) -> Reply
-    ensures { result ≡ reply_named call.now name (map (λ w. w.now) words.now) }
+/// What `idle` with its processor says: of a declare that it was given up, of any other call what an enter is answered.
+#[tactic(auto, unfolding(crate::specs::Guess::idle_of))]
+fn idle(call: &Call, p: PNo, woken: Option<MNo>) -> Reply
+    ensures { result ≡ idle_of call.now p woken }
 {
-    let about = word(words, 1);
-    match (call, name) {
-        (Call::Acquire, b'p') => Reply::Proc(PNo(narrow8(number(about)))),
-        (Call::Poke, b'w') => Reply::Wakes(MNo(narrow8(number(about)))),
-        (Call::Acquire | Call::Poke, _) => Reply::Nothing,
-        (Call::Take | Call::Go(_) | Call::Ready(_), b't') => Reply::Ticket(readiness(about)),
-        (Call::Take, _) => Reply::Nothing,
-        (Call::Put(_), _) => Reply::Shelf,
-        (Call::Claim(_), _) => Reply::Held,
-        (Call::Exit, b'd') => Reply::Dead,
-        (Call::Exit, _) => Reply::MainEnded,
-        (Call::Make(_), b'c') => Reply::Channel(CNo(narrow16(number(about)))),
-        (Call::Send(..), b's') => Reply::Sent(served(words)),
-        (Call::Recv(_), b'g') => Reply::Got(number(about), letter(words, 2) == b't', relay(words)),
-        (Call::Close(_), b'c') => Reply::Closed(number(about)),
-        (Call::Len(_) | Call::Cap(_), b'n') => Reply::Number(number(about)),
-        (Call::Select(..), b'c') => Reply::Chose(narrow8(number(about)), taken(skip(words, 2))),
-        (Call::Select(..), b'd') => Reply::Default,
-        (Call::Send(..) | Call::Recv(_) | Call::Select(..), b'w') => Reply::Waits,
-        (Call::Sleep(_) | Call::Gopark, _) => Reply::Waits,
-        (Call::Enter, _) => Reply::Entered(PNo(narrow8(number(about))), woken(words)),
-        (Call::Leave(_), b'r') => Reply::Runs(PNo(narrow8(number(about)))),
-        (Call::Yield | Call::Leave(_), _) => Reply::Shelved(readiness(about)),
-        (Call::Spin | Call::Woken, _) => Reply::Answer(name == b't'),
-        (Call::Unspin | Call::Bare, _) => Reply::Done,
-        (Call::Declare, _) => Reply::Idle(PNo(narrow8(number(about)))),
-        (Call::Park, b'p') => Reply::Parked,
-        (Call::Park, b'w') => Reply::Work,
-        (Call::Park, b'm') => Reply::Mind(number(about)),
-        (Call::Park, _) => Reply::AllAsleep,
-        (Call::Tick(_), _) => Reply::Woke(number(about)),
-        _ => Reply::Fault(fault(number(about))),
+    match (call, woken) {
+        (Call::Declare, None) => Reply::Idle(p),
+        _ => Reply::Entered(p, woken),
     }
 }
 
-/// The reply of this call that these words may say. The first letter tells it from the others that the call may have.
+/// What `shelf` says: alone, or with a ticket.
+fn shelf(word: &[u8]) -> Reply
+    ensures { result ≡ shelf_of word.now }
+{
+    if word == b"".as_slice() {
+        Reply::Shelf
+    } else {
+        Reply::Shelved(readiness(word))
+    }
+}
+
+#[tactic(auto, unfolding(crate::specs::Guess::reply_named))]
+fn named(call: &Call, first: u8, second: u8, third: u8, words: &[&[u8]]) -> Reply
+    ensures { result ≡ reply_named call.now first second third (map (λ w. w.now) words.now) }
+{
+    let about = word(words, 1);
+    match (first, second, third) {
+        (b'a', _, _) => Reply::AllAsleep,
+        (b'c', _, b'a') => Reply::Channel(CNo(narrow16(number(about)))),
+        (b'c', b'l', _) => Reply::Closed(number(about)),
+        (b'c', _, _) => Reply::Chose(narrow8(number(about)), taken(skip(words, 2))),
+        (b'd', _, b'a') => Reply::Dead,
+        (b'd', _, b'f') => Reply::Default,
+        (b'd', _, _) => Reply::Done,
+        (b'f', _, b'u') => Reply::Fault(fault(number(about))),
+        (b'f', _, _) => Reply::Answer(false),
+        (b'g', _, _) => Reply::Got(number(about), letter(words, 2) == b't', relay(words)),
+        (b'h', _, _) => Reply::Held,
+        (b'i', _, _) => idle(call, PNo(narrow8(number(about))), woken(words)),
+        (b'm', _, b'i') => Reply::MainEnded,
+        (b'm', _, _) => Reply::Mind(number(about)),
+        (b'n', _, b'n') => Reply::Nothing,
+        (b'n', _, _) => Reply::Number(number(about)),
+        (b'p', _, b'o') => Reply::Proc(PNo(narrow8(number(about)))),
+        (b'p', _, _) => Reply::Parked,
+        (b'r', _, _) => Reply::Runs(PNo(narrow8(number(about)))),
+        (b's', _, b'e') => shelf(about),
+        (b's', _, _) => Reply::Sent(served(words)),
+        (b't', _, b'c') => Reply::Ticket(readiness(about)),
+        (b't', _, _) => Reply::Answer(true),
+        (_, _, b'i') => Reply::Waits,
+        (_, _, b'r') => Reply::Work,
+        (_, b'a', _) => Reply::Wakes(MNo(narrow8(number(about)))),
+        _ => Reply::Woke(number(about)),
+    }
+}
+
+/// The reply of this call that these words may say. The first three letters of its name tell it from the others.
 pub fn guess_reply(call: &Call, words: &[&[u8]]) -> Reply
     ensures { result ≡ reply_of call.now (map (λ w. w.now) words.now) }
 {
-    named(call, letter(words, 0), words)
+    let name = word(words, 0);
+    named(call, byte(name, 0), byte(name, 1), byte(name, 2), words)
 }
