@@ -25,7 +25,7 @@ use Rattle.gmp_seq.specs.Fits.{FitsReadiness, FitsCall, FitsReply, FitsRelay, Fi
 use Rattle.gmp_trace.specs.HasText.{answers}
 use Rattle.gmp_trace.specs.Text.{Piece, piece_text, channel_text, case_text, readiness, boolean, call_pieces, reply_pieces, default_pieces, until_pieces, served_pieces, moved_pieces, woken_pieces, taken_pieces}
 use Rattle.gmp_trace.specs.Text.Piece.{OfCase}
-use Rattle.gmp_trace.specs.Guess.{parted, number_of, narrow, word_at, readiness_of, channel_of, is_case, case_of, cases_of, default_of, until_of, select_of, bare_call_of, channel_call_of, call_named, call_of, fault_of, served_of, relay_of, woken_of, taken_of, bare_reply_of, number_reply_of, idle_of, shelf_of, reply_named, reply_of}
+use Rattle.gmp_trace.specs.Guess.{parted, number_of, narrow, byte_at, word_at, readiness_of, channel_of, is_case, case_of, cases_of, default_of, until_of, select_of, call_named, call_of, fault_of, served_of, relay_of, woken_of, taken_of, idle_of, shelf_of, reply_named, reply_of}
 use Rattle.gmp_trace.proofs.Numbers.{number_again, narrow_again, decimal_digits, IsDigit}
 use Rattle.gmp_trace.proofs.Lexing.{HasNo, pair_parted, parted_again, decimal_has_no}
 use Rattle.gmp_trace.proofs.WordRows.{select_pieces}
@@ -124,7 +124,7 @@ select_again cases has_default until h =
 -- ---- calls
 
 pub call_again : (c : Call) → FitsCall c → call_of (map piece_text (call_pieces c)) ≡ c
-unfolding call_named channel_call_of bare_call_of
+unfolding call_named
 call_again (call.Put r) h = ap call.Put (readiness_again r h)
 call_again (call.Claim r) h = ap call.Claim (readiness_again r h)
 call_again (call.Go g) h = rw (again16 g.0 h) refl
@@ -155,7 +155,7 @@ woken_again : (a b : List ℕ) (m : Option MNo) → IfSome m IsMachineNumber →
 woken_again a b None h = refl
 woken_again a b (Some m) h = rw (again8 m.0 h) refl
 
-true_again : (b : Bool) → bytes_eq (piece_text (boolean b)) (codes "true") ≡ b
+true_again : (b : Bool) → (byte_at 0 (piece_text (boolean b)) == 116) ≡ b
 true_again true = refl
 true_again false = refl
 
@@ -198,7 +198,7 @@ shelved_again : (r : Readiness) → FitsReadiness r → shelf_of (piece_text (re
 shelved_again r h = rw (pair_not_empty (decimal r.g.0) (decimal r.epoch), readiness_again r h) refl
 
 pub reply_again : (asked : Call) (r : Reply) → IsTrue (answers asked r) → FitsReply r → reply_of asked (map piece_text (reply_pieces r)) ≡ r
-unfolding reply_named number_reply_of bare_reply_of
+unfolding reply_named
 reply_again asked (reply.Proc p) a h = rw (again8 p.0 h) refl
 reply_again asked (reply.Ticket r) a h = ap reply.Ticket (readiness_again r h)
 reply_again asked (reply.Fault f) a h = ap reply.Fault (fault_again f)

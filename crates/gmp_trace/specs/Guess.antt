@@ -1,5 +1,5 @@
 -- What words are taken for before a reader compares. Nothing is refused.
-use Rattle.std.specs.Prelude.{ℕ, zero, suc, ◌||◌, ◌+◌, ◌-◌, ◌*◌, ◌%◌, ◌^◌, ◌==◌, Bool, true, false, if◌then◌else◌, List, [], ◌∷◌, ◌++◌, map, codes, drop, slice_index_or, Option, None, Some}
+use Rattle.std.specs.Prelude.{ℕ, zero, suc, ◌||◌, ◌+◌, ◌*◌, ◌%◌, ◌^◌, ◌==◌, Bool, true, false, if◌then◌else◌, List, [], ◌∷◌, ◌++◌, map, codes, drop, slice_index_or, Option, None, Some}
 use Rattle.std.specs.Str.{bytes_eq}
 use Rattle.gmp_base.specs.declared.ask.Fault.{Fault}
 use Rattle.gmp_base.specs.declared.ask.Fault.TheVariants as fault
@@ -47,7 +47,7 @@ sides words = sides_on [] words
 -- the number of digits that stand behind a number
 abbrev pub number_on : ℕ → List ℕ → ℕ
 number_on n [] = n
-number_on n (d ∷ ds) = number_on ((n * 10 % 2 ^ 64 + (d - 48)) % 2 ^ 64) ds
+number_on n (d ∷ ds) = number_on ((n * 10 % 2 ^ 64 + d % 16) % 2 ^ 64) ds
 
 unfoldable pub number_of : List ℕ → ℕ
 number_of word = number_on 0 word
@@ -57,6 +57,16 @@ narrow bits n = n % 2 ^ bits
 
 abbrev pub word_at : ℕ → List (List ℕ) → List ℕ
 word_at i words = slice_index_or words i []
+
+abbrev pub byte_at : ℕ → List ℕ → ℕ
+byte_at i word = slice_index_or word i 0
+
+-- the first byte of a text, or 0
+abbrev pub letter : List ℕ → ℕ
+letter text = byte_at 0 text
+
+abbrev pub letter_at : ℕ → List (List ℕ) → ℕ
+letter_at i words = letter (word_at i words)
 
 abbrev pub number_at : ℕ → List (List ℕ) → ℕ
 number_at i words = number_of (word_at i words)
@@ -96,48 +106,27 @@ select_of words =
     let default = default_of cases.1 in
     call.Select cases.0 default.0 (until_of default.1)
 
--- a call that names nothing
-unfoldable pub bare_call_of : List ℕ → Call
-bare_call_of name =
-    if bytes_eq name (codes "acquire") then call.Acquire
-    else (if bytes_eq name (codes "take") then call.Take
-    else (if bytes_eq name (codes "yield") then call.Yield
-    else (if bytes_eq name (codes "exit") then call.Exit
-    else (if bytes_eq name (codes "gopark") then call.Gopark
-    else (if bytes_eq name (codes "enter") then call.Enter
-    else (if bytes_eq name (codes "spin") then call.Spin
-    else (if bytes_eq name (codes "woken") then call.Woken
-    else (if bytes_eq name (codes "unspin") then call.Unspin
-    else (if bytes_eq name (codes "poke") then call.Poke
-    else (if bytes_eq name (codes "declare") then call.Declare
-    else (if bytes_eq name (codes "bare") then call.Bare
-    else call.Park)))))))))))
-
--- a call that names a channel, or one that names nothing
-unfoldable pub channel_call_of : List ℕ → List ℕ → List ℕ → Call
-channel_call_of name first second =
-    if bytes_eq name (codes "send") then call.Send (channel_of first) (number_of second)
-    else (if bytes_eq name (codes "recv") then call.Recv (channel_of first)
-    else (if bytes_eq name (codes "close") then call.Close (channel_of first)
-    else (if bytes_eq name (codes "len") then call.Len (channel_of first)
-    else (if bytes_eq name (codes "cap") then call.Cap (channel_of first)
-    else bare_call_of name))))
-
-unfoldable pub call_named : List ℕ → List ℕ → List (List ℕ) → Call
-call_named name first words =
-    if bytes_eq name (codes "put") then call.Put (readiness_of first)
-    else (if bytes_eq name (codes "claim") then call.Claim (readiness_of first)
-    else (if bytes_eq name (codes "go") then call.Go (record { 0 = narrow 16 (number_of first) })
-    else (if bytes_eq name (codes "ready") then call.Ready (record { 0 = narrow 16 (number_of first) })
-    else (if bytes_eq name (codes "make") then call.Make (narrow 32 (number_of first))
-    else (if bytes_eq name (codes "sleep") then call.Sleep (number_of first)
-    else (if bytes_eq name (codes "leave") then call.Leave (number_of first)
-    else (if bytes_eq name (codes "tick") then call.Tick (number_of first)
-    else (if bytes_eq name (codes "select") then select_of (drop 1 words)
-    else channel_call_of name first (word_at 2 words)))))))))
+-- The first and the third letter of a call's name tell it from the others.
+unfoldable pub call_named : ℕ → ℕ → List (List ℕ) → Call
+call_named first third words =
+    if first == letter (codes "acquire") then call.Acquire
+    else (if first == letter (codes "bare") then call.Bare
+    else (if first == letter (codes "claim") then (if third == byte_at 2 (codes "claim") then call.Claim (readiness_of (word_at 1 words)) else (if third == byte_at 2 (codes "close") then call.Close (channel_of (word_at 1 words)) else call.Cap (channel_of (word_at 1 words))))
+    else (if first == letter (codes "declare") then call.Declare
+    else (if first == letter (codes "exit") then (if third == byte_at 2 (codes "exit") then call.Exit else call.Enter)
+    else (if first == letter (codes "gopark") then (if third == byte_at 2 (codes "gopark") then call.Gopark else call.Go (record { 0 = narrow 16 (number_at 1 words) }))
+    else (if first == letter (codes "leave") then (if third == byte_at 2 (codes "leave") then call.Leave (number_at 1 words) else call.Len (channel_of (word_at 1 words)))
+    else (if first == letter (codes "make") then call.Make (narrow 32 (number_at 1 words))
+    else (if first == letter (codes "put") then (if third == byte_at 2 (codes "put") then call.Put (readiness_of (word_at 1 words)) else (if third == byte_at 2 (codes "poke") then call.Poke else call.Park))
+    else (if first == letter (codes "ready") then (if third == byte_at 2 (codes "ready") then call.Ready (record { 0 = narrow 16 (number_at 1 words) }) else call.Recv (channel_of (word_at 1 words)))
+    else (if first == letter (codes "send") then (if third == byte_at 2 (codes "send") then call.Send (channel_of (word_at 1 words)) (number_at 2 words) else (if third == byte_at 2 (codes "select") then select_of (drop 1 words) else (if third == byte_at 2 (codes "sleep") then call.Sleep (number_at 1 words) else call.Spin)))
+    else (if first == letter (codes "take") then (if third == byte_at 2 (codes "take") then call.Take else call.Tick (number_at 1 words))
+    else (if first == letter (codes "unspin") then call.Unspin
+    else (if first == letter (codes "woken") then call.Woken
+    else call.Yield)))))))))))))
 
 abbrev pub call_of : List (List ℕ) → Call
-call_of words = call_named (word_at 0 words) (word_at 1 words) words
+call_of words = call_named (letter_at 0 words) (byte_at 2 (word_at 0 words)) words
 
 -- Replies
 
@@ -155,53 +144,23 @@ fault_of n =
 
 -- of `sent`, who was served
 abbrev pub served_of : List (List ℕ) → Option Readiness
-served_of words = if bytes_eq (word_at 1 words) (codes "wakes") then Some (readiness_of (word_at 2 words)) else None
+served_of words = if letter_at 1 words == letter (codes "wakes") then Some (readiness_of (word_at 2 words)) else None
 
 -- of `got` with its value, who was served
 abbrev pub relay_of : List (List ℕ) → Option Relay
 relay_of words =
-    if bytes_eq (word_at 3 words) (codes "wakes") then Some (record { sender = readiness_of (word_at 4 words); value = number_at 6 words }) else None
+    if letter_at 3 words == letter (codes "wakes") then Some (record { sender = readiness_of (word_at 4 words); value = number_at 6 words }) else None
 
 -- of `idle` with its processor, which machine was woken
 abbrev pub woken_of : List (List ℕ) → Option MNo
-woken_of words = if bytes_eq (word_at 2 words) (codes "wakes") then Some (record { 0 = narrow 8 (number_at 3 words) }) else None
+woken_of words = if letter_at 2 words == letter (codes "wakes") then Some (record { 0 = narrow 8 (number_at 3 words) }) else None
 
 -- what stands behind the case of a select
 unfoldable pub taken_of : List (List ℕ) → Taken
 taken_of words =
-    if bytes_eq (word_at 0 words) (codes "sent") then taken.Sent (served_of words)
-    else (if bytes_eq (word_at 0 words) (codes "got") then taken.Got (number_at 1 words) (bytes_eq (word_at 2 words) (codes "true")) (relay_of words)
+    if letter_at 0 words == letter (codes "sent") then taken.Sent (served_of words)
+    else (if letter_at 0 words == letter (codes "got") then taken.Got (number_at 1 words) (letter_at 2 words == letter (codes "true")) (relay_of words)
     else taken.Failed)
-
--- a reply that names nothing
-unfoldable pub bare_reply_of : List ℕ → Reply
-bare_reply_of name =
-    if bytes_eq name (codes "none") then reply.Nothing
-    else (if bytes_eq name (codes "held") then reply.Held
-    else (if bytes_eq name (codes "dead") then reply.Dead
-    else (if bytes_eq name (codes "main") then reply.MainEnded
-    else (if bytes_eq name (codes "waits") then reply.Waits
-    else (if bytes_eq name (codes "default") then reply.Default
-    else (if bytes_eq name (codes "true") then reply.Answer true
-    else (if bytes_eq name (codes "false") then reply.Answer false
-    else (if bytes_eq name (codes "done") then reply.Done
-    else (if bytes_eq name (codes "parked") then reply.Parked
-    else (if bytes_eq name (codes "work") then reply.Work
-    else reply.AllAsleep))))))))))
-
--- a reply that names one number, or one that names nothing
-unfoldable pub number_reply_of : List ℕ → ℕ → Reply
-number_reply_of name n =
-    if bytes_eq name (codes "proc") then reply.Proc (record { 0 = narrow 8 n })
-    else (if bytes_eq name (codes "runs") then reply.Runs (record { 0 = narrow 8 n })
-    else (if bytes_eq name (codes "wakes") then reply.Wakes (record { 0 = narrow 8 n })
-    else (if bytes_eq name (codes "chan") then reply.Channel (record { 0 = narrow 16 n })
-    else (if bytes_eq name (codes "closed") then reply.Closed n
-    else (if bytes_eq name (codes "number") then reply.Number n
-    else (if bytes_eq name (codes "mind") then reply.Mind n
-    else (if bytes_eq name (codes "woke") then reply.Woke n
-    else (if bytes_eq name (codes "fault") then reply.Fault (fault_of n)
-    else bare_reply_of name))))))))
 
 -- of a declare, the processor that was given up; of any other call, what an enter is answered
 unfoldable pub idle_of : Call → PNo → Option MNo → Reply
@@ -211,18 +170,29 @@ idle_of _ p woken = reply.Entered p woken
 abbrev pub shelf_of : List ℕ → Reply
 shelf_of word = if bytes_eq word [] then reply.Shelf else reply.Shelved (readiness_of word)
 
-unfoldable pub reply_named : Call → List ℕ → List ℕ → List (List ℕ) → Reply
-reply_named asked name first words =
-    if bytes_eq name (codes "ticket") then reply.Ticket (readiness_of first)
-    else (if bytes_eq name (codes "shelf") then shelf_of first
-    else (if bytes_eq name (codes "sent") then reply.Sent (served_of words)
-    else (if bytes_eq name (codes "got") then reply.Got (number_of first) (bytes_eq (word_at 2 words) (codes "true")) (relay_of words)
-    else (if bytes_eq name (codes "chose") then reply.Chose (narrow 8 (number_of first)) (taken_of (drop 2 words))
-    else (if bytes_eq name (codes "idle") then idle_of asked (record { 0 = narrow 8 (number_of first) }) (woken_of words)
-    else number_reply_of name (number_of first))))))
+-- The first three letters of a reply's name tell it from the others.
+unfoldable pub reply_named : Call → ℕ → ℕ → ℕ → List (List ℕ) → Reply
+reply_named asked first second third words =
+    if first == letter (codes "all") then reply.AllAsleep
+    else (if first == letter (codes "chan") then (if third == byte_at 2 (codes "chan") then reply.Channel (record { 0 = narrow 16 (number_at 1 words) }) else (if second == byte_at 1 (codes "closed") then reply.Closed (number_at 1 words) else reply.Chose (narrow 8 (number_at 1 words)) (taken_of (drop 2 words))))
+    else (if first == letter (codes "dead") then (if third == byte_at 2 (codes "dead") then reply.Dead else (if third == byte_at 2 (codes "default") then reply.Default else reply.Done))
+    else (if first == letter (codes "fault") then (if third == byte_at 2 (codes "fault") then reply.Fault (fault_of (number_at 1 words)) else reply.Answer false)
+    else (if first == letter (codes "got") then reply.Got (number_at 1 words) (letter_at 2 words == letter (codes "true")) (relay_of words)
+    else (if first == letter (codes "held") then reply.Held
+    else (if first == letter (codes "idle") then idle_of asked (record { 0 = narrow 8 (number_at 1 words) }) (woken_of words)
+    else (if first == letter (codes "main") then (if third == byte_at 2 (codes "main") then reply.MainEnded else reply.Mind (number_at 1 words))
+    else (if first == letter (codes "none") then (if third == byte_at 2 (codes "none") then reply.Nothing else reply.Number (number_at 1 words))
+    else (if first == letter (codes "proc") then (if third == byte_at 2 (codes "proc") then reply.Proc (record { 0 = narrow 8 (number_at 1 words) }) else reply.Parked)
+    else (if first == letter (codes "runs") then reply.Runs (record { 0 = narrow 8 (number_at 1 words) })
+    else (if first == letter (codes "shelf") then (if third == byte_at 2 (codes "shelf") then shelf_of (word_at 1 words) else reply.Sent (served_of words))
+    else (if first == letter (codes "ticket") then (if third == byte_at 2 (codes "ticket") then reply.Ticket (readiness_of (word_at 1 words)) else reply.Answer true)
+    else (if third == byte_at 2 (codes "waits") then reply.Waits
+    else (if third == byte_at 2 (codes "work") then reply.Work
+    else (if second == byte_at 1 (codes "wakes") then reply.Wakes (record { 0 = narrow 8 (number_at 1 words) })
+    else reply.Woke (number_at 1 words))))))))))))))))
 
 abbrev pub reply_of : Call → List (List ℕ) → Reply
-reply_of asked words = reply_named asked (word_at 0 words) (word_at 1 words) words
+reply_of asked words = reply_named asked (letter_at 0 words) (byte_at 1 (word_at 0 words)) (byte_at 2 (word_at 0 words)) words
 
 -- Lines
 

@@ -17,7 +17,7 @@ use crate::line::{put_capacities, put_end, put_entry, put_limits};
 use crate::trace::End;
 use crate::words::{narrow8, narrow16, narrow32, number, part, sides, skip, split, word};
 use gmp_base::MNo;
-use gmp_seq::{Entry, Limits};
+use gmp_seq::{Call, Entry, Limits, Reply};
 use std::alloc::{AllocError, Global};
 
 /// The text behind the line, if it begins with the line.
@@ -100,36 +100,44 @@ pub fn capacities_at<'a>(
 
 /// The entry that the words of a line may say, but for its number.
 #[tactic(auto, unfolding(crate::specs::Guess::entry_of))]
-fn guess_entry(words: &[&[u8]]) -> Entry
-    ensures value { result ≡ entry_of (map (λ w. w.now) words.now) }
-    ensures fits { Fits result }
+fn guess_entry(words: &[&[u8]], entry: &mut Entry)
+    ensures value { entry.new ≡ entry_of (map (λ w. w.now) words.now) }
+    ensures fits { Fits entry.new }
 {
     let (m, k) = part(word(words, 1), b'.');
     let (asked, answered) = sides(skip(words, 2));
-    let call = guess_call(asked);
-    let reply = guess_reply(&call, answered);
-    Entry::new(MNo(narrow8(number(m))), number(k), call, reply)
+    entry.m = MNo(narrow8(number(m)));
+    entry.k = number(k);
+    guess_call(asked, &mut entry.call);
+    entry.reply = guess_reply(&entry.call, answered);
 }
 
-/// The entry whose line the text begins with, its number before it, and the text behind the line. What is answered `idle P` is read by the call.
+/// An entry to read into.
+pub fn blank() -> Entry {
+    Entry::new(MNo(0), 0, Call::Yield, Reply::Nothing)
+}
+
+/// Reads the entry whose line the text begins with. It answers the number before it, and the text behind the line. What is answered `idle P` is
+/// read by the call. Where the text begins with no such line, the entry is some entry.
 pub fn entry_at<'a>(
     text: &'a [u8],
     words: &mut Vec<&'a [u8]>,
     line: &mut Vec<u8>,
-) -> Result<Option<(u64, Entry, &'a [u8])>, AllocError>
-    ensures found { IfOk result (λ o. IfSome o (λ r. (text.now ≡ entry_text r.0 r.1 ++ r.2.now) × IsWord r.0 × Fits r.1)) }
+    entry: &mut Entry,
+) -> Result<Option<(u64, &'a [u8])>, AllocError>
+    ensures found { IfOk result (λ o. IfSome o (λ r. (text.now ≡ entry_text r.0 entry.new ++ r.1.now) × IsWord r.0 × Fits entry.new)) }
     ensures only { IfOk result (λ o. (n : ℕ) (e : Entry) (more : List ℕ) → IsEntry n e → text.now ≡ entry_text n e ++ more
-        → IsSomeAnd o (λ r. (r.0 ≡ n) × (r.1 ≡ e) × (r.2.now ≡ more))) }
+        → IsSomeAnd o (λ r. (r.0 ≡ n) × (entry.new ≡ e) × (r.1.now ≡ more))) }
 {
     split(text, words)?;
     let n = number(word(words, 0));
-    let entry = guess_entry(words);
+    guess_entry(words, entry);
     line.clear();
-    put_entry(line, n, &entry)?;
+    put_entry(line, n, entry)?;
     let Some(rest) = behind(text, line) else {
         return Ok(None);
     };
-    Ok(Some((n, entry, rest)))
+    Ok(Some((n, rest)))
 }
 
 #[tactic(auto, unfolding(crate::specs::Guess::end_in))]

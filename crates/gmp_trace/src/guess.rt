@@ -1,9 +1,12 @@
 //! The call that words may say. Nothing is refused: who reads writes the guess, and compares.
 
 ghost use Rattle.std.specs.Prelude.{◌≡◌, ◌<◌, ◌++◌, ◌∷◌, [], length, map};
-ghost use Rattle.gmp_trace.specs.Guess.{is_case, case_of, cases_of, default_of, until_of, select_of, bare_call_of, channel_call_of, call_named, call_of};
+ghost use Rattle.gmp_seq.specs.Fits.{FitsCall};
+ghost use Rattle.gmp_trace.specs.Guess.{is_case, case_of, cases_of, default_of, until_of, select_of, call_named, call_of};
 
-use crate::words::{channel, narrow16, narrow32, number, part, readiness, skip, word};
+use crate::words::{
+    byte, channel, letter, narrow16, narrow32, number, part, readiness, skip, word,
+};
 use gmp_base::{Case, Cases, GNo};
 use gmp_seq::Call;
 
@@ -81,90 +84,47 @@ fn select(words: &[&[u8]]) -> Call
     Call::Select(cases, has_default, until(words))
 }
 
-/// A call that names nothing.
-#[tactic(auto, unfolding(crate::specs::Guess::bare_call_of))]
-fn alone(name: &[u8]) -> Call
-    ensures { result ≡ bare_call_of name.now }
-{
-    if name == b"acquire".as_slice() {
-        Call::Acquire
-    } else if name == b"take".as_slice() {
-        Call::Take
-    } else if name == b"yield".as_slice() {
-        Call::Yield
-    } else if name == b"exit".as_slice() {
-        Call::Exit
-    } else if name == b"gopark".as_slice() {
-        Call::Gopark
-    } else if name == b"enter".as_slice() {
-        Call::Enter
-    } else if name == b"spin".as_slice() {
-        Call::Spin
-    } else if name == b"woken".as_slice() {
-        Call::Woken
-    } else if name == b"unspin".as_slice() {
-        Call::Unspin
-    } else if name == b"poke".as_slice() {
-        Call::Poke
-    } else if name == b"declare".as_slice() {
-        Call::Declare
-    } else if name == b"bare".as_slice() {
-        Call::Bare
-    } else {
-        Call::Park
-    }
-}
-
-/// A call that names a channel, or one that names nothing.
-#[tactic(auto, unfolding(crate::specs::Guess::channel_call_of))]
-fn on_channel(name: &[u8], first: &[u8], second: &[u8]) -> Call
-    ensures { result ≡ channel_call_of name.now first.now second.now }
-{
-    if name == b"send".as_slice() {
-        Call::Send(channel(first), number(second))
-    } else if name == b"recv".as_slice() {
-        Call::Recv(channel(first))
-    } else if name == b"close".as_slice() {
-        Call::Close(channel(first))
-    } else if name == b"len".as_slice() {
-        Call::Len(channel(first))
-    } else if name == b"cap".as_slice() {
-        Call::Cap(channel(first))
-    } else {
-        alone(name)
-    }
-}
-
 #[tactic(auto, unfolding(crate::specs::Guess::call_named))]
-fn named(name: &[u8], first: &[u8], words: &[&[u8]]) -> Call
-    ensures { result ≡ call_named name.now first.now (map (λ w. w.now) words.now) }
+fn named(first: u8, third: u8, words: &[&[u8]], call: &mut Call)
+    ensures value { call.new ≡ call_named first third (map (λ w. w.now) words.now) }
+    ensures fits { FitsCall call.new }
 {
-    if name == b"put".as_slice() {
-        Call::Put(readiness(first))
-    } else if name == b"claim".as_slice() {
-        Call::Claim(readiness(first))
-    } else if name == b"go".as_slice() {
-        Call::Go(GNo(narrow16(number(first))))
-    } else if name == b"ready".as_slice() {
-        Call::Ready(GNo(narrow16(number(first))))
-    } else if name == b"make".as_slice() {
-        Call::Make(narrow32(number(first)))
-    } else if name == b"sleep".as_slice() {
-        Call::Sleep(number(first))
-    } else if name == b"leave".as_slice() {
-        Call::Leave(number(first))
-    } else if name == b"tick".as_slice() {
-        Call::Tick(number(first))
-    } else if name == b"select".as_slice() {
-        select(skip(words, 1))
-    } else {
-        on_channel(name, first, word(words, 2))
+    let about = word(words, 1);
+    match (first, third) {
+        (b'a', _) => *call = Call::Acquire,
+        (b'b', _) => *call = Call::Bare,
+        (b'c', b'a') => *call = Call::Claim(readiness(about)),
+        (b'c', b'o') => *call = Call::Close(channel(about)),
+        (b'c', _) => *call = Call::Cap(channel(about)),
+        (b'd', _) => *call = Call::Declare,
+        (b'e', b'i') => *call = Call::Exit,
+        (b'e', _) => *call = Call::Enter,
+        (b'g', b'p') => *call = Call::Gopark,
+        (b'g', _) => *call = Call::Go(GNo(narrow16(number(about)))),
+        (b'l', b'a') => *call = Call::Leave(number(about)),
+        (b'l', _) => *call = Call::Len(channel(about)),
+        (b'm', _) => *call = Call::Make(narrow32(number(about))),
+        (b'p', b't') => *call = Call::Put(readiness(about)),
+        (b'p', b'k') => *call = Call::Poke,
+        (b'p', _) => *call = Call::Park,
+        (b'r', b'a') => *call = Call::Ready(GNo(narrow16(number(about)))),
+        (b'r', _) => *call = Call::Recv(channel(about)),
+        (b's', b'n') => *call = Call::Send(channel(about), number(word(words, 2))),
+        (b's', b'l') => *call = select(skip(words, 1)),
+        (b's', b'e') => *call = Call::Sleep(number(about)),
+        (b's', _) => *call = Call::Spin,
+        (b't', b'k') => *call = Call::Take,
+        (b't', _) => *call = Call::Tick(number(about)),
+        (b'u', _) => *call = Call::Unspin,
+        (b'w', _) => *call = Call::Woken,
+        _ => *call = Call::Yield,
     }
 }
 
-/// The call that these words may say, its name and what it names.
-pub fn guess_call(words: &[&[u8]]) -> Call
-    ensures { result ≡ call_of (map (λ w. w.now) words.now) }
+/// The call that these words may say. The first and the third letter of its name decide.
+pub fn guess_call(words: &[&[u8]], call: &mut Call)
+    ensures value { call.new ≡ call_of (map (λ w. w.now) words.now) }
+    ensures fits { FitsCall call.new }
 {
-    named(word(words, 0), word(words, 1), words)
+    named(letter(words, 0), byte(word(words, 0), 2), words, call);
 }

@@ -1,9 +1,9 @@
 //! The reply that words may say. Nothing is refused: who reads writes the guess, and compares.
 
 ghost use Rattle.std.specs.Prelude.{◌≡◌, map};
-ghost use Rattle.gmp_trace.specs.Guess.{fault_of, served_of, relay_of, woken_of, taken_of, bare_reply_of, number_reply_of, idle_of, shelf_of, reply_named, reply_of};
+ghost use Rattle.gmp_trace.specs.Guess.{fault_of, served_of, relay_of, woken_of, taken_of, idle_of, shelf_of, reply_named, reply_of};
 
-use crate::words::{narrow8, narrow16, number, readiness, skip, word};
+use crate::words::{byte, letter, narrow8, narrow16, number, readiness, skip, word};
 use gmp_base::{CNo, Fault, MNo, PNo, Readiness};
 use gmp_seq::{Call, Relay, Reply, Taken};
 
@@ -28,7 +28,7 @@ fn fault(n: u64) -> Fault
 fn served(words: &[&[u8]]) -> Option<Readiness>
     ensures { result ≡ served_of (map (λ w. w.now) words.now) }
 {
-    if word(words, 1) == b"wakes".as_slice() {
+    if letter(words, 1) == b'w' {
         Some(readiness(word(words, 2)))
     } else {
         None
@@ -39,7 +39,7 @@ fn served(words: &[&[u8]]) -> Option<Readiness>
 fn relay(words: &[&[u8]]) -> Option<Relay>
     ensures { result ≡ relay_of (map (λ w. w.now) words.now) }
 {
-    if word(words, 3) == b"wakes".as_slice() {
+    if letter(words, 3) == b'w' {
         Some(Relay {
             sender: readiness(word(words, 4)),
             value: number(word(words, 6)),
@@ -53,7 +53,7 @@ fn relay(words: &[&[u8]]) -> Option<Relay>
 fn woken(words: &[&[u8]]) -> Option<MNo>
     ensures { result ≡ woken_of (map (λ w. w.now) words.now) }
 {
-    if word(words, 2) == b"wakes".as_slice() {
+    if letter(words, 2) == b'w' {
         Some(MNo(narrow8(number(word(words, 3)))))
     } else {
         None
@@ -65,74 +65,14 @@ fn woken(words: &[&[u8]]) -> Option<MNo>
 fn taken(words: &[&[u8]]) -> Taken
     ensures { result ≡ taken_of (map (λ w. w.now) words.now) }
 {
-    let name = word(words, 0);
-    if name == b"sent".as_slice() {
-        Taken::Sent(served(words))
-    } else if name == b"got".as_slice() {
-        let sent = word(words, 2) == b"true".as_slice();
-        Taken::Got(number(word(words, 1)), sent, relay(words))
-    } else {
-        Taken::Failed
-    }
-}
-
-/// A reply that names nothing.
-#[tactic(auto, unfolding(crate::specs::Guess::bare_reply_of))]
-fn alone(name: &[u8]) -> Reply
-    ensures { result ≡ bare_reply_of name.now }
-{
-    if name == b"none".as_slice() {
-        Reply::Nothing
-    } else if name == b"held".as_slice() {
-        Reply::Held
-    } else if name == b"dead".as_slice() {
-        Reply::Dead
-    } else if name == b"main".as_slice() {
-        Reply::MainEnded
-    } else if name == b"waits".as_slice() {
-        Reply::Waits
-    } else if name == b"default".as_slice() {
-        Reply::Default
-    } else if name == b"true".as_slice() {
-        Reply::Answer(true)
-    } else if name == b"false".as_slice() {
-        Reply::Answer(false)
-    } else if name == b"done".as_slice() {
-        Reply::Done
-    } else if name == b"parked".as_slice() {
-        Reply::Parked
-    } else if name == b"work".as_slice() {
-        Reply::Work
-    } else {
-        Reply::AllAsleep
-    }
-}
-
-/// A reply that names one number, or one that names nothing.
-#[tactic(auto, unfolding(crate::specs::Guess::number_reply_of))]
-fn of_number(name: &[u8], n: u64) -> Reply
-    ensures { result ≡ number_reply_of name.now n }
-{
-    if name == b"proc".as_slice() {
-        Reply::Proc(PNo(narrow8(n)))
-    } else if name == b"runs".as_slice() {
-        Reply::Runs(PNo(narrow8(n)))
-    } else if name == b"wakes".as_slice() {
-        Reply::Wakes(MNo(narrow8(n)))
-    } else if name == b"chan".as_slice() {
-        Reply::Channel(CNo(narrow16(n)))
-    } else if name == b"closed".as_slice() {
-        Reply::Closed(n)
-    } else if name == b"number".as_slice() {
-        Reply::Number(n)
-    } else if name == b"mind".as_slice() {
-        Reply::Mind(n)
-    } else if name == b"woke".as_slice() {
-        Reply::Woke(n)
-    } else if name == b"fault".as_slice() {
-        Reply::Fault(fault(n))
-    } else {
-        alone(name)
+    match letter(words, 0) {
+        b's' => Taken::Sent(served(words)),
+        b'g' => Taken::Got(
+            number(word(words, 1)),
+            letter(words, 2) == b't',
+            relay(words),
+        ),
+        _ => Taken::Failed,
     }
 }
 
@@ -159,30 +99,45 @@ fn shelf(word: &[u8]) -> Reply
 }
 
 #[tactic(auto, unfolding(crate::specs::Guess::reply_named))]
-fn named(call: &Call, name: &[u8], first: &[u8], words: &[&[u8]]) -> Reply
-    ensures { result ≡ reply_named call.now name.now first.now (map (λ w. w.now) words.now) }
+fn named(call: &Call, first: u8, second: u8, third: u8, words: &[&[u8]]) -> Reply
+    ensures { result ≡ reply_named call.now first second third (map (λ w. w.now) words.now) }
 {
-    if name == b"ticket".as_slice() {
-        Reply::Ticket(readiness(first))
-    } else if name == b"shelf".as_slice() {
-        shelf(first)
-    } else if name == b"sent".as_slice() {
-        Reply::Sent(served(words))
-    } else if name == b"got".as_slice() {
-        let sent = word(words, 2) == b"true".as_slice();
-        Reply::Got(number(first), sent, relay(words))
-    } else if name == b"chose".as_slice() {
-        Reply::Chose(narrow8(number(first)), taken(skip(words, 2)))
-    } else if name == b"idle".as_slice() {
-        idle(call, PNo(narrow8(number(first))), woken(words))
-    } else {
-        of_number(name, number(first))
+    let about = word(words, 1);
+    match (first, second, third) {
+        (b'a', _, _) => Reply::AllAsleep,
+        (b'c', _, b'a') => Reply::Channel(CNo(narrow16(number(about)))),
+        (b'c', b'l', _) => Reply::Closed(number(about)),
+        (b'c', _, _) => Reply::Chose(narrow8(number(about)), taken(skip(words, 2))),
+        (b'd', _, b'a') => Reply::Dead,
+        (b'd', _, b'f') => Reply::Default,
+        (b'd', _, _) => Reply::Done,
+        (b'f', _, b'u') => Reply::Fault(fault(number(about))),
+        (b'f', _, _) => Reply::Answer(false),
+        (b'g', _, _) => Reply::Got(number(about), letter(words, 2) == b't', relay(words)),
+        (b'h', _, _) => Reply::Held,
+        (b'i', _, _) => idle(call, PNo(narrow8(number(about))), woken(words)),
+        (b'm', _, b'i') => Reply::MainEnded,
+        (b'm', _, _) => Reply::Mind(number(about)),
+        (b'n', _, b'n') => Reply::Nothing,
+        (b'n', _, _) => Reply::Number(number(about)),
+        (b'p', _, b'o') => Reply::Proc(PNo(narrow8(number(about)))),
+        (b'p', _, _) => Reply::Parked,
+        (b'r', _, _) => Reply::Runs(PNo(narrow8(number(about)))),
+        (b's', _, b'e') => shelf(about),
+        (b's', _, _) => Reply::Sent(served(words)),
+        (b't', _, b'c') => Reply::Ticket(readiness(about)),
+        (b't', _, _) => Reply::Answer(true),
+        (_, _, b'i') => Reply::Waits,
+        (_, _, b'r') => Reply::Work,
+        (_, b'a', _) => Reply::Wakes(MNo(narrow8(number(about)))),
+        _ => Reply::Woke(number(about)),
     }
 }
 
-/// The reply of this call that these words may say.
+/// The reply of this call that these words may say. The first three letters of its name tell it from the others.
 pub fn guess_reply(call: &Call, words: &[&[u8]]) -> Reply
     ensures { result ≡ reply_of call.now (map (λ w. w.now) words.now) }
 {
-    named(call, word(words, 0), word(words, 1), words)
+    let name = word(words, 0);
+    named(call, byte(name, 0), byte(name, 1), byte(name, 2), words)
 }

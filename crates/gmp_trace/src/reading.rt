@@ -8,7 +8,7 @@ ghost use Rattle.gmp_seq.specs.Fits.{FitsCall};
 ghost use Rattle.gmp_trace.specs.Reading.{FitLimits, IsEntry};
 ghost use Rattle.gmp_trace.specs.Text.{call_pieces, capacities_text, entry_text, fields, limits_text};
 
-use crate::at::{capacities_at, entry_at, limits_at};
+use crate::at::{blank, capacities_at, entry_at, limits_at};
 use crate::call::put_call;
 use crate::guess::guess_call;
 use crate::put::{put, put_word};
@@ -23,7 +23,8 @@ pub fn read_call(alloc: Global, text: &[u8]) -> Result<Option<Call>, AllocError>
 {
     let mut words = Vec::new(alloc);
     split(text, &mut words)?;
-    let call = guess_call(&words);
+    let mut call = Call::Yield;
+    guess_call(&words, &mut call);
     let mut guessed = Vec::new(alloc);
     put_call(&mut guessed, &call)?;
     let mut given = Vec::new(alloc);
@@ -89,7 +90,8 @@ pub fn read_entry(alloc: Global, line: &[u8]) -> Result<Option<(u64, Entry)>, Al
     let text = fed(alloc, line)?;
     let mut words = Vec::new(alloc);
     let mut guessed = Vec::new(alloc);
-    let Some((n, entry, rest)) = entry_at(&text, &mut words, &mut guessed)? else {
+    let mut entry = blank();
+    let Some((n, rest)) = entry_at(&text, &mut words, &mut guessed, &mut entry)? else {
         return Ok(None);
     };
     if !rest.is_empty() {

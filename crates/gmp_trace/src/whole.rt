@@ -10,12 +10,16 @@ ghost use Rattle.gmp_trace.specs.HasText.{HasText, answers, turns};
 ghost use Rattle.gmp_trace.specs.Reading.{AreEntries, IsBody, IsBodyFault, IsEntry, IsFault, IsLastFault, IsNext};
 ghost use Rattle.gmp_trace.specs.Text.{Content, capacities_text, content, end_text, entries_text, entry_text, limits_text, text};
 
-use crate::at::{behind, capacities_at, end_at, entry_at, limits_at};
+use crate::at::{behind, blank, capacities_at, end_at, entry_at, limits_at};
 use crate::bad::{Bad, Why};
 use crate::trace::{End, Trace};
+use crate::watch::Watch;
 use gmp_base::Fault;
 use gmp_seq::{Call, Entry, Limits, Reply};
 use std::alloc::{AllocError, Global};
+
+/// So many entries are read between two calls of a watch.
+const EVERY: u64 = 65_536;
 
 const OUT_OF_MEMORY: Bad = Bad {
     line: 0,
@@ -122,23 +126,24 @@ fn is_answered(call: &Call, reply: &Reply) -> bool
     }
 }
 
-/// The entry by the table whose line the text begins with, its number before it, and the text behind the line.
+/// Reads the entry by the table whose line the text begins with. It answers the number before it, and the text behind the line.
 fn answered_at<'a>(
     text: &'a [u8],
     words: &mut Vec<&'a [u8]>,
     line: &mut Vec<u8>,
-) -> Result<Option<(u64, Entry, &'a [u8])>, AllocError>
-    ensures found { IfOk result (λ o. IfSome o (λ r. (text.now ≡ entry_text r.0 r.1 ++ r.2.now) × IsEntry r.0 r.1)) }
+    entry: &mut Entry,
+) -> Result<Option<(u64, &'a [u8])>, AllocError>
+    ensures found { IfOk result (λ o. IfSome o (λ r. (text.now ≡ entry_text r.0 entry.new ++ r.1.now) × IsEntry r.0 entry.new)) }
     ensures only { IfOk result (λ o. (n : ℕ) (e : Entry) (more : List ℕ) → IsEntry n e → text.now ≡ entry_text n e ++ more
-        → IsSomeAnd o (λ r. (r.0 ≡ n) × (r.1 ≡ e) × (r.2.now ≡ more))) }
+        → IsSomeAnd o (λ r. (r.0 ≡ n) × (entry.new ≡ e) × (r.1.now ≡ more))) }
 {
-    let Some((n, entry, rest)) = entry_at(text, words, line)? else {
+    let Some((n, rest)) = entry_at(text, words, line, entry)? else {
         return Ok(None);
     };
     if !is_answered(&entry.call, &entry.reply) {
         return Ok(None);
     }
-    Ok(Some((n, entry, rest)))
+    Ok(Some((n, rest)))
 }
 
 /// The end that the text says behind so many entries.
@@ -181,8 +186,20 @@ fn is_next(machines: u8, counts: &[u64; 64], next: u64, n: u64, entry: &Entry) -
     n == next && m < machines && counts[usize::from(m)] == entry.k
 }
 
+/// Tells now and then how many entries were read.
+fn tell<W: Watch>(watch: &mut W, number: u64) {
+    if number % EVERY == 0 {
+        watch.entries(number);
+    }
+}
+
 /// The entries and the end that a text says behind its first three lines.
-fn body(alloc: Global, machines: u8, text: &[u8]) -> Result<(Vec<Entry>, End), Bad>
+fn body<W: Watch>(
+    alloc: Global,
+    machines: u8,
+    text: &[u8],
+    watch: &mut W,
+) -> Result<(Vec<Entry>, End), Bad>
     requires { machines ≤ 64 }
     ensures found { IfOk result (λ r. AreEntries machines r.0.items × (text.now ≡ entries_text 0 r.0.items ++ end_text r.1)) }
     ensures only { (es : List Entry) (end : End) → IsBody machines text.now es end
@@ -196,10 +213,12 @@ fn body(alloc: Global, machines: u8, text: &[u8]) -> Result<(Vec<Entry>, End), B
     let mut rest = text;
     while !rest.is_empty() {
         let number = entries.len() as u64;
-        let Ok(found) = answered_at(rest, &mut words, &mut line) else {
+        tell(watch, number);
+        let mut entry = blank();
+        let Ok(found) = answered_at(rest, &mut words, &mut line, &mut entry) else {
             return Err(OUT_OF_MEMORY);
         };
-        let Some((n, entry, more)) = found else {
+        let Some((n, more)) = found else {
             return match last(number, rest, &mut words, &mut line) {
                 Ok(end) => Ok((entries, end)),
                 Err(bad) => Err(bad),
@@ -232,6 +251,15 @@ pub fn read(alloc: Global, bytes: &[u8]) -> Result<Trace, Bad>
     ensures only { (x : Content) → HasText x → bytes.now ≡ text x → MatchResult result (λ y. content y ≡ x) (λ bad. bad.why ≡ Why.OutOfMemory) }
     ensures fault { IfErr result (λ bad. IsFault bytes.now bad.line bad.why) }
 {
+    read_watched(alloc, bytes, &mut ())
+}
+
+/// Reads as `read` does, and tells the watch how many entries were read, at each 65,536th.
+pub fn read_watched<W: Watch>(alloc: Global, bytes: &[u8], watch: &mut W) -> Result<Trace, Bad>
+    ensures found { IfOk result (λ x. HasText (content x) × (bytes.now ≡ text (content x))) }
+    ensures only { (x : Content) → HasText x → bytes.now ≡ text x → MatchResult result (λ y. content y ≡ x) (λ bad. bad.why ≡ Why.OutOfMemory) }
+    ensures fault { IfErr result (λ bad. IsFault bytes.now bad.line bad.why) }
+{
     let Some(rest) = behind(bytes, b"gmp-trace 1\n") else {
         return Err(Bad {
             line: 1,
@@ -258,7 +286,7 @@ pub fn read(alloc: Global, bytes: &[u8]) -> Result<Trace, Bad>
             why: Why::Caps,
         });
     };
-    match body(alloc, limits.machines, rest) {
+    match body(alloc, limits.machines, rest, watch) {
         Err(bad) => Err(bad),
         Ok((entries, end)) => Ok(Trace {
             limits,

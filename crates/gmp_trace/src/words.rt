@@ -1,7 +1,7 @@
 //! Words of a line, and what they may stand for. Nothing is refused: who reads writes what was read, and compares.
 
 ghost use Rattle.std.specs.Prelude.{◌≡◌, [], OnOk, map, take, drop};
-ghost use Rattle.gmp_trace.specs.Guess.{words_on, parted, sides, number_of, narrow, word_at, readiness_of, channel_of};
+ghost use Rattle.gmp_trace.specs.Guess.{words_on, parted, sides, number_of, narrow, byte_at, letter_at, word_at, readiness_of, channel_of};
 
 use gmp_base::{CNo, GNo, Readiness};
 use std::alloc::AllocError;
@@ -42,9 +42,7 @@ pub fn number(word: &[u8]) -> u64
 {
     let mut n = 0u64;
     for digit in word {
-        n = n
-            .wrapping_mul(10)
-            .wrapping_add(u64::from(digit.saturating_sub(b'0')));
+        n = n.wrapping_mul(10).wrapping_add(u64::from(digit % 16));
     }
     n
 }
@@ -98,6 +96,9 @@ pub fn split<'a>(text: &'a [u8], words: &mut Vec<&'a [u8]>) -> Result<(), AllocE
     words.clear();
     let mut start = 0;
     for (i, b) in text.iter().enumerate() {
+        if *b > b' ' {
+            continue;
+        }
         if *b == b'\n' {
             words.push(&text[start..i])?;
             return Ok(());
@@ -122,6 +123,23 @@ pub fn word<'a>(words: &[&'a [u8]], i: usize) -> &'a [u8]
         Some(word) => word,
         None => &[],
     }
+}
+
+/// The byte at this place, or 0.
+pub fn byte(word: &[u8], i: usize) -> u8
+    ensures { result ≡ byte_at i word.now }
+{
+    match word.get(i) {
+        Some(byte) => *byte,
+        None => 0,
+    }
+}
+
+/// The first byte of the word at this place, or 0.
+pub fn letter(words: &[&[u8]], i: usize) -> u8
+    ensures { result ≡ letter_at i (map (λ w. w.now) words.now) }
+{
+    byte(word(words, i), 0)
 }
 
 /// The words up to this place.

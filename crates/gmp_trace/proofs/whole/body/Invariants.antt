@@ -6,11 +6,11 @@ use Rattle.gmp_trace.proofs.Body.{Left, Counts}
 use Rattle.gmp_trace.proofs.whole.body.Given as goal
 
 abbrev pub invariant-loop-rest : goal.invariant-loop-rest
-invariant-loop-rest l = record {
+invariant-loop-rest g l = record {
   starts : Starts l.machines l.text l.entries.items l.rest;
   counts : Counts l.counts l.entries.items;
   left : (xs : List Entry) (end : End) → IsBody l.machines l.text xs end → Left l.entries.items l.rest xs end;
 }
 
 abbrev pub decreases-loop-rest : goal.decreases-loop-rest
-decreases-loop-rest l = length l.rest
+decreases-loop-rest g l = length l.rest

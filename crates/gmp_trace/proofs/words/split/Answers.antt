@@ -5,6 +5,16 @@ use Rattle.gmp_trace.proofs.Splitting.{between, between_more, words_at_space, wo
 use Rattle.gmp_trace.proofs.words.split.Goals as goal
 use Rattle.gmp_trace.proofs.words.split.Goals.{then-b-eq32+in_ok-push-2+else-len-ge-MOST_WORDS, else-b-eq32}
 
+pub loop-i-preserved-then-b-gt32 : goal.loop-i-preserved-then-b-gt32
+loop-i-preserved-then-b-gt32 c =
+    let t = c.args.text.now in
+    let i = c.loop-i.i in
+    record {
+      order = omega (arith, c.loop-i.invariant.order);
+      few = c.loop-i.invariant.few;
+      found = rw (between_more c.loop-i.start i t c.loop-i.invariant.order c.loop-i-test.true, ← words_at_other _ t i c.loop-i-test.true (λ is. omega (arith, is, c.if-b-gt32.true)) (λ is. omega (arith, is, c.if-b-gt32.true))) c.loop-i.invariant.found;
+    }
+
 pub loop-i-preserved : goal.loop-i-preserved
 loop-i-preserved c =
     let t = c.args.text.now in
