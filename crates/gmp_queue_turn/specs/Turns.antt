@@ -1,0 +1,101 @@
+-- One act of a machine at the local queues: what it is told, and what it holds then.
+use Rattle.std.specs.Prelude.{◌≡◌, ◌≢◌, ◌⊎◌, ℕ, Bool, true, false, is_some, List, [], ◌∷◌, Option, Some, None, slice_get, slice_set, IfSome}
+use Rattle.std.specs.Option.{option_map}
+use Rattle.gmp_base.specs.declared.number.PNo.{PNo}
+use Rattle.gmp_base.specs.declared.number.Readiness.{Readiness}
+use Rattle.gmp_driver.specs.declared.act.Act.{Act}
+use Rattle.gmp_driver.specs.declared.act.Act.TheVariants as act
+use Rattle.gmp_driver.specs.declared.act.Told.{Told}
+use Rattle.gmp_driver.specs.declared.act.Told.TheVariants as told
+use Rattle.gmp_driver.specs.declared.act.Tried.{Tried}
+use Rattle.gmp_driver.specs.declared.act.Tried.TheVariants as tried
+use Rattle.gmp_driver.specs.declared.registers.ProcParts.{ProcParts}
+use Rattle.gmp_driver.specs.declared.registers.Registers.{Registers}
+use Rattle.gmp_driver.specs.Hunt.{begun, victim_of}
+use Rattle.gmp_driver.specs.Machine.{Machine}
+use Rattle.gmp_driver.specs.Seen.{seen}
+use Rattle.gmp_driver.specs.Table.{after, next_act}
+use Rattle.gmp_queue.specs.declared.ends.Owner.{Owner}
+use Rattle.gmp_queue.specs.declared.ends.Thief.{Thief}
+use Rattle.gmp_queue.specs.Ends.{KeepsOwner, KeepsThief, owner_run, owner_view, thief_run, thief_view}
+use Rattle.gmp_queue.specs.Queue.{FoundNone, PoppedFirst, PutLast, StoleFirst}
+
+-- The act is one at a local queue.
+abbrev pub IsQueueAct : Act → Type 0
+IsQueueAct act.Pop = Unit {0}
+IsQueueAct act.Push = Unit {0}
+IsQueueAct act.Hunt = Unit {0}
+IsQueueAct (act.Steal victim) = Unit {0}
+IsQueueAct _ = ⊥
+
+-- The own queue
+
+-- its end, which is in hand with the processor
+abbrev pub owner_in : {T : Type 0} → Registers T Owner → Option Owner
+owner_in hand = option_map (λ (x : ProcParts Owner). x.owner) hand.processor
+
+abbrev pub with_owner : {T : Type 0} → Owner → Registers T Owner → Registers T Owner
+with_owner o hand = record hand { processor = option_map (λ (x : ProcParts Owner). record x { owner = o }) hand.processor }
+
+-- the end was o and is p, of the same queue and with the same parts
+abbrev pub UsesOwn : {T : Type 0} → Registers T Owner → (Owner → Owner → Type 0) → Type 0
+UsesOwn hand step = (o : Owner) × (p : Owner) × (owner_in hand ≡ Some o) × KeepsOwner o p × step o p
+
+-- Pushed: the ticket to store went last, and is in hand no more; none goes onto a queue of another run. Refused: it is in hand as before, and the queue is as it was.
+abbrev pub Pushes : {T : Type 0} → ℕ → Registers T Owner → Told → Registers T Owner → Type 0
+Pushes run hand told.Pushed hand' =
+    (r : Readiness) × (hand.to_store ≡ Some r)
+    × UsesOwn hand (λ o p. (owner_run o ≡ run) × PutLast (owner_view o) (r ∷ []) (owner_view p) × (hand' ≡ record (with_owner p hand) { to_store = None }))
+Pushes run hand told.PushRefused hand' = UsesOwn hand (λ o p. (owner_view p ≡ owner_view o) × (hand' ≡ with_owner p hand))
+Pushes run hand _ hand' = ⊥
+
+-- Got: the first ticket was taken, and is in hand, to claim. Empty: none was taken; in a queue of another run there is none for the machine.
+abbrev pub Pops : {T : Type 0} → ℕ → Registers T Owner → Told → Registers T Owner → Type 0
+Pops run hand told.Got hand' =
+    (r : Readiness)
+    × UsesOwn hand (λ o p. (owner_run o ≡ run) × PoppedFirst (owner_view o) (r ∷ []) (owner_view p) × (hand' ≡ record (with_owner p hand) { to_claim = Some r }))
+Pops run hand told.Empty hand' =
+    UsesOwn hand (λ o p. (owner_view p ≡ owner_view o) × (owner_run o ≡ run → FoundNone (owner_view o)) × (hand' ≡ with_owner p hand))
+Pops run hand _ hand' = ⊥
+
+-- Others' queues
+
+-- the thief of queue v was t and is u, of the same queue and with the same parts; all others are as they were
+abbrev pub UsesThief : ℕ → PNo → List Thief → List Thief → (Thief → Thief → Type 0) → Type 0
+UsesThief run v thieves thieves' step =
+    (t : Thief) × (u : Thief) × (slice_get thieves v.0 ≡ Some t) × (thieves' ≡ slice_set thieves v.0 u) × (thief_run t ≡ run) × KeepsThief t u × step t u
+
+-- there is no thief of queue v, or it is of another run
+abbrev pub HasNoThief : ℕ → PNo → List Thief → Type 0
+HasNoThief run v thieves = IfSome (slice_get thieves v.0) (λ t. thief_run t ≢ run)
+
+-- a ticket that is stolen is in hand, to claim, and where there is one to claim, to store
+abbrev pub with_stolen : {T : Type 0} → Readiness → Bool → Registers T Owner → Registers T Owner
+with_stolen r false hand = record hand { to_claim = Some r }
+with_stolen r true hand = record hand { to_store = Some r }
+
+-- Got: the first ticket of queue v was taken. Empty and Unsure: none was taken.
+abbrev pub Steals : {T : Type 0} → ℕ → PNo → List Thief → Bool → Registers T Owner → Tried → Registers T Owner → List Thief → Type 0
+Steals run v thieves has hand (tried.Got hint) hand' thieves' =
+    (r : Readiness) × UsesThief run v thieves thieves' (λ t u. StoleFirst (thief_view t) (r ∷ []) (thief_view u)) × (hand' ≡ with_stolen r has hand)
+Steals run v thieves has hand tried.Empty hand' thieves' =
+    (UsesThief run v thieves thieves' (λ t u. thief_view u ≡ thief_view t) ⊎ HasNoThief run v thieves × (thieves' ≡ thieves)) × (hand' ≡ hand)
+Steals run v thieves has hand tried.Unsure hand' thieves' = UsesThief run v thieves thieves' (λ t u. thief_view u ≡ thief_view t) × (hand' ≡ hand)
+
+-- One act
+
+-- by the act that is next, what is told and what is in hand then
+abbrev pub Tries : {T : Type 0} → Act → Machine T Owner → List Thief → ℕ → Told → Registers T Owner → List Thief → Type 0
+Tries act.Pop x thieves word what hand thieves' = Pops x.run x.hand what hand × (thieves' ≡ thieves)
+Tries act.Push x thieves word what hand thieves' = Pushes x.run x.hand what hand × (thieves' ≡ thieves)
+Tries act.Hunt x thieves word what hand thieves' =
+    (how : Tried) × (what ≡ told.Drew word how) × Steals x.run (victim_of x.procs (begun (seen x) word)) thieves (is_some x.hand.to_claim) x.hand how hand thieves'
+Tries (act.Steal v) x thieves word what hand thieves' = (how : Tried) × (what ≡ told.Tried how) × Steals x.run v thieves (is_some x.hand.to_claim) x.hand how hand thieves'
+Tries _ x thieves word what hand thieves' = ⊥
+
+-- The push, pop or steal that the machine names was tried once, and the machine was told exactly what came of it.
+pub record Turns {T : Type 0} (x : Machine T Owner) (thieves : List Thief) (word : ℕ) (x' : Machine T Owner) (thieves' : List Thief) : Type 0 where
+  pub what : Told
+  pub hand : Registers T Owner
+  pub tries : Tries (next_act x) x thieves word what hand thieves'
+  pub machine : x' ≡ after (record x { hand = hand }) what
