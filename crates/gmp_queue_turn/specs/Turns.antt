@@ -1,5 +1,5 @@
 -- One act of a machine at the local queues: what it is told, and what it holds then.
-use Rattle.std.specs.Prelude.{◌≡◌, ◌≢◌, ◌⊎◌, ℕ, Bool, true, false, is_some, List, [], ◌∷◌, Option, Some, None, slice_get, slice_set, IfSome}
+use Rattle.std.specs.Prelude.{◌≡◌, ◌⊎◌, ℕ, Bool, true, false, is_some, List, [], ◌∷◌, Option, Some, None, slice_get, slice_set}
 use Rattle.std.specs.Option.{option_map}
 use Rattle.gmp_base.specs.declared.number.PNo.{PNo}
 use Rattle.gmp_base.specs.declared.number.Readiness.{Readiness}
@@ -61,26 +61,23 @@ Pops run hand _ hand' = ⊥
 -- Others' queues
 
 -- the thief of queue v was t and is u, of the same queue and with the same parts; all others are as they were
-abbrev pub UsesThief : ℕ → PNo → List Thief → List Thief → (Thief → Thief → Type 0) → Type 0
-UsesThief run v thieves thieves' step =
-    (t : Thief) × (u : Thief) × (slice_get thieves v.0 ≡ Some t) × (thieves' ≡ slice_set thieves v.0 u) × (thief_run t ≡ run) × KeepsThief t u × step t u
-
--- there is no thief of queue v, or it is of another run
-abbrev pub HasNoThief : ℕ → PNo → List Thief → Type 0
-HasNoThief run v thieves = IfSome (slice_get thieves v.0) (λ t. thief_run t ≢ run)
+abbrev pub UsesThief : PNo → List Thief → List Thief → (Thief → Thief → Type 0) → Type 0
+UsesThief v thieves thieves' step =
+    (t : Thief) × (u : Thief) × (slice_get thieves v.0 ≡ Some t) × (thieves' ≡ slice_set thieves v.0 u) × KeepsThief t u × step t u
 
 -- a ticket that is stolen is in hand, to claim, and where there is one to claim, to store
 abbrev pub with_stolen : {T : Type 0} → Readiness → Bool → Registers T Owner → Registers T Owner
 with_stolen r false hand = record hand { to_claim = Some r }
 with_stolen r true hand = record hand { to_store = Some r }
 
--- Got: the first ticket of queue v was taken. Empty and Unsure: none was taken.
+-- Got: the first ticket of queue v was taken. Empty: none was taken; in a queue of another run, or of which the machine has no thief, there is none for it. Unsure: a race was lost, and none was taken.
 abbrev pub Steals : {T : Type 0} → ℕ → PNo → List Thief → Bool → Registers T Owner → Tried → Registers T Owner → List Thief → Type 0
 Steals run v thieves has hand (tried.Got hint) hand' thieves' =
-    (r : Readiness) × UsesThief run v thieves thieves' (λ t u. StoleFirst (thief_view t) (r ∷ []) (thief_view u)) × (hand' ≡ with_stolen r has hand)
+    (r : Readiness) × UsesThief v thieves thieves' (λ t u. (thief_run t ≡ run) × StoleFirst (thief_view t) (r ∷ []) (thief_view u)) × (hand' ≡ with_stolen r has hand)
 Steals run v thieves has hand tried.Empty hand' thieves' =
-    (UsesThief run v thieves thieves' (λ t u. thief_view u ≡ thief_view t) ⊎ HasNoThief run v thieves × (thieves' ≡ thieves)) × (hand' ≡ hand)
-Steals run v thieves has hand tried.Unsure hand' thieves' = UsesThief run v thieves thieves' (λ t u. thief_view u ≡ thief_view t) × (hand' ≡ hand)
+    (UsesThief v thieves thieves' (λ t u. thief_view u ≡ thief_view t) ⊎ (slice_get thieves v.0 ≡ None) × (thieves' ≡ thieves)) × (hand' ≡ hand)
+Steals run v thieves has hand tried.Unsure hand' thieves' =
+    UsesThief v thieves thieves' (λ t u. (thief_run t ≡ run) × (thief_view u ≡ thief_view t)) × (hand' ≡ hand)
 
 -- One act
 
