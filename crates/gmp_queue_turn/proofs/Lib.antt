@@ -1,0 +1,2 @@
+mod Trying
+mod Turning

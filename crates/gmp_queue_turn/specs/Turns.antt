@@ -81,18 +81,19 @@ Steals run v thieves has hand tried.Unsure hand' thieves' =
 
 -- One act
 
--- by the act that is next, what is told and what is in hand then
-abbrev pub Tries : {T : Type 0} → Act → Machine T Owner → List Thief → ℕ → Told → Registers T Owner → List Thief → Type 0
-Tries act.Pop x thieves word what hand thieves' = Pops x.run x.hand what hand × (thieves' ≡ thieves)
-Tries act.Push x thieves word what hand thieves' = Pushes x.run x.hand what hand × (thieves' ≡ thieves)
-Tries act.Hunt x thieves word what hand thieves' =
-    (how : Tried) × (what ≡ told.Drew word how) × Steals x.run (victim_of x.procs (begun (seen x) word)) thieves (is_some x.hand.to_claim) x.hand how hand thieves'
-Tries (act.Steal v) x thieves word what hand thieves' = (how : Tried) × (what ≡ told.Tried how) × Steals x.run v thieves (is_some x.hand.to_claim) x.hand how hand thieves'
-Tries _ x thieves word what hand thieves' = ⊥
+-- by the act that is next: what is told, and what is in hand then
+abbrev pub Tries : {T : Type 0} → Act → Machine T Owner → ℕ → Registers T Owner → List Thief → Told → Registers T Owner → List Thief → Type 0
+Tries act.Pop x word hand thieves what hand' thieves' = Pops x.run hand what hand' × (thieves' ≡ thieves)
+Tries act.Push x word hand thieves what hand' thieves' = Pushes x.run hand what hand' × (thieves' ≡ thieves)
+Tries act.Hunt x word hand thieves what hand' thieves' =
+    (how : Tried) × (what ≡ told.Drew word how) × Steals x.run (victim_of x.procs (begun (seen x) word)) thieves (is_some x.hand.to_claim) hand how hand' thieves'
+Tries (act.Steal v) x word hand thieves what hand' thieves' =
+    (how : Tried) × (what ≡ told.Tried how) × Steals x.run v thieves (is_some x.hand.to_claim) hand how hand' thieves'
+Tries _ x word hand thieves what hand' thieves' = ⊥
 
 -- The push, pop or steal that the machine names was tried once, and the machine was told exactly what came of it.
 pub record Turns {T : Type 0} (x : Machine T Owner) (thieves : List Thief) (word : ℕ) (x' : Machine T Owner) (thieves' : List Thief) : Type 0 where
   pub what : Told
   pub hand : Registers T Owner
-  pub tries : Tries (next_act x) x thieves word what hand thieves'
+  pub tries : Tries (next_act x) x word x.hand thieves what hand thieves'
   pub machine : x' ≡ after (record x { hand = hand }) what
