@@ -1,2 +1,2 @@
-mod Trying
-mod Turning
+mod Tries
+mod Turned

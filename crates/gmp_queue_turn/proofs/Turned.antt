@@ -1,5 +1,5 @@
 -- What a try came to, in what a machine holds: all that it handed out and all that it kept.
-use Rattle.std.proofs.Common.{◌≡◌, inl, inr, ℕ, Bool, true, false, is_some, List, Option, None, Some, refl, sym, ap, subst, ◌∙◌}
+use Rattle.std.proofs.Common.{◌≡◌, ℕ, Bool, true, false, is_some, List, Option, None, Some, refl, sym, ap, subst, ◌∙◌}
 use Rattle.std.specs.Option.{option_map}
 use Rattle.gmp_base.specs.declared.number.PNo.{PNo}
 use Rattle.gmp_base.specs.declared.number.Readiness.{Readiness}
@@ -135,7 +135,7 @@ module _ {T : Type 0} (x : Machine T Owner) (word : ℕ) (thieves : List Thief) 
   has = is_some x.hand.to_claim
 
   -- in what the act was handed, and in all that the machine holds
-  abbrev Came : Act → Type 0
+  abbrev pub Came : Act → Type 0
   Came a = Tries a x word (used a x.hand) thieves what came thieves'
 
   abbrev first : PNo
@@ -211,7 +211,7 @@ module _ {T : Type 0} (x : Machine T Owner) (word : ℕ) (thieves : List Thief) 
       (subst (λ (l : Load T Owner). Tries (next_act x) x word (used (next_act x) x.hand) thieves said (parts_of l) thieves') (sym f)
       (subst (λ (ts : List Thief). Tries (next_act x) x word (used (next_act x) x.hand) thieves said (parts_of back) ts) (sym h) there))
 
-  abbrev Came_back : Type 0
+  abbrev pub Came_back : Type 0
   Came_back = Came x word thieves what (parts_of load') thieves' (next_act x)
 
   pub pop_came : next_act x ≡ act.Pop → (said : Told) (back : Load T Owner) → what ≡ said → load' ≡ back → thieves' ≡ thieves → Pops load.pass.run (parts_of load) said (parts_of back) → Came_back

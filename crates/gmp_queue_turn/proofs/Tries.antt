@@ -1,22 +1,20 @@
 -- What a try came to, in what a machine handed out for it.
-use Rattle.std.proofs.Common.{◌≡◌, ◌<◌, ◌⊎◌, inl, inr, ℕ, Bool, true, false, List, [], ◌∷◌, Option, None, Some, length, get_or, set, refl, sym, ap, ◌∙◌}
+use Rattle.std.proofs.Common.{◌≡◌, ◌<◌, ℕ, Bool, true, false, List, [], ◌∷◌, Option, None, Some, length, get_or, refl, sym, subst, ap, ◌∙◌}
 use Rattle.std.proofs.lemmas.Option.{slice_get-get_or}
 use Rattle.std.specs.Option.{option_map}
-use Rattle.std.specs.Prelude.{slice_get, slice_set}
+use Rattle.std.specs.Prelude.{IfSome, slice_get, slice_set}
 use Rattle.gmp_base.specs.declared.number.PNo.{PNo}
 use Rattle.gmp_base.specs.declared.value.Proc.{Proc}
 use Rattle.gmp_base.specs.declared.value.Ticket.{Ticket}
 use Rattle.gmp_base.specs.Values.{readiness_of}
 use Rattle.gmp_driver.specs.declared.act.Told.TheVariants as told
-use Rattle.gmp_driver.specs.declared.act.Tried.TheVariants as tried
 use Rattle.gmp_driver.specs.declared.load.Load.{Load}
 use Rattle.gmp_driver.specs.declared.registers.ProcParts.{ProcParts}
-use Rattle.gmp_driver.specs.declared.registers.Registers.{Registers}
 use Rattle.gmp_driver.specs.Loads.{parts_of, proc_parts}
 use Rattle.gmp_queue.specs.declared.ends.Owner.{Owner}
 use Rattle.gmp_queue.specs.declared.ends.Thief.{Thief}
-use Rattle.gmp_queue.specs.Ends.{KeepsOwner, KeepsThief, owner_run, owner_view, thief_run, thief_view}
-use Rattle.gmp_queue.specs.Queue.{FoundNone, PoppedFirst, PutLast, StoleFirst}
+use Rattle.gmp_queue.specs.Ends.{KeepsOwner, KeepsThief, owner_run, owner_view}
+use Rattle.gmp_queue.specs.Queue.{FoundNone, PoppedFirst, PutLast}
 use Rattle.gmp_queue_turn.specs.Turns.{Pops, Pushes, UsesThief, owner_in, with_owner, with_stolen}
 
 -- the own queue's end: the processor x was taken out, and is back with the end p
@@ -36,11 +34,12 @@ module _ {T : Type 0} (load : Load T Owner) (x : Proc Owner) (p : Owner) (back :
   pub was_empty : (owner_view p ≡ owner_view x.owner) × (owner_run x.owner ≡ load.pass.run → FoundNone (owner_view x.owner)) → Pops load.pass.run (parts_of load) told.Empty (parts_of (record load { proc = back }))
   was_empty step = (x.owner, p, own, same, (step.0, step.1, kept))
 
-  pub was_pushed : (t : Ticket) (to_store : Option Ticket) → load.to_store ≡ Some t → to_store ≡ None → t.run ≡ load.pass.run → (t.run ≡ owner_run x.owner) × PutLast (owner_view x.owner) (readiness_of t ∷ []) (owner_view p)
+  pub was_pushed : (t : Ticket) (to_store : Option Ticket) → load.to_store ≡ Some t → to_store ≡ None → IfSome load.to_store (λ (u : Ticket). u.run ≡ load.pass.run) → (t.run ≡ owner_run x.owner) × PutLast (owner_view x.owner) (readiness_of t ∷ []) (owner_view p)
       → Pushes load.pass.run (parts_of load) told.Pushed (parts_of (record load { proc = back; to_store = to_store }))
   was_pushed t to_store held left its step =
       let e : parts_of (record load { proc = back; to_store = to_store }) ≡ record (with_owner p (parts_of load)) { to_store = None } = rw (is, has, left) refl in
-      (readiness_of t, ap (λ (o : Option Ticket). option_map readiness_of o) held, (x.owner, p, own, same, (sym step.0 ∙ its, step.1, e)))
+      let of_run : t.run ≡ load.pass.run = subst (λ (o : Option Ticket). IfSome o (λ (u : Ticket). u.run ≡ load.pass.run)) held its in
+      (readiness_of t, ap (λ (o : Option Ticket). option_map readiness_of o) held, (x.owner, p, own, same, (sym step.0 ∙ of_run, step.1, e)))
 
   pub was_refused : (t u : Ticket) (to_store : Option Ticket) → load.to_store ≡ Some t → to_store ≡ Some u → (u ≡ t) × (owner_view p ≡ owner_view x.owner)
       → Pushes load.pass.run (parts_of load) told.PushRefused (parts_of (record load { proc = back; to_store = to_store }))
