@@ -29,30 +29,37 @@ module _ {T : Type 0} (load : Load T Owner) (x : Proc Owner) (p : Owner) (back :
       → Pops load.pass.run (parts_of load) told.Got (parts_of (record load { proc = back; to_claim = to_claim }))
   was_got t to_claim filled step =
       let e : parts_of (record load { proc = back; to_claim = to_claim }) ≡ record (with_owner p (parts_of load)) { to_claim = Some (readiness_of t) } = rw (is, has, filled) refl in
-      (readiness_of t, (x.owner, p, own, same, (step.1, step.2, e)))
+      (readiness_of t, record { before = x.owner; behind = p; own = own; same = same; step = (step.1, step.2, e) })
 
   pub was_empty : (owner_view p ≡ owner_view x.owner) × (owner_run x.owner ≡ load.pass.run → FoundNone (owner_view x.owner)) → Pops load.pass.run (parts_of load) told.Empty (parts_of (record load { proc = back }))
-  was_empty step = (x.owner, p, own, same, (step.0, step.1, kept))
+  was_empty step = record { before = x.owner; behind = p; own = own; same = same; step = (step.0, step.1, kept) }
 
   pub was_pushed : (t : Ticket) (to_store : Option Ticket) → load.to_store ≡ Some t → to_store ≡ None → IfSome load.to_store (λ (u : Ticket). u.run ≡ load.pass.run) → (t.run ≡ owner_run x.owner) × PutLast (owner_view x.owner) (readiness_of t ∷ []) (owner_view p)
       → Pushes load.pass.run (parts_of load) told.Pushed (parts_of (record load { proc = back; to_store = to_store }))
   was_pushed t to_store held left its step =
       let e : parts_of (record load { proc = back; to_store = to_store }) ≡ record (with_owner p (parts_of load)) { to_store = None } = rw (is, has, left) refl in
       let of_run : t.run ≡ load.pass.run = subst (λ (o : Option Ticket). IfSome o (λ (u : Ticket). u.run ≡ load.pass.run)) held its in
-      (readiness_of t, ap (λ (o : Option Ticket). option_map readiness_of o) held, (x.owner, p, own, same, (sym step.0 ∙ of_run, step.1, e)))
+      (readiness_of t, ap (λ (o : Option Ticket). option_map readiness_of o) held, record { before = x.owner; behind = p; own = own; same = same; step = (sym step.0 ∙ of_run, step.1, e) })
 
   pub was_refused : (t u : Ticket) (to_store : Option Ticket) → load.to_store ≡ Some t → to_store ≡ Some u → (u ≡ t) × (owner_view p ≡ owner_view x.owner)
       → Pushes load.pass.run (parts_of load) told.PushRefused (parts_of (record load { proc = back; to_store = to_store }))
   was_refused t u to_store held filled step =
       let again : to_store ≡ load.to_store = filled ∙ ap (λ (v : Ticket). Some v) step.0 ∙ sym held in
       let e : parts_of (record load { proc = back; to_store = to_store }) ≡ with_owner p (parts_of load) = ap (λ (o : Option Ticket). parts_of (record load { proc = back; to_store = o })) again ∙ kept in
-      (x.owner, p, own, same, (step.1, e))
+      record { before = x.owner; behind = p; own = own; same = same; step = (step.1, e) }
 
 -- the victim's thief
 pub uses : (v : PNo) (i : ℕ) (thieves : List Thief) (t u : Thief) (step : Thief → Thief → Type 0) → i ≡ v.0 → i < length thieves → KeepsThief (get_or thieves i t) u → step (get_or thieves i t) u
     → UsesThief v thieves (slice_set thieves i u) step
 uses v i thieves t u step is within same s =
-    (get_or thieves i t, u, ap (λ (j : ℕ). slice_get thieves j) (sym is) ∙ slice_get-get_or thieves i t within, ap (λ (j : ℕ). slice_set thieves j u) is, same, s)
+    record {
+      before = get_or thieves i t;
+      behind = u;
+      its = ap (λ (j : ℕ). slice_get thieves j) (sym is) ∙ slice_get-get_or thieves i t within;
+      others = ap (λ (j : ℕ). slice_set thieves j u) is;
+      same = same;
+      step = s;
+    }
 
 module _ {T : Type 0} (load : Load T Owner) (t : Ticket) (register : Option Ticket) (filled : register ≡ Some t) where
   pub to_claim : (has : Bool) → has ≡ false → parts_of (record load { to_claim = register }) ≡ with_stolen (readiness_of t) has (parts_of load)

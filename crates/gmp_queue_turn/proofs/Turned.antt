@@ -57,12 +57,12 @@ module _ {T : Type 0} (run : ℕ) (hand came : Registers T Owner) where
   popped : (what : Told) → Pops run (used act.Pop hand) what came → Pops run hand what (joined came (unused act.Pop hand))
   popped told.Got k =
       let u = k.1 in
-      let e : joined came (unused act.Pop hand) ≡ record (with_owner u.1 hand) { to_claim = Some k.0 } =
-      ap (λ (c : Registers T Owner). joined c (unused act.Pop hand)) u.4.2 ∙ ap (λ (h : Registers T Owner). record h { to_claim = Some k.0 }) (whole act.Pop (with_owner u.1 hand)) in
-      (k.0, (u.0, u.1, u.2, u.3, (u.4.0, u.4.1, e)))
+      let e : joined came (unused act.Pop hand) ≡ record (with_owner u.behind hand) { to_claim = Some k.0 } =
+      ap (λ (c : Registers T Owner). joined c (unused act.Pop hand)) u.step.2 ∙ ap (λ (h : Registers T Owner). record h { to_claim = Some k.0 }) (whole act.Pop (with_owner u.behind hand)) in
+      (k.0, record { before = u.before; behind = u.behind; own = u.own; same = u.same; step = (u.step.0, u.step.1, e) })
   popped told.Empty k =
-      let e : joined came (unused act.Pop hand) ≡ with_owner k.1 hand = ap (λ (c : Registers T Owner). joined c (unused act.Pop hand)) k.4.2 ∙ whole act.Pop (with_owner k.1 hand) in
-      (k.0, k.1, k.2, k.3, (k.4.0, k.4.1, e))
+      let e : joined came (unused act.Pop hand) ≡ with_owner k.behind hand = ap (λ (c : Registers T Owner). joined c (unused act.Pop hand)) k.step.2 ∙ whole act.Pop (with_owner k.behind hand) in
+      record { before = k.before; behind = k.behind; own = k.own; same = k.same; step = (k.step.0, k.step.1, e) }
   popped _ k = absurd k
 
   pops_may : (what : Told) → Pops run (used act.Pop hand) what came → MayCome act.Pop what
@@ -73,20 +73,20 @@ module _ {T : Type 0} (run : ℕ) (hand came : Registers T Owner) where
   pops_fill : (what : Told) (has : Bool) → Pops run (used act.Pop hand) what came → filled came ≡ come_back what has (filled (used act.Pop hand))
   pops_fill told.Got has k =
       let u = k.1 in
-      ap (λ (c : Registers T Owner). filled c) u.4.2 ∙ ap (λ (b : Bool). record (filled (used act.Pop hand)) { processor = b; to_claim = true }) (still (replaced u.1) hand.processor)
+      ap (λ (c : Registers T Owner). filled c) u.step.2 ∙ ap (λ (b : Bool). record (filled (used act.Pop hand)) { processor = b; to_claim = true }) (still (replaced u.behind) hand.processor)
   pops_fill told.Empty has k =
-      ap (λ (c : Registers T Owner). filled c) k.4.2 ∙ ap (λ (b : Bool). record (filled (used act.Pop hand)) { processor = b }) (still (replaced k.1) hand.processor)
+      ap (λ (c : Registers T Owner). filled c) k.step.2 ∙ ap (λ (b : Bool). record (filled (used act.Pop hand)) { processor = b }) (still (replaced k.behind) hand.processor)
   pops_fill _ has k = absurd k
 
   pushed : (what : Told) → Pushes run (used act.Push hand) what came → Pushes run hand what (joined came (unused act.Push hand))
   pushed told.Pushed k =
       let u = k.2 in
-      let e : joined came (unused act.Push hand) ≡ record (with_owner u.1 hand) { to_store = None } =
-      ap (λ (c : Registers T Owner). joined c (unused act.Push hand)) u.4.2 ∙ ap (λ (h : Registers T Owner). record h { to_store = None }) (whole act.Push (with_owner u.1 hand)) in
-      (k.0, k.1, (u.0, u.1, u.2, u.3, (u.4.0, u.4.1, e)))
+      let e : joined came (unused act.Push hand) ≡ record (with_owner u.behind hand) { to_store = None } =
+      ap (λ (c : Registers T Owner). joined c (unused act.Push hand)) u.step.2 ∙ ap (λ (h : Registers T Owner). record h { to_store = None }) (whole act.Push (with_owner u.behind hand)) in
+      (k.0, k.1, record { before = u.before; behind = u.behind; own = u.own; same = u.same; step = (u.step.0, u.step.1, e) })
   pushed told.PushRefused k =
-      let e : joined came (unused act.Push hand) ≡ with_owner k.1 hand = ap (λ (c : Registers T Owner). joined c (unused act.Push hand)) k.4.1 ∙ whole act.Push (with_owner k.1 hand) in
-      (k.0, k.1, k.2, k.3, (k.4.0, e))
+      let e : joined came (unused act.Push hand) ≡ with_owner k.behind hand = ap (λ (c : Registers T Owner). joined c (unused act.Push hand)) k.step.1 ∙ whole act.Push (with_owner k.behind hand) in
+      record { before = k.before; behind = k.behind; own = k.own; same = k.same; step = (k.step.0, e) }
   pushed _ k = absurd k
 
   pushes_may : (what : Told) → Pushes run (used act.Push hand) what came → MayCome act.Push what
@@ -97,9 +97,9 @@ module _ {T : Type 0} (run : ℕ) (hand came : Registers T Owner) where
   pushes_fill : (what : Told) (has : Bool) → Pushes run (used act.Push hand) what came → filled came ≡ come_back what has (filled (used act.Push hand))
   pushes_fill told.Pushed has k =
       let u = k.2 in
-      ap (λ (c : Registers T Owner). filled c) u.4.2 ∙ ap (λ (b : Bool). record (filled (used act.Push hand)) { processor = b; to_store = false }) (still (replaced u.1) hand.processor)
+      ap (λ (c : Registers T Owner). filled c) u.step.2 ∙ ap (λ (b : Bool). record (filled (used act.Push hand)) { processor = b; to_store = false }) (still (replaced u.behind) hand.processor)
   pushes_fill told.PushRefused has k =
-      ap (λ (c : Registers T Owner). filled c) k.4.1 ∙ ap (λ (b : Bool). record (filled (used act.Push hand)) { processor = b }) (still (replaced k.1) hand.processor)
+      ap (λ (c : Registers T Owner). filled c) k.step.1 ∙ ap (λ (b : Bool). record (filled (used act.Push hand)) { processor = b }) (still (replaced k.behind) hand.processor)
   pushes_fill _ has k = absurd k
 
 -- Others' queues

@@ -37,9 +37,13 @@ owner_in hand = option_map (λ (x : ProcParts Owner). x.owner) hand.processor
 abbrev pub with_owner : {T : Type 0} → Owner → Registers T Owner → Registers T Owner
 with_owner o hand = record hand { processor = option_map (λ (x : ProcParts Owner). record x { owner = o }) hand.processor }
 
--- the end was o and is p, of the same queue and with the same parts
-abbrev pub UsesOwn : {T : Type 0} → Registers T Owner → (Owner → Owner → Type 0) → Type 0
-UsesOwn hand step = (o : Owner) × (p : Owner) × (owner_in hand ≡ Some o) × KeepsOwner o p × step o p
+-- The own end before and behind, of the same queue and with the same parts: this step was made.
+pub record UsesOwn {T : Type 0} (hand : Registers T Owner) (Step : Owner → Owner → Type 0) : Type 0 where
+  pub before : Owner
+  pub behind : Owner
+  pub own : owner_in hand ≡ Some before
+  pub same : KeepsOwner before behind
+  pub step : Step before behind
 
 -- Pushed: the ticket to store went last, and is in hand no more; none goes onto a queue of another run. Refused: it is in hand as before, and the queue is as it was.
 abbrev pub Pushes : {T : Type 0} → ℕ → Registers T Owner → Told → Registers T Owner → Type 0
@@ -60,10 +64,14 @@ Pops run hand _ hand' = ⊥
 
 -- Others' queues
 
--- the thief of queue v was t and is u, of the same queue and with the same parts; all others are as they were
-abbrev pub UsesThief : PNo → List Thief → List Thief → (Thief → Thief → Type 0) → Type 0
-UsesThief v thieves thieves' step =
-    (t : Thief) × (u : Thief) × (slice_get thieves v.0 ≡ Some t) × (thieves' ≡ slice_set thieves v.0 u) × KeepsThief t u × step t u
+-- The thief of queue v before and behind, of the same queue and with the same parts: this step was made. All other thieves are as they were.
+pub record UsesThief (v : PNo) (thieves thieves' : List Thief) (Step : Thief → Thief → Type 0) : Type 0 where
+  pub before : Thief
+  pub behind : Thief
+  pub its : slice_get thieves v.0 ≡ Some before
+  pub others : thieves' ≡ slice_set thieves v.0 behind
+  pub same : KeepsThief before behind
+  pub step : Step before behind
 
 -- a ticket that is stolen is in hand, to claim, and where there is one to claim, to store
 abbrev pub with_stolen : {T : Type 0} → Readiness → Bool → Registers T Owner → Registers T Owner
