@@ -191,6 +191,12 @@ module _ {T : Type 0} (x : Machine T Owner) (word : ℕ) (thieves : List Thief) 
         pub turned : Turns x thieves word x' thieves'
         turned = record { what = what; hand = joined came left; tries = tried_so (next_act x) tries; machine = is_after }
 
+        pub same_pass : x'.pass ≡ x.pass
+        same_pass = ap (λ (z : Machine T Owner). z.pass) is_after
+
+        pub same_run : x'.run ≡ x.run
+        same_run = ap (λ (z : Machine T Owner). z.run) is_after
+
         pub fits_now : Fits x'.place x'.hand
         fits_now = subst (λ (z : Machine T Owner). Fits z.place z.hand) (sym is_after) can.1
 

@@ -17,6 +17,8 @@ pub fn queue_turn<T>(driver: &mut Driver<T, Owner>, thieves: &mut [Thief], word:
     requires pass { IsSome driver.old.pass }
     ensures turns { Turns driver.old thieves.old word driver.new thieves.new }
     ensures fits { Fits driver.new.place driver.new.hand }
+    ensures pass { driver.new.pass ≡ driver.old.pass }
+    ensures run { driver.new.run ≡ driver.old.run }
 {
     let act = driver.next();
     let first = driver.first_victim(word);

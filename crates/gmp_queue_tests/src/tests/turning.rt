@@ -1,62 +1,52 @@
-//! Three machines over one book and their local queues, one act after another.
-ghost use Rattle.std.specs.Prelude.{◌≡◌, IsSome};
+//! Machines that act at their queues: each is told by hand what a book would answer.
+ghost use Rattle.std.specs.Prelude.{◌≡◌, None, IsSome};
+ghost use Rattle.gmp_driver.specs.declared.place.Place.TheVariants as Place;
+ghost use Rattle.gmp_driver.specs.Fits.{HasProcessor};
 
 use super::{spend, ticket};
-use gmp_base::{MNo, Pass};
-use gmp_book::Book;
-use gmp_driver::{Act, Driver};
+use gmp_base::{MNo, PNo, Pass, Proc};
+use gmp_driver::{Act, Driver, Told, fill};
 use gmp_queue::{Owner, Stole, Thief, open};
 use gmp_queue_turn::queue_turn;
-use gmp_seq::Limits;
-use gmp_turn::turn;
-use std::alloc::Global;
+use gmp_seq::Reply;
 use std::test::Fail;
 
-const THREE: Limits = Limits {
-    procs: 3,
-    machines: 3,
-    channels: 0,
-    entries: 100,
-};
-
-/// Makes the machine's next act, a call of the book or one at the queues. A hunt begins at queue 1.
-fn act(
-    alloc: Global,
-    driver: &mut Driver<u8, Owner>,
-    book: &mut Book<u8, Owner>,
-    thieves: &mut [Thief],
-)
-    requires pass { IsSome driver.old.pass }
-    requires run { driver.old.run ≡ book.old.log.run }
-    ensures pass { IsSome driver.new.pass }
-    ensures run { driver.new.run ≡ book.new.log.run }
-    ensures same { book.new.log.run ≡ book.old.log.run }
+/// One of two machines with this processor, which looks into its own queue next.
+fn looking(p: PNo, owner: Owner) -> Driver<u8, Owner>
+    ensures place { result.place ≡ Place.Look }
+    ensures hand { HasProcessor result.hand }
+    ensures pass { IsSome result.pass }
 {
-    match driver.next() {
-        Act::Call(call) => {
-            let _ = turn(alloc, driver, book, call, 1);
-        }
-        Act::Pop | Act::Push | Act::Hunt | Act::Steal(_) => queue_turn(driver, thieves, 1),
-        _ => {}
-    }
+    let mut driver = Driver::new(Pass::of(7, MNo(p.0), 0, 0), 2);
+    let mut load = driver.give();
+    fill(&mut load.proc, Proc::of(7, p, owner));
+    driver.got(load, Told::Replied(Reply::Proc(p)));
+    driver
 }
 
-/// The machine from its start, over so many acts.
-fn play(
-    alloc: Global,
-    m: MNo,
-    book: &mut Book<u8, Owner>,
-    mut thieves: Vec<Thief>,
-    acts: u32,
-)
-    requires { book.old.log.run ≡ 7 }
-    ensures { book.new.log.run ≡ 7 }
+/// One that found nothing there and on the shelf, and may hunt.
+fn hunting(p: PNo, owner: Owner) -> Driver<u8, Owner>
+    ensures { IsSome result.pass }
 {
-    let mut driver = Driver::new(Pass::of(7, m, 0, 0), 3);
-    for _ in 0..acts {
-        act(alloc, &mut driver, book, thieves.as_mut_slice());
+    let mut driver = looking(p, owner);
+    driver.tell(Told::Empty);
+    driver.tell(Told::Replied(Reply::Nothing));
+    driver.tell(Told::Replied(Reply::Answer(true)));
+    driver
+}
+
+/// Makes the next act, where it is one at a queue. A hunt begins at queue 1. True if it was made.
+fn act(driver: &mut Driver<u8, Owner>, thieves: &mut [Thief]) -> bool
+    requires { IsSome driver.old.pass }
+    ensures { IsSome driver.new.pass }
+{
+    match driver.next() {
+        Act::Pop | Act::Push | Act::Hunt | Act::Steal(_) => {
+            queue_turn(driver, thieves, 1);
+            true
+        }
+        _ => false,
     }
-    driver.into_pass().open();
 }
 
 /// The number of the ticket that a steal gets.
@@ -69,35 +59,25 @@ fn stolen(thief: Option<&mut Thief>) -> Option<u16> {
 
 #[test]
 fn machines_pop_steal_and_push(rt: HostRuntime) -> Result<(), Fail> {
-    let alloc = rt.alloc();
-    let (mut owners, mut rows) = open(alloc, 7, 3, 4)?;
+    let (mut owners, mut rows) = open(rt.alloc(), 7, 2, 2)?;
+    let mut other = owners.pop().ok_or("no queue")?;
+    let own = owners.pop().ok_or("no queue")?;
     let mut others = rows.pop().ok_or("no thieves")?;
-    let third = rows.pop().ok_or("no thieves")?;
-    let second = rows.pop().ok_or("no thieves")?;
-    let first = rows.pop().ok_or("no thieves")?;
-    if let Some(owner) = owners.get_mut(1) {
-        for g in 10..15 {
-            assert!(rt; owner.push(ticket(g)).map_err(spend).is_ok());
-        }
+    let mut thieves = rows.pop().ok_or("no thieves")?;
+    for g in 10..15 {
+        assert!(rt; other.push(ticket(g)).map_err(spend).is_ok());
     }
-    let Ok((mut book, mut passes)) = Book::open(alloc, 7, THREE, &[], vec![in alloc; 70u8]?, owners)
-    else {
-        return Err(Fail::new("no book"));
-    };
-    while let Some(pass) = passes.pop() {
-        pass.open();
-    }
-    passes.destroy_empty();
-    // It takes main's ticket from the shelf.
-    play(alloc, MNo(0), &mut book, first, 3);
     // It pops 10.
-    play(alloc, MNo(1), &mut book, second, 2);
-    // It finds nothing in its own queue and on the shelf, steals 11, then 12, and pushes that onto its own queue.
-    play(alloc, MNo(2), &mut book, third, 7);
-    assert_eq!(rt; book.history().len(), 6);
-    assert_eq!(rt; stolen(others.get_mut(0)), None);
+    let mut popper = looking(PNo(1), other);
+    assert!(rt; act(&mut popper, others.as_mut_slice()) && popper.has_to_claim());
+    // It steals 11, then 12, and pushes that onto its own queue.
+    let mut hunter = hunting(PNo(0), own);
+    let stole = act(&mut hunter, thieves.as_mut_slice()) && act(&mut hunter, thieves.as_mut_slice());
+    assert!(rt; stole && act(&mut hunter, thieves.as_mut_slice()) && hunter.has_to_claim());
+    assert_eq!(rt; stolen(others.get_mut(0)), Some(12));
     assert_eq!(rt; stolen(others.get_mut(1)), Some(13));
-    assert_eq!(rt; stolen(others.get_mut(2)), Some(12));
-    assert_eq!(rt; stolen(others.get_mut(2)), None);
+    assert_eq!(rt; stolen(others.get_mut(0)), None);
+    popper.into_pass().open();
+    hunter.into_pass().open();
     Ok(())
 }

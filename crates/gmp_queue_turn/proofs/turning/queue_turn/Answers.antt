@@ -3,7 +3,7 @@ use Rattle.gmp_base.specs.declared.pass.Pass.{Pass}
 use Rattle.gmp_driver.specs.declared.load.Load.{Load}
 use Rattle.gmp_driver.specs.Loads.{parts_of}
 use Rattle.gmp_driver.specs.Table.{next_act}
-use Rattle.gmp_queue_turn.proofs.Turned.{Came, fits_now, got_fits, hunt_came, pop_came, push_came, steal_came, turned}
+use Rattle.gmp_queue_turn.proofs.Turned.{Came, fits_now, got_fits, hunt_came, pop_came, push_came, same_pass, same_run, steal_came, turned}
 use Rattle.gmp_queue_turn.proofs.turning.queue_turn.Given.{Over}
 use Rattle.gmp_queue_turn.proofs.turning.queue_turn.Goals as goal
 use Rattle.gmp_queue_turn.proofs.turning.queue_turn.Goals.{in-Pop, in-Push, in-Hunt, in-Steal}
@@ -56,4 +56,14 @@ returns-clause-turns g c =
 pub returns-clause-fits : goal.returns-clause-fits
 returns-clause-fits g c =
     fits_now c.args.driver.now c.args.word c.args.thieves.now c.match-act.told (parts_of c.match-act.load) c.match-act.thieves (c.next-act.ensures.keeps.fits c.requires.pass) (at_return g c) c.give-load.new.self c.give-load.ensures.left c.got.new.self c.match-act.load.pass
+    (its_pass g c) c.got.ensures
+
+pub returns-clause-pass : goal.returns-clause-pass
+returns-clause-pass g c =
+    same_pass c.args.driver.now c.args.word c.args.thieves.now c.match-act.told (parts_of c.match-act.load) c.match-act.thieves (c.next-act.ensures.keeps.fits c.requires.pass) (at_return g c) c.give-load.new.self c.give-load.ensures.left c.got.new.self c.match-act.load.pass
+    (its_pass g c) c.got.ensures
+
+pub returns-clause-run : goal.returns-clause-run
+returns-clause-run g c =
+    same_run c.args.driver.now c.args.word c.args.thieves.now c.match-act.told (parts_of c.match-act.load) c.match-act.thieves (c.next-act.ensures.keeps.fits c.requires.pass) (at_return g c) c.give-load.new.self c.give-load.ensures.left c.got.new.self c.match-act.load.pass
     (its_pass g c) c.got.ensures
