@@ -50,6 +50,13 @@ impl Owner {
     ghost use Rattle.gmp_queue.specs.Queue.{PutLast, PoppedFirst, FoundNone, lent, kept, both};
     ghost use Rattle.gmp_queue.specs.Ends.{owner_run, owner_view, thief_view, SameOwner, KeepsOwner, IsThiefOf};
 
+    /// The run that its tickets are of.
+    pub fn run(&self) -> u64
+        ensures { result ≡ owner_run self.now }
+    {
+        self.run
+    }
+
     /// Puts a ticket at the back. It comes back where it is of another run or the queue can't grow.
     pub fn push(&mut self, ticket: Ticket) -> Result<(), Ticket>
         ensures same { KeepsOwner self.old self.new }
@@ -116,6 +123,13 @@ impl Thief {
     ghost use Rattle.gmp_base.specs.Values.{readiness_of};
     ghost use Rattle.gmp_queue.specs.Queue.{StoleFirst};
     ghost use Rattle.gmp_queue.specs.Ends.{thief_run, thief_view, KeepsThief, MatchStole};
+
+    /// The run that its tickets are of.
+    pub fn run(&self) -> u64
+        ensures { result ≡ thief_run self.now }
+    {
+        self.run
+    }
 
     /// The queue's length that was last published. It may be old.
     pub fn hint(&self) -> u32 {

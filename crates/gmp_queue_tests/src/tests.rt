@@ -9,6 +9,7 @@ use std::alloc::Global;
 mod keeping;
 mod refusing;
 mod stealing;
+mod turning;
 
 const TICKETS: u16 = 4096;
 
