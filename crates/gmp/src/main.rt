@@ -1,8 +1,11 @@
 //! The program `gmp`: runs scripts of goroutines and prints what was done, and checks what was printed.
 #![tactic(auto)]
 
+mod line;
+
+use crate::line::Line;
 use gmp_cli::{Ended, Task, check, settings, step};
-use std::io;
+use std::io::{self, IsTerminal};
 use std::process::ExitCode;
 
 /// Says how it ended, on standard error, or at status 0 on standard output, and gives the exit code.
@@ -25,7 +28,12 @@ fn main(rt: HostRuntime) -> io::Result<ExitCode> {
         Err(ended) => ended,
         Ok(settings) => match settings.task {
             Task::Step => step(alloc, &settings, &mut rt.reader(), &mut io::writer(&rt)),
-            Task::Check => check(alloc, &mut rt.reader(), &mut io::writer(&rt)),
+            Task::Check => check(
+                alloc,
+                &mut rt.reader(),
+                &mut io::writer(&rt),
+                &mut Line::on(&rt, rt.stderr().is_terminal()),
+            ),
         },
     };
     Ok(finish(&rt, &ended))

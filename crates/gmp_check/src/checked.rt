@@ -6,9 +6,9 @@ ghost use Rattle.gmp_trace.specs.Text.{content, content_of};
 ghost use Rattle.gmp_check.specs.Checked.{IsFirstBad, IsRight, line_of};
 
 use crate::error::ReplayError;
-use crate::replay::outcome_of;
+use crate::replay::outcome_watched;
 use gmp_seq::Outcome;
-use gmp_trace::{Bad, End, Trace, TraceView, Why};
+use gmp_trace::{Bad, End, Trace, TraceView, Watch, Why};
 use std::alloc::Global;
 
 /// The line of an entry, or of the end, behind so many entries.
@@ -29,11 +29,15 @@ pub fn check(alloc: Global, trace: &Trace) -> Result<Option<Outcome>, Bad>
     // A right trace is refused for want of memory alone.
     ensures exact { (outcome : Option Outcome) → IsRight (content trace.now) outcome → IfErr result (λ bad. bad.why ≡ why.OutOfMemory) }
 {
-    check_view(alloc, trace.view())
+    check_view(alloc, trace.view(), &mut ())
 }
 
-/// Checks a trace that lies elsewhere.
-pub fn check_view(alloc: Global, trace: TraceView) -> Result<Option<Outcome>, Bad>
+/// Checks a trace that lies elsewhere. The watch is told at each 65,536th entry how many are steps.
+pub fn check_view<W: Watch>(
+    alloc: Global,
+    trace: TraceView,
+    watch: &mut W,
+) -> Result<Option<Outcome>, Bad>
     ensures right { IfOk result (IsRight (content_of trace.entry)) }
     ensures wrong { IfErr result (IsFirstBad (content_of trace.entry)) }
     // A right trace is refused for want of memory alone.
@@ -52,7 +56,7 @@ pub fn check_view(alloc: Global, trace: TraceView) -> Result<Option<Outcome>, Ba
             why: Why::Limits,
         });
     }
-    match outcome_of(alloc, limits, bodies, capacities, entries) {
+    match outcome_watched(alloc, limits, bodies, capacities, entries, watch) {
         Ok(outcome) if end == End::of(outcome) => Ok(outcome),
         Ok(_) => Err(Bad {
             line: line_of(entries.len()),

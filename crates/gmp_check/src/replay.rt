@@ -11,6 +11,7 @@ ghost use Rattle.gmp_check.specs.Replayed.{EndsWith, IsOpenError, IsReplayError}
 use crate::error::{OpenError, OutOfMemory, ReplayError};
 use crate::state::State;
 use gmp_seq::{Entry, Limits, Outcome};
+use gmp_trace::{Watch, Work, tell};
 use std::alloc::Global;
 use std::marker::Model;
 
@@ -89,8 +90,25 @@ pub fn outcome_of(
     ensures ends { IfOk result (EndsWith limits bodies capacities.now entries.now) }
     ensures why { IfErr result (IsReplayError limits bodies capacities.now entries.now) }
 {
+    outcome_watched(alloc, limits, bodies, capacities, entries, &mut ())
+}
+
+/// The same. The watch is told at each 65,536th entry how many are steps.
+pub(crate) fn outcome_watched<W: Watch>(
+    alloc: Global,
+    limits: Limits,
+    bodies: u16,
+    capacities: &[u32],
+    entries: &[Entry],
+    watch: &mut W,
+) -> Result<Option<Outcome>, ReplayError>
+    ensures within { OnOk result (AreLimits limits bodies capacities.now) }
+    ensures ends { IfOk result (EndsWith limits bodies capacities.now entries.now) }
+    ensures why { IfErr result (IsReplayError limits bodies capacities.now entries.now) }
+{
     let mut replay = Replay::open(alloc, limits, bodies, capacities)?;
     for (i, entry) in entries.iter().enumerate() {
+        tell(watch, Work::Checking, i as u64);
         if !replay.step(entry)? {
             return Err(ReplayError::NoStep(i));
         }

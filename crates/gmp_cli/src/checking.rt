@@ -8,26 +8,32 @@ ghost use Rattle.gmp_cli.specs.Said.{is_of_check, is_of_input, is_of_trace};
 ghost use Rattle.gmp_cli.specs.declared.said.Said.TheVariants.{BadTrace, InputTooLong, Nothing, OutputFailed};
 
 use crate::ended::Ended;
+use crate::progress::Progress;
 use crate::reading::{MAX_TRACE, input};
-use gmp_trace::{Trace, read, summary};
+use gmp_check::check_view;
+use gmp_trace::{Trace, read_watched, summary};
 use std::alloc::Global;
 use std::io::{Read, Write};
 
 /// The right trace whose text the bytes are.
-fn judged(alloc: Global, bytes: &[u8]) -> Result<Trace, Ended>
+fn judged<P: Progress>(alloc: Global, bytes: &[u8], progress: &mut P) -> Result<Trace, Ended>
     ensures right { IfOk result (λ trace. IsRightTrace (content trace)) }
     ensures read { IfOk result (λ trace. IsRead bytes.now (content trace)) }
     ensures kinds { IfErr result (λ e. is_of_trace e.said ≡ true) }
     ensures first { IfErr result (λ e. (bad : Bad) → e.said ≡ BadTrace bad → IsBadLine bytes.now bad) }
     ensures exact { IfErr result (λ e. (bad : Bad) → e.said ≡ BadTrace bad → HasNoRightTrace bytes.now) }
 {
-    let trace = read(alloc, bytes)?;
-    gmp_check::check(alloc, &trace)?;
+    let trace = read_watched(alloc, bytes, progress)?;
+    check_view(alloc, trace.view(), progress)?;
     Ok(trace)
 }
 
 /// Reads a right trace.
-fn traced<R: Read>(alloc: Global, reader: &mut R) -> Result<Trace, Ended>
+fn traced<R: Read, P: Progress>(
+    alloc: Global,
+    reader: &mut R,
+    progress: &mut P,
+) -> Result<Trace, Ended>
     ensures right { IfOk result (λ trace. IsRightTrace (content trace)) }
     ensures read { IfOk result (λ trace. IfSome (R.remaining reader.old) (λ all. IsRead all (content trace))) }
 
@@ -40,13 +46,21 @@ fn traced<R: Read>(alloc: Global, reader: &mut R) -> Result<Trace, Ended>
     ensures short { IfErr result (λ e. is_of_input e.said ≡ false → IfSome (R.remaining reader.old) (λ all. length all ≤ MAX_TRACE)) }
 {
     let bytes = input(alloc, reader, MAX_TRACE)?;
-    judged(alloc, &bytes)
+    progress.begin(bytes.len());
+    let judged = judged(alloc, &bytes, progress);
+    progress.end();
+    judged
 }
 
-/// Reads a trace, checks it, and writes its summary.
+/// Reads a trace, checks it, and writes its summary. What is told of its progress ends before anything is written.
 ///
 /// It ends with what is wrong where something is: the input, the first bad line, the output, or memory.
-pub fn check<R: Read, W: Write>(alloc: Global, reader: &mut R, writer: &mut W) -> Ended
+pub fn check<R: Read, W: Write, P: Progress>(
+    alloc: Global,
+    reader: &mut R,
+    writer: &mut W,
+    progress: &mut P,
+) -> Ended
     ensures passed { result.said ≡ Nothing → WritesSummary (R.remaining reader.old) (W.contents writer.old) (W.contents writer.new) }
     ensures status { result.status ≡ 0 ↔ result.said ≡ Nothing }
 
@@ -59,7 +73,7 @@ pub fn check<R: Read, W: Write>(alloc: Global, reader: &mut R, writer: &mut W) -
     ensures short { is_of_input result.said ≡ false → IfSome (R.remaining reader.old) (λ all. length all ≤ MAX_TRACE) }
     ensures exact { (bad : Bad) → result.said ≡ BadTrace bad → IfSome (R.remaining reader.old) HasNoRightTrace }
 {
-    let trace = match traced(alloc, reader) {
+    let trace = match traced(alloc, reader, progress) {
         Ok(trace) => trace,
         Err(ended) => return ended,
     };

@@ -162,7 +162,7 @@ fn input_may_fail(rt: HostRuntime) -> Result<(), Fail> {
     let mut reader = Broken {
         text: TRACE.as_bytes(),
     };
-    let ended = check(alloc, &mut reader, &mut out);
+    let ended = check(alloc, &mut reader, &mut out, &mut ());
     assert!(rt; matches!(ended.said, Said::InputUnreadable));
     assert!(rt; out.is_empty());
     // Too long comes before the bad line in it.
@@ -191,7 +191,7 @@ fn output_may_fail(rt: HostRuntime) -> Result<(), Fail> {
     }
     for (room, status) in [(0, 1), (57, 1), (58, 0)] {
         let mut writer = Counts::with_room(room);
-        let ended = check(alloc, &mut TRACE.as_bytes(), &mut writer);
+        let ended = check(alloc, &mut TRACE.as_bytes(), &mut writer, &mut ());
         assert_eq!(rt; ended.status, status, "{room}");
     }
     // Bad limits come before a failing output.

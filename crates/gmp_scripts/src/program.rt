@@ -35,7 +35,7 @@ pub fn stepped(alloc: Global, script: &[u8]) -> Result<Ran, AllocError> {
 /// `gmp check` on a trace.
 pub fn checked(alloc: Global, trace: &[u8]) -> Result<Ran, AllocError> {
     let mut written = Vec::new(alloc);
-    let ended = check(alloc, &mut &trace[..], &mut written);
+    let ended = check(alloc, &mut &trace[..], &mut written, &mut ());
     done(alloc, written, ended.status, &ended.said)
 }
 

@@ -30,6 +30,6 @@ pub use line::{put_end, put_entry};
 pub use reading::{read_call, read_capacities, read_entry, read_limits};
 pub use summing::summary;
 pub use trace::{End, Trace, TraceView};
-pub use watch::Watch;
+pub use watch::{Watch, Work, tell};
 pub use whole::{read, read_watched};
 pub use writing::{WriteError, write, write_view};

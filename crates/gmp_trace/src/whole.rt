@@ -13,13 +13,10 @@ ghost use Rattle.gmp_trace.specs.Text.{Content, capacities_text, content, end_te
 use crate::at::{behind, blank, capacities_at, end_at, entry_at, limits_at};
 use crate::bad::{Bad, Why};
 use crate::trace::{End, Trace};
-use crate::watch::Watch;
+use crate::watch::{Watch, Work, tell};
 use gmp_base::Fault;
 use gmp_seq::{Call, Entry, Limits, Reply};
 use std::alloc::{AllocError, Global};
-
-/// So many entries are read between two calls of a watch.
-const EVERY: u64 = 65_536;
 
 const OUT_OF_MEMORY: Bad = Bad {
     line: 0,
@@ -186,13 +183,6 @@ fn is_next(machines: u8, counts: &[u64; 64], next: u64, n: u64, entry: &Entry) -
     n == next && m < machines && counts[usize::from(m)] == entry.k
 }
 
-/// Tells now and then how many entries were read.
-fn tell<W: Watch>(watch: &mut W, number: u64) {
-    if number % EVERY == 0 {
-        watch.entries(number);
-    }
-}
-
 /// The entries and the end that a text says behind its first three lines.
 fn body<W: Watch>(
     alloc: Global,
@@ -213,7 +203,7 @@ fn body<W: Watch>(
     let mut rest = text;
     while !rest.is_empty() {
         let number = entries.len() as u64;
-        tell(watch, number);
+        tell(watch, Work::Reading, number);
         let mut entry = blank();
         let Ok(found) = answered_at(rest, &mut words, &mut line, &mut entry) else {
             return Err(OUT_OF_MEMORY);

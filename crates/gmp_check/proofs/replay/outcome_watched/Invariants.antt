@@ -1,7 +1,7 @@
 use Rattle.std.proofs.Common.{◌≡◌, take}
 use Rattle.gmp_seq.specs.Fits.{AreLimits}
 use Rattle.gmp_seq.specs.Run.{IsLegal}
-use Rattle.gmp_check.proofs.replay.outcome_of.Given as goal
+use Rattle.gmp_check.proofs.replay.outcome_watched.Given as goal
 
 -- the entries before the index are a legal run to the replay's state
 abbrev pub invariant-loop-i : goal.invariant-loop-i

@@ -6,7 +6,7 @@ use Rattle.gmp_seq.specs.Run.{IsLegal, IsStep}
 use Rattle.gmp_check.proofs.Replaying.{legal_next, no_step, one_entry_more, opened_error, with_error}
 use Rattle.gmp_check.specs.Decides.{Decides}
 use Rattle.gmp_check.specs.Replayed.{IsReplayError, Replayed, as_replay_error}
-use Rattle.gmp_check.proofs.replay.outcome_of.Goals as goal
+use Rattle.gmp_check.proofs.replay.outcome_watched.Goals as goal
 
 pub returns-in_err-replay-clause-why : goal.returns-in_err-replay-clause-why
 returns-in_err-replay-clause-why c =

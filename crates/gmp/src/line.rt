@@ -1,0 +1,49 @@
+//! How far a check is, on one line of standard error.
+
+use gmp_cli::{Progress, Watch, Work};
+
+/// An input of more bytes is worth a line.
+const LONG: usize = 16 * 1024 * 1024;
+
+/// The line, which is shown where standard error is a terminal and the input is long, and gone at the end.
+#[derive(Drop)]
+pub struct Line<'a, E> {
+    rt: &'a E,
+    is_terminal: bool,
+    is_shown: bool,
+}
+
+impl<'a, E> Line<'a, E> {
+    pub fn on(rt: &'a E, is_terminal: bool) -> Self {
+        Line {
+            rt,
+            is_terminal,
+            is_shown: false,
+        }
+    }
+}
+
+impl<E: Eprint> Watch for Line<'_, E> {
+    fn entries(&mut self, work: Work, count: u64) {
+        if !self.is_shown {
+            return;
+        }
+        // A line that cannot be shown keeps nothing from the check.
+        let _ = match work {
+            Work::Reading => eprint!(self.rt; "\r{count} entries read"),
+            Work::Checking => eprint!(self.rt; "\r{count} entries checked"),
+        };
+    }
+}
+
+impl<E: Eprint> Progress for Line<'_, E> {
+    fn begin(&mut self, bytes: usize) {
+        self.is_shown = self.is_terminal && bytes > LONG;
+    }
+
+    fn end(&mut self) {
+        if self.is_shown {
+            let _ = eprint!(self.rt; "\r\x1b[K");
+        }
+    }
+}
