@@ -1,7 +1,8 @@
 //! The channels, and those who wait on them.
 //!
-//! What asks who waits looks at the offers of those who do, 8 of each goroutine at most: a send, a receive, a withdrawal, `can`,
-//! `first_waiting`, `is_waiting`, `is_later`. The rest is constant. Only the opening and `make` take memory.
+//! Each offer stands in a cell of its goroutine, and is linked with those of its channel and direction, in order. So what a call costs does
+//! not depend on how many wait: a send, a receive, `can` and `first_waiting` look at the first of a ring, and where a wait begins or ends
+//! each of its offers, 8 at most, takes a few writes. `is_later` alone looks at all cells. Only the opening and `make` take memory.
 #![tactic(auto)]
 
 mod cases;
