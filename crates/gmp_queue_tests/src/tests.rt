@@ -9,7 +9,6 @@ use std::alloc::Global;
 mod keeping;
 mod refusing;
 mod stealing;
-mod turning;
 
 const TICKETS: u16 = 4096;
 
