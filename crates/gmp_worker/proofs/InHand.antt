@@ -1,15 +1,13 @@
 -- What a machine has in hand that is about to resume a body, or to make a blocking call.
-use Rattle.std.proofs.Common.{◌≡◌, Option, Some, None, subst, sym, ap}
+use Rattle.std.proofs.Common.{◌≡◌, Option, Some, None, subst, sym}
 use Rattle.gmp_base.specs.declared.ask.Woke.{Woke}
 use Rattle.gmp_base.specs.declared.number.GNo.{GNo}
-use Rattle.gmp_driver.specs.declared.act.Act.{Act}
 use Rattle.gmp_driver.specs.declared.act.Act.TheVariants as act
 use Rattle.gmp_driver.specs.declared.place.Place.{Place}
 use Rattle.gmp_driver.specs.declared.place.Place.TheVariants as place
 use Rattle.gmp_driver.specs.declared.registers.CalledParts.{CalledParts}
 use Rattle.gmp_driver.specs.declared.registers.HeldParts.{HeldParts}
 use Rattle.gmp_driver.specs.declared.registers.Registers.{Registers}
-use Rattle.gmp_driver.specs.declared.seen.Seen.{Seen}
 use Rattle.gmp_driver.specs.Bodies.{body_at}
 use Rattle.gmp_driver.specs.Machine.{Machine, held_at}
 use Rattle.gmp_driver.specs.Seen.{seen}

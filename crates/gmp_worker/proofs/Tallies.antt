@@ -1,5 +1,5 @@
 -- What is counted of each machine, entry by entry and log by log.
-use Rattle.std.proofs.Common.{◌≡◌, ◌≢◌, ◌⊎◌, inl, inr, ℕ, ◌+◌, ◌<◌, ◌≤◌, ◌==◌, min, Bool, true, false, if◌then◌else◌, List, [], ◌∷◌, ◌++◌, length, map, filter, get_or, set, take, refl, sym, ap, subst, ◌∙◌, arith}
+use Rattle.std.proofs.Common.{◌≡◌, ◌≢◌, ◌⊎◌, inl, inr, ℕ, ◌+◌, ◌<◌, ◌≤◌, ◌==◌, min, Bool, true, false, if◌then◌else◌, List, [], ◌∷◌, ◌++◌, length, map, filter, get_or, set, take, sym, ap, subst, ◌∙◌, arith}
 use Rattle.std.proofs.lemmas.Bool.{cases_eq, eq-eqb, ne_eqb}
 use Rattle.std.proofs.lemmas.List.{append-nil, get_or-set_other, get_or-set_same, length-map, length_push, map-append}
 use Rattle.std.proofs.lemmas.List.Elements.{filter_more}
@@ -9,7 +9,7 @@ use Rattle.std.specs.List.{count_by, sum}
 use Rattle.gmp_seq.specs.declared.call.Entry.{Entry}
 use Rattle.gmp_worker.specs.declared.auditing.PassLog.{PassLog}
 use Rattle.gmp_worker.specs.declared.auditing.Tally.{Tally}
-use Rattle.gmp_worker.specs.Audit.{entries_of, logged_of, no_tally, said_of, tally_of}
+use Rattle.gmp_worker.specs.Audit.{entries_of, logged_of, no_tally, tally_of}
 
 -- One tally of the array changes
 

@@ -1,5 +1,5 @@
 -- One turn of a machine on what it alone holds: a body or the clock.
-use Rattle.std.specs.Prelude.{◌≡◌, Option, Some, None}
+use Rattle.std.specs.Prelude.{Option, Some, None}
 use Rattle.gmp_driver.specs.declared.act.Act.{Act}
 use Rattle.gmp_driver.specs.declared.act.Act.TheVariants as act
 use Rattle.gmp_driver.specs.declared.registers.CalledParts.{CalledParts}

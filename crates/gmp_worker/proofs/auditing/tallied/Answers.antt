@@ -1,4 +1,4 @@
-use Rattle.std.proofs.Common.{◌≡◌, ◌∙◌, ℕ, ◌+◌, ◌<◌, ◌≤◌, List, [], ap, arith, get_or, length, sym, take}
+use Rattle.std.proofs.Common.{◌∙◌, ◌+◌, ◌<◌, List, [], ap, arith, get_or, length, sym, take}
 use Rattle.std.proofs.lemmas.List.{get_or-replicate, get_or_default, length-replicate, length-set, length-take, take_all}
 use Rattle.gmp_seq.specs.declared.call.Entry.{Entry}
 use Rattle.gmp_worker.specs.declared.auditing.PassLog.{PassLog}

@@ -1,4 +1,4 @@
-use Rattle.std.proofs.Common.{◌≡◌, ℕ, ◌<◌, ◌^◌, [], get_or, length, take}
+use Rattle.std.proofs.Common.{◌≡◌, ℕ, ◌<◌, [], get_or, length, take}
 use Rattle.gmp_worker.specs.Audit.{no_tally, tally_of}
 use Rattle.gmp_worker.proofs.auditing.tallied.Given as goal
 
