@@ -45,8 +45,10 @@ module _ (history : List Entry) (logs : List PassLog) (m : ℕ) (t : Tally) (is 
   agree same one = by (subst (λ (u : Tally). (u.found ≡ 0) ⊎ (u.logs ≡ 1)) is one) where
     capped : min (sum (logged_of logs m)) 18446744073709551615 ≡ entries_of history m
     capped = subst (λ (u : Tally). u.said ≡ u.found) is same
+
     sums : sum (logged_of logs m) ≡ entries_of history m
     sums = omega (arith, capped, below)
+
     by : (entries_of history m ≡ 0) ⊎ (length (logged_of logs m) ≡ 1) → Agrees history logs m
     by (inl none) = record { one = λ some. (let no : ⊥ = omega (arith, none, some) in absurd no); each = subst (λ (n : ℕ). AllAre n (logged_of logs m)) (sym none) (no_calls (logged_of logs m) (sums ∙ none)) }
     by (inr one) = record { one = λ some. one; each = one_sum (logged_of logs m) (entries_of history m) one sums }

@@ -79,8 +79,8 @@ module _ (history : List Entry) (logs : List PassLog) (i : ℕ) (l : PassLog) (t
   logged_own k t said own was capped_to =
       let before = logged_of (take i logs) k in
       let sums : said ≡ min (sum (before ++ l.calls ∷ [])) 18446744073709551615 =
-        capped_to ∙ ap (λ (u : Tally). min (u.said + l.calls) 18446744073709551615) was ∙ capped (sum before) l.calls 18446744073709551615
-        ∙ ap (λ (n : ℕ). min n 18446744073709551615) (sym (sum_by_push (λ (n : ℕ). n) before l.calls)) in
+      capped_to ∙ ap (λ (u : Tally). min (u.said + l.calls) 18446744073709551615) was ∙ capped (sum before) l.calls 18446744073709551615
+      ∙ ap (λ (n : ℕ). min n 18446744073709551615) (sym (sum_by_push (λ (n : ℕ). n) before l.calls)) in
       ap (λ (u : Tally). record u { logs = u.logs + 1; said = said }) was
       ∙ ap (λ (n : ℕ). record { found = entries_of history k; logs = n; said = said }) (sym (length_push before l.calls))
       ∙ ap (λ (n : ℕ). record { found = entries_of history k; logs = length (before ++ l.calls ∷ []); said = n }) sums

@@ -29,11 +29,12 @@ loop-entry-preserved c =
     let k = c.from.result in
     let own = sym c.from.ensures in
     let few : k < 256 = omega arith in
-    let within : k < length c.loop-entry.tallies = omega (arith, few, c.loop-entry.invariant.0) in
-    (length-set c.loop-entry.tallies k _ ∙ c.loop-entry.invariant.0,
-    next_tallies (tally_of (take i history) []) (tally_of (take (i + 1) history) []) c.loop-entry.tallies k _ within c.loop-entry.invariant.1
-    (counted_own history i e c.loop-entry-test.true c.entry-item.is k (get_or c.loop-entry.tallies k no_tally) own (c.loop-entry.invariant.1 k few))
-    (counted_others history i e c.loop-entry-test.true c.entry-item.is k own))
+    let within : k < length c.loop-entry.tallies = omega (arith, few, c.loop-entry.invariant.0) in (
+      length-set c.loop-entry.tallies k _ ∙ c.loop-entry.invariant.0,
+      next_tallies (tally_of (take i history) []) (tally_of (take (i + 1) history) []) c.loop-entry.tallies k _ within c.loop-entry.invariant.1
+          (counted_own history i e c.loop-entry-test.true c.entry-item.is k (get_or c.loop-entry.tallies k no_tally) own (c.loop-entry.invariant.1 k few))
+          (counted_others history i e c.loop-entry-test.true c.entry-item.is k own),
+    )
 
 -- Logs
 
@@ -62,11 +63,12 @@ loop-log-preserved c =
     let is = get_or_default logs i none l c.loop-log-test.true in
     let own = sym c.from-m.ensures in
     let few : k < 256 = omega arith in
-    let within : k < length c.loop-log.tallies = omega (arith, few, c.loop-log.invariant.0) in
-    (length-set c.loop-log.tallies k _ ∙ c.loop-log.invariant.0,
-    next_tallies (tally_of history (take i logs)) (tally_of history (take (i + 1) logs)) c.loop-log.tallies k _ within c.loop-log.invariant.1
-    (logged_own history logs i l c.loop-log-test.true is k (get_or c.loop-log.tallies k no_tally) c.saturating_add.result own (c.loop-log.invariant.1 k few) c.saturating_add.ensures)
-    (logged_others history logs i l c.loop-log-test.true is k own))
+    let within : k < length c.loop-log.tallies = omega (arith, few, c.loop-log.invariant.0) in (
+      length-set c.loop-log.tallies k _ ∙ c.loop-log.invariant.0,
+      next_tallies (tally_of history (take i logs)) (tally_of history (take (i + 1) logs)) c.loop-log.tallies k _ within c.loop-log.invariant.1
+          (logged_own history logs i l c.loop-log-test.true is k (get_or c.loop-log.tallies k no_tally) c.saturating_add.result own (c.loop-log.invariant.1 k few) c.saturating_add.ensures)
+          (logged_others history logs i l c.loop-log-test.true is k own),
+    )
 
 pub returns-clause-tallies : goal.returns-clause-tallies
 returns-clause-tallies c =
