@@ -1,0 +1,4 @@
+pub mod Agreeing
+pub mod Boxes
+pub mod InHand
+pub mod Tallies

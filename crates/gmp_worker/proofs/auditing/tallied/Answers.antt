@@ -1,0 +1,76 @@
+use Rattle.std.proofs.Common.{◌∙◌, ◌+◌, ◌<◌, List, [], ap, arith, get_or, length, sym, take}
+use Rattle.std.proofs.lemmas.List.{get_or-replicate, get_or_default, length-replicate, length-set, length-take, take_all}
+use Rattle.gmp_seq.specs.declared.call.Entry.{Entry}
+use Rattle.gmp_worker.specs.declared.auditing.PassLog.{PassLog}
+use Rattle.gmp_worker.specs.declared.auditing.Tally.{Tally}
+use Rattle.gmp_worker.specs.Audit.{no_tally, tally_of}
+use Rattle.gmp_worker.proofs.Tallies.{counted_others, counted_own, few_entries, few_logs, logged_others, logged_own, next_tallies}
+use Rattle.gmp_worker.proofs.auditing.tallied.Goals as goal
+
+-- Entries
+
+pub loop-entry-init : goal.loop-entry-init
+loop-entry-init c = (length-replicate 256 no_tally, λ m few. get_or-replicate 256 m no_tally no_tally few)
+
+pub overflow_add-tallies : goal.overflow_add-tallies
+overflow_add-tallies c =
+    let k = c.from.result in
+    let few : k < 256 = omega arith in
+    let found = ap (λ (t : Tally). t.found) (c.loop-entry.invariant.1 k few) in
+    let few_so_far = few_entries (take c.loop-entry.entry-index c.args.history.now) k in
+    let so_far = length-take c.loop-entry.entry-index c.args.history.now in
+    omega (arith, found, few_so_far, so_far)
+
+pub loop-entry-preserved : goal.loop-entry-preserved
+loop-entry-preserved c =
+    let history = c.args.history.now in
+    let i = c.loop-entry.entry-index in
+    let e = c.entry-item.result in
+    let k = c.from.result in
+    let own = sym c.from.ensures in
+    let few : k < 256 = omega arith in
+    let within : k < length c.loop-entry.tallies = omega (arith, few, c.loop-entry.invariant.0) in (
+      length-set c.loop-entry.tallies k _ ∙ c.loop-entry.invariant.0,
+      next_tallies (tally_of (take i history) []) (tally_of (take (i + 1) history) []) c.loop-entry.tallies k _ within c.loop-entry.invariant.1
+          (counted_own history i e c.loop-entry-test.true c.entry-item.is k (get_or c.loop-entry.tallies k no_tally) own (c.loop-entry.invariant.1 k few))
+          (counted_others history i e c.loop-entry-test.true c.entry-item.is k own),
+    )
+
+-- Logs
+
+pub loop-log-init : goal.loop-log-init
+loop-log-init c =
+    let all = take_all c.loop-entry.entry-index c.args.history.now c.loop-entry-test.false in
+    (c.loop-entry.invariant.0, λ m few. c.loop-entry.invariant.1 m few ∙ ap (λ (h : List Entry). tally_of h [] m) all)
+
+pub overflow_add-tallies-in-loop-log : goal.overflow_add-tallies-in-loop-log
+overflow_add-tallies-in-loop-log c =
+    let k = c.from-m.result in
+    let few : k < 256 = omega arith in
+    let logged = ap (λ (t : Tally). t.logs) (c.loop-log.invariant.1 k few) in
+    let few_so_far = few_logs (take c.loop-log.log-index c.args.logs.now) k in
+    let so_far = length-take c.loop-log.log-index c.args.logs.now in
+    omega (arith, logged, few_so_far, so_far)
+
+pub loop-log-preserved : goal.loop-log-preserved
+loop-log-preserved c =
+    let history = c.args.history.now in
+    let logs = c.args.logs.now in
+    let i = c.loop-log.log-index in
+    let k = c.from-m.result in
+    let none : PassLog = record { m = record { 0 = 0 }; calls = 0 } in
+    let l = get_or logs i none in
+    let is = get_or_default logs i none l c.loop-log-test.true in
+    let own = sym c.from-m.ensures in
+    let few : k < 256 = omega arith in
+    let within : k < length c.loop-log.tallies = omega (arith, few, c.loop-log.invariant.0) in (
+      length-set c.loop-log.tallies k _ ∙ c.loop-log.invariant.0,
+      next_tallies (tally_of history (take i logs)) (tally_of history (take (i + 1) logs)) c.loop-log.tallies k _ within c.loop-log.invariant.1
+          (logged_own history logs i l c.loop-log-test.true is k (get_or c.loop-log.tallies k no_tally) c.saturating_add.result own (c.loop-log.invariant.1 k few) c.saturating_add.ensures)
+          (logged_others history logs i l c.loop-log-test.true is k own),
+    )
+
+pub returns-clause-tallies : goal.returns-clause-tallies
+returns-clause-tallies c =
+    let all = take_all c.loop-log.log-index c.args.logs.now c.loop-log-test.false in
+    λ m few. c.loop-log.invariant.1 m few ∙ ap (λ (logs : List PassLog). tally_of c.args.history.now logs m) all

@@ -1,0 +1,14 @@
+use Rattle.std.proofs.Common.{◌∙◌, ap}
+use Rattle.gmp_driver.specs.declared.act.Told.TheVariants.{Asked}
+use Rattle.gmp_driver.specs.Bodies.{with_body}
+use Rattle.gmp_driver.specs.Table.{after}
+use Rattle.gmp_worker.proofs.InHand.{held_where}
+use Rattle.gmp_worker.proofs.locally.resume.Goals as goal
+
+pub returns : goal.returns
+returns g c =
+    let x = c.args.driver.now in
+    let ask = c.resume_boxed-ask.result in
+    let did = c.resume_boxed-ask.ensures in
+    held_where x c.in-Some-Some.woke c.in-Some-Some.body.now _ c.requires.act c.in-Some-Some.ensures c.in-Some-Some.ensures'.body
+    (λ n. (ask, did.0, did.2, c.tell.ensures ∙ ap (λ body. after (with_body x body) (Asked ask)) did.1))

@@ -1,0 +1,54 @@
+//! One turn of a machine at the book.
+ghost use Rattle.std.specs.Prelude.{◌≡◌, None, IsSome};
+ghost use Rattle.gmp_driver.specs.Table.{next_act};
+ghost use Rattle.gmp_worker.specs.Turn.{IsAtBook, TakesTurn, drawn};
+
+use gmp_base::MNo;
+use gmp_book::Book;
+use gmp_driver::{Act, Driver};
+use gmp_seq::Call;
+use gmp_turn::{surrender, woken};
+use rand_core::utils::next_u64_via_u32;
+use rand_pcg::Lcg64Xsh32;
+use std::alloc::Global;
+
+/// Makes the call of the book or the surrender that the driver's machine names next, and answers the machine to wake. A select draws its
+/// word, and a make takes memory.
+pub fn turn<T, Q>(
+    alloc: Global,
+    driver: &mut Driver<T, Q>,
+    book: &mut Book<T, Q>,
+    random: &mut Lcg64Xsh32,
+) -> Option<MNo>
+    requires act { IsAtBook (next_act driver.old) }
+    requires pass { IsSome driver.old.pass }
+    requires run { driver.old.run ≡ book.old.log.run }
+    ensures turn { TakesTurn (next_act driver.old) driver.old book.old random.old result driver.new book.new random.new }
+    ensures pass { IsSome driver.new.pass }
+    ensures run { driver.new.run ≡ book.new.log.run }
+{
+    match driver.next() {
+        Act::Call(call) => {
+            let word = draw_for(&call, random);
+            match gmp_turn::turn(alloc, driver, book, call, word) {
+                Ok(reply) => woken(reply),
+                Err(_) => None,
+            }
+        }
+        Act::Surrender(which) => {
+            let _ = surrender(driver, book, which);
+            None
+        }
+        _ => unreachable!(),
+    }
+}
+
+/// The word that a call draws, the low half first; 0 where it draws none.
+fn draw_for(call: &Call, random: &mut Lcg64Xsh32) -> u64
+    ensures { (result, random.new) ≡ drawn call.now random.old }
+{
+    match call {
+        Call::Select(_, _, _) => next_u64_via_u32(random),
+        _ => 0,
+    }
+}

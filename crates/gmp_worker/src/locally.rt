@@ -1,0 +1,57 @@
+//! One turn of a machine on what it alone holds: a body or the clock.
+ghost use Rattle.std.specs.Prelude.{◌≡◌, ℕ, Option, IsSome};
+ghost use Rattle.gmp_base.specs.declared.ask.Ask.{Ask};
+ghost use Rattle.gmp_driver.specs.declared.act.Act.TheVariants as act;
+ghost use Rattle.gmp_driver.specs.declared.act.Told.TheVariants as told;
+ghost use Rattle.gmp_driver.specs.Bodies.{with_body};
+ghost use Rattle.gmp_driver.specs.Fits.{IsDriver};
+ghost use Rattle.gmp_driver.specs.Table.{after, next_act};
+ghost use Rattle.gmp_worker.specs.Local.{CalledWhere, HeldWhere, IsLocal};
+
+use crate::bodies::{Boxed, block_boxed, resume_boxed};
+use gmp_driver::{Act, Driver, Told};
+
+/// Resumes the body that the driver's machine runs, or makes the blocking call of the one in it, or tells the machine this moment as the clock's
+/// reading, whichever its driver names next.
+pub fn local_turn<Q>(driver: &mut Driver<Boxed, Q>, moment: u64)
+    requires act { IsLocal (next_act driver.old) }
+    requires pass { IsSome driver.old.pass }
+    ensures resumes { next_act driver.old ≡ act.Resume → HeldWhere driver.old (λ h. (ask : Ask) × (left : _) × resumed h.body h.woke ask left × (driver.new ≡ after (with_body driver.old (record h.body { value = left })) (told.Asked ask))) }
+    ensures blocks { next_act driver.old ≡ act.Block → CalledWhere driver.old (λ c. (number : ℕ) × (left : _) × blocked c.body number left × (driver.new ≡ after (with_body driver.old (record c.body { value = left })) (told.Number number))) }
+    ensures reads { (minded : Option ℕ) → next_act driver.old ≡ act.Clock minded → driver.new ≡ after driver.old (told.Moment moment) }
+{
+    match driver.next() {
+        Act::Resume => resume(driver),
+        Act::Block => block(driver),
+        Act::Clock(_) => driver.tell(Told::Moment(moment)),
+        _ => unreachable!(),
+    }
+}
+
+/// Resumes the body of the goroutine that runs, and tells the machine what it asks.
+fn resume<Q>(driver: &mut Driver<Boxed, Q>)
+    requires act { next_act driver.old ≡ act.Resume }
+    requires keeps { IsDriver driver.old }
+    requires pass { IsSome driver.old.pass }
+    ensures { HeldWhere driver.old (λ h. (ask : Ask) × (left : _) × resumed h.body h.woke ask left × (driver.new ≡ after (with_body driver.old (record h.body { value = left })) (told.Asked ask))) }
+{
+    let ask = match (driver.held(), driver.body()) {
+        (Some(woke), Some(body)) => resume_boxed(body, woke),
+        _ => unreachable!(),
+    };
+    driver.tell(Told::Asked(ask));
+}
+
+/// Makes the blocking call of the body in it, and tells the machine the number.
+fn block<Q>(driver: &mut Driver<Boxed, Q>)
+    requires act { next_act driver.old ≡ act.Block }
+    requires keeps { IsDriver driver.old }
+    requires pass { IsSome driver.old.pass }
+    ensures { CalledWhere driver.old (λ c. (number : ℕ) × (left : _) × blocked c.body number left × (driver.new ≡ after (with_body driver.old (record c.body { value = left })) (told.Number number))) }
+{
+    let number = match driver.body() {
+        Some(body) => block_boxed(body),
+        None => unreachable!(),
+    };
+    driver.tell(Told::Number(number));
+}
