@@ -4,6 +4,7 @@ use gmp_book::Book;
 use gmp_seq::Limits;
 use std::process::Abort;
 
+mod auditing;
 mod making;
 mod opening;
 mod parts;

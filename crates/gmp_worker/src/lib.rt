@@ -6,8 +6,6 @@ mod at_book;
 mod auditing;
 mod bodies;
 mod locally;
-#[cfg(test)]
-mod tests;
 
 pub use at_book::turn;
 pub use auditing::{Mismatch, PassLog, audit};

@@ -1,8 +1,8 @@
 //! Audits of a history of one machine.
 
-use crate::{Mismatch, PassLog, audit};
 use gmp_base::MNo;
 use gmp_seq::{Call, Entry, Reply};
+use gmp_worker::{Mismatch, PassLog, audit};
 
 fn entry(k: u64) -> Entry {
     Entry::new(MNo(0), k, Call::Bare, Reply::Done)
