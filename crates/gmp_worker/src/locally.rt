@@ -11,14 +11,16 @@ ghost use Rattle.gmp_worker.specs.Local.{CalledWhere, HeldWhere, IsLocal};
 use crate::bodies::{Boxed, block_boxed, resume_boxed};
 use gmp_driver::{Act, Driver, Told};
 
-/// Resumes the body that the driver's machine runs, or makes the blocking call of the one in it, or tells the machine this moment as the clock's
-/// reading, whichever its driver names next.
+/// Resumes the body of the goroutine that the driver's machine runs, or makes the blocking call of the one in it, or tells the machine this
+/// moment as the clock's reading, whichever the driver names next.
 pub fn local_turn<Q>(driver: &mut Driver<Boxed, Q>, moment: u64)
     requires act { IsLocal (next_act driver.old) }
     requires pass { IsSome driver.old.pass }
     ensures resumes { next_act driver.old ≡ act.Resume → HeldWhere driver.old (λ h. (ask : Ask) × (left : _) × resumed h.body h.woke ask left × (driver.new ≡ after (with_body driver.old (record h.body { value = left })) (told.Asked ask))) }
     ensures blocks { next_act driver.old ≡ act.Block → CalledWhere driver.old (λ c. (number : ℕ) × (left : _) × blocked c.body number left × (driver.new ≡ after (with_body driver.old (record c.body { value = left })) (told.Number number))) }
     ensures reads { (minded : Option ℕ) → next_act driver.old ≡ act.Clock minded → driver.new ≡ after driver.old (told.Moment moment) }
+    ensures pass { driver.new.pass ≡ driver.old.pass }
+    ensures run { driver.new.run ≡ driver.old.run }
 {
     match driver.next() {
         Act::Resume => resume(driver),
@@ -33,7 +35,9 @@ fn resume<Q>(driver: &mut Driver<Boxed, Q>)
     requires act { next_act driver.old ≡ act.Resume }
     requires keeps { IsDriver driver.old }
     requires pass { IsSome driver.old.pass }
-    ensures { HeldWhere driver.old (λ h. (ask : Ask) × (left : _) × resumed h.body h.woke ask left × (driver.new ≡ after (with_body driver.old (record h.body { value = left })) (told.Asked ask))) }
+    ensures resumes { HeldWhere driver.old (λ h. (ask : Ask) × (left : _) × resumed h.body h.woke ask left × (driver.new ≡ after (with_body driver.old (record h.body { value = left })) (told.Asked ask))) }
+    ensures pass { driver.new.pass ≡ driver.old.pass }
+    ensures run { driver.new.run ≡ driver.old.run }
 {
     let ask = match (driver.held(), driver.body()) {
         (Some(woke), Some(body)) => resume_boxed(body, woke),
@@ -47,7 +51,9 @@ fn block<Q>(driver: &mut Driver<Boxed, Q>)
     requires act { next_act driver.old ≡ act.Block }
     requires keeps { IsDriver driver.old }
     requires pass { IsSome driver.old.pass }
-    ensures { CalledWhere driver.old (λ c. (number : ℕ) × (left : _) × blocked c.body number left × (driver.new ≡ after (with_body driver.old (record c.body { value = left })) (told.Number number))) }
+    ensures blocks { CalledWhere driver.old (λ c. (number : ℕ) × (left : _) × blocked c.body number left × (driver.new ≡ after (with_body driver.old (record c.body { value = left })) (told.Number number))) }
+    ensures pass { driver.new.pass ≡ driver.old.pass }
+    ensures run { driver.new.run ≡ driver.old.run }
 {
     let number = match driver.body() {
         Some(body) => block_boxed(body),

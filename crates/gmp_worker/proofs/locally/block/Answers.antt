@@ -5,8 +5,8 @@ use Rattle.gmp_driver.specs.Table.{after}
 use Rattle.gmp_worker.proofs.InHand.{called_where}
 use Rattle.gmp_worker.proofs.locally.block.Goals as goal
 
-pub returns : goal.returns
-returns g c =
+pub returns-clause-blocks : goal.returns-clause-blocks
+returns-clause-blocks g c =
     let x = c.args.driver.now in
     let number = c.block_boxed-number.result in
     let did = c.block_boxed-number.ensures in

@@ -5,8 +5,8 @@ use Rattle.gmp_driver.specs.Table.{after}
 use Rattle.gmp_worker.proofs.InHand.{held_where}
 use Rattle.gmp_worker.proofs.locally.resume.Goals as goal
 
-pub returns : goal.returns
-returns g c =
+pub returns-clause-resumes : goal.returns-clause-resumes
+returns-clause-resumes g c =
     let x = c.args.driver.now in
     let ask = c.resume_boxed-ask.result in
     let did = c.resume_boxed-ask.ensures in
