@@ -5,7 +5,7 @@ use Rattle.gmp_check.proofs.replay.outcome_watched.Given as goal
 
 -- the entries before the index are a legal run to the replay's state
 abbrev pub invariant-loop-i : goal.invariant-loop-i
-invariant-loop-i l = record {
+invariant-loop-i g l = record {
   limits : l.replay.limits ≡ l.fn.limits;
   within : AreLimits l.fn.limits l.bodies l.capacities;
   legal : IsLegal l.fn.limits l.bodies l.capacities (take l.i l.entries) l.replay.state;
