@@ -19,10 +19,10 @@ of_told (Err e) input bytes P same holds = λ bad told. of_input input bytes (P 
 
 pub returns-clause-first : goal.returns-clause-first
 returns-clause-first g c =
-    of_told c.judged.result (g.R.Read.remaining c.args.reader.now) c.in_ok-bytes.bytes.items (λ bad all. IsBadLine all bad) c.in_ok-bytes.ensures.whole
-    (rw c.deref.ensures.value at c.judged.ensures.first)
+    of_told c.judged-judged.result (g.R.Read.remaining c.args.reader.now) c.in_ok-bytes.bytes.items (λ bad all. IsBadLine all bad) c.in_ok-bytes.ensures.whole
+    (rw c.deref.ensures.value at c.judged-judged.ensures.first)
 
 pub returns-clause-exact : goal.returns-clause-exact
 returns-clause-exact g c =
-    of_told c.judged.result (g.R.Read.remaining c.args.reader.now) c.in_ok-bytes.bytes.items (λ bad all. HasNoRightTrace all) c.in_ok-bytes.ensures.whole
-    (rw c.deref.ensures.value at c.judged.ensures.exact)
+    of_told c.judged-judged.result (g.R.Read.remaining c.args.reader.now) c.in_ok-bytes.bytes.items (λ bad all. HasNoRightTrace all) c.in_ok-bytes.ensures.whole
+    (rw c.deref.ensures.value at c.judged-judged.ensures.exact)
