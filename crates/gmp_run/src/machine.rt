@@ -1,0 +1,121 @@
+//! What the thread of a machine carries.
+ghost use Rattle.std.specs.Prelude.{◌≡◌, ◌≤◌, true, is_some};
+ghost use Rattle.gmp_driver.specs.Table.{next_act};
+ghost use Rattle.gmp_queue_turn.specs.Turns.{IsQueueAct};
+ghost use Rattle.gmp_worker.specs.Local.{IsLocal};
+ghost use Rattle.gmp_run.specs.Counts.{calls_in};
+
+use crate::desk::RunLedger;
+use crossbeam_utils::sync::Parker;
+use gmp_base::{MNo, Pass};
+use gmp_driver::{Act, Driver};
+use gmp_queue::{Owner, Thief};
+use gmp_queue_turn::queue_turn;
+use gmp_worker::{Boxed, PassLog, local_turn};
+use rand_core::utils::next_u64_via_u32;
+use rand_pcg::Lcg64Xsh32;
+use std::sync::ledger::Share;
+
+/// A machine's driver with its pass, its thieves of all queues, its generator and its parker, beside its share of the calls.
+pub(crate) struct Machine<T, L: RunLedger> {
+    pub m: MNo,
+    pub driver: Driver<T, Owner>,
+    pub thieves: Vec<Thief>,
+    pub random: Lcg64Xsh32,
+    pub parker: Parker,
+    pub share: Share<L>,
+    pub ghost run: { driver.run ≡ L.run },
+    pub ghost pass: { is_some driver.pass ≡ true },
+    pub ghost one_part: { share.parts ≡ 1 },
+    pub ghost counted: { share.amount ≡ calls_in driver.pass },
+}
+
+impl<T: Drop, L: RunLedger> Machine<T, L> {
+    /// A machine that has made no act.
+    pub fn new(
+        pass: Pass,
+        procs: u8,
+        thieves: Vec<Thief>,
+        random: Lcg64Xsh32,
+        parker: Parker,
+        share: Share<L>,
+    ) -> Self
+        requires procs { (1 ≤ procs) × (procs ≤ 32) }
+        requires run { pass.run ≡ L.run }
+        requires counted { share.amount ≡ pass.calls }
+        requires one_part { share.parts ≡ 1 }
+    {
+        Machine {
+            m: pass.m,
+            driver: Driver::new(pass, procs),
+            thieves,
+            random,
+            parker,
+            share,
+        }
+    }
+
+    /// Its machine with the calls that its pass made, and its share of them.
+    pub fn into_log(self) -> (PassLog, Share<L>)
+        ensures amount { result.1.amount ≡ result.0.calls }
+        ensures one_part { result.1.parts ≡ 1 }
+    {
+        let Machine {
+            m: _,
+            driver,
+            thieves: _,
+            random: _,
+            parker: _,
+            share,
+        } = self;
+        let (_, m, calls, _) = driver.into_pass().open();
+        (PassLog { m, calls }, share)
+    }
+
+    /// Makes the act on a queue that the driver names next. The first of a hunt draws a word.
+    pub fn queue_turn(&mut self)
+        requires { IsQueueAct (next_act self.old.driver) }
+    {
+        let Machine {
+            driver,
+            thieves,
+            random,
+            ..
+        } = self;
+        let word = match driver.next() {
+            Act::Hunt => next_u64_via_u32(random),
+            _ => 0,
+        };
+        queue_turn(driver, thieves.as_mut_slice(), word);
+    }
+}
+
+/// A body that machines in threads run.
+pub(crate) trait Runs: Drop {
+    ghost use Rattle.std.specs.Prelude.{◌≡◌, IsSome};
+    ghost use Rattle.gmp_driver.specs.Table.{next_act};
+    ghost use Rattle.gmp_worker.specs.Local.{IsLocal};
+
+    /// Makes the act on a body or the clock that the driver names next. The moment is the clock's reading.
+    fn local_turn(driver: &mut Driver<Self, Owner>, moment: u64)
+        requires act { IsLocal (next_act driver.old) }
+        requires pass { IsSome driver.old.pass }
+        ensures pass { driver.new.pass ≡ driver.old.pass }
+        ensures run { driver.new.run ≡ driver.old.run };
+}
+
+impl Runs for Boxed {
+    fn local_turn(driver: &mut Driver<Self, Owner>, moment: u64) {
+        local_turn(driver, moment);
+    }
+}
+
+impl<T: Runs, L: RunLedger> Machine<T, L> {
+    /// Makes the act on a body or the clock that the driver names next. The moment is the clock's reading.
+    pub fn local_turn(&mut self, moment: u64)
+        requires { IsLocal (next_act self.old.driver) }
+    {
+        let Machine { driver, .. } = self;
+        T::local_turn(driver, moment);
+    }
+}

@@ -1,0 +1,230 @@
+//! Runs the machines of a run.
+ghost use Rattle.std.specs.Prelude.{◌≡◌, ◌≤◌, [], All, length, vec_capacity, IfErr, IfOk};
+ghost use Rattle.gmp_run.specs.Counts.{calls_of};
+ghost use Rattle.gmp_run.specs.Reports.{AreLogs, IsReport, WhyUnrun};
+ghost use Rattle.gmp_run.specs.Seats.{IsUnused};
+
+use crate::desk::{Desk, RunLedger};
+use crate::ending::{Report, Unrun, finish, hang};
+use crate::machine::{Machine, Runs};
+use crate::outside::{Clock, Gate};
+use crate::room::Room;
+use crate::working::{Seat, worker};
+use crossbeam_utils::sync::{Parker, Unparker};
+use gmp_base::{MNo, Pass, Refusal};
+use gmp_book::{Book, Unopened};
+use gmp_queue::Thief;
+use gmp_seq::Limits;
+use gmp_worker::{Boxed, PassLog};
+use rand_core::SeedableRng;
+use rand_pcg::Lcg64Xsh32;
+use std::alloc::Global;
+use std::marker::Brand;
+use std::sync::ledger::{Blank, Share};
+use std::sync::{Mutex, Wait};
+use std::thread;
+use std::thread::Threads;
+
+/// Runs the bodies, of which the first is main, by so many machines: the first on this thread, each other on a thread of its own. It comes
+/// back once the run is over and each thread has ended.
+///
+/// Machine m draws its words from a generator that is seeded by `random + m`, wrapping. A thread that can't be started leaves its machine
+/// out, and the report counts those started. The clock is read by machines that mind a deadline, and every 16 claims. Refused, it hands the
+/// bodies back.
+pub fn run<R: Threads + Wait + Sync, C: Clock + Sync, G: Gate + Sync>(
+    rt: &R,
+    alloc: Global,
+    run: u64,
+    limits: Limits,
+    capacities: &[u32],
+    bodies: Vec<Boxed>,
+    clock: &C,
+    gate: &G,
+    random: u64,
+) -> Result<Report<Boxed>, Unrun<Boxed>>
+    ensures report { IfOk result (IsReport limits capacities.now (length bodies.items)) }
+    ensures why { IfErr result (λ u. WhyUnrun limits (length bodies.items) capacities.now u.why) }
+    ensures back { IfErr result (λ u. u.bodies.items ≡ bodies.items) }
+{
+    run_as::<Brand, R, C, G>(
+        rt,
+        alloc,
+        Blank::new(u64::from(limits.machines)),
+        run,
+        limits,
+        capacities,
+        bodies,
+        clock,
+        gate,
+        random,
+    )
+}
+
+/// The same by a ledger of this run. All memory but the book's is taken before it, so that the bodies come back whole.
+fn run_as<L: RunLedger + Send + Sync, R: Threads + Wait + Sync, C: Clock + Sync, G: Gate + Sync>(
+    rt: &R,
+    alloc: Global,
+    blank: Blank,
+    run: u64,
+    limits: Limits,
+    capacities: &[u32],
+    bodies: Vec<Boxed>,
+    clock: &C,
+    gate: &G,
+    random: u64,
+) -> Result<Report<Boxed>, Unrun<Boxed>>
+    requires name { blank.name ≡ L.name }
+    requires parts { (blank.parts ≡ L.parts) × (blank.parts ≡ limits.machines) }
+    requires run { run ≡ L.run }
+    ensures report { IfOk result (IsReport limits capacities.now (length bodies.items)) }
+    ensures why { IfErr result (λ u. WhyUnrun limits (length bodies.items) capacities.now u.why) }
+    ensures back { IfErr result (λ u. u.bodies.items ≡ bodies.items) }
+{
+    let count = bodies.len();
+    if !limits.allow(count, capacities) {
+        let why = Refusal::BadLimits;
+        return Err(Unrun { why, bodies });
+    }
+    let Ok(room) = Room::<Boxed, L>::of(alloc, run, limits) else {
+        let why = Refusal::OutOfMemory;
+        return Err(Unrun { why, bodies });
+    };
+    let Room {
+        owners,
+        thieves,
+        parkers,
+        unparkers,
+        seats,
+        logs,
+    } = room;
+    let (book, passes) = match Book::open(alloc, run, limits, capacities, bodies, owners) {
+        Ok(opened) => opened,
+        Err(unopened) => {
+            let Unopened { why, bodies, .. } = unopened;
+            seats.destroy_empty();
+            return Err(Unrun { why, bodies });
+        }
+    };
+    let (tally, mut all) = blank.open::<L>();
+    let seats = seat_all(
+        seats,
+        passes,
+        thieves,
+        parkers,
+        &mut all,
+        limits.procs,
+        random,
+    );
+    let desk = Mutex::new(Desk { book, tally });
+    let unparkers = unparkers.as_slice();
+    let started = in_threads(rt, alloc, &desk, unparkers, clock, gate, seats.as_slice());
+    let logs = gather(rt, &mut all, logs, seats, limits.machines);
+    let desk = desk.into_inner();
+    Ok(finish(rt, desk, all, logs, started, limits, capacities, count))
+}
+
+/// A seat for each pass, the last first, in room that is there.
+fn seat_all<L: RunLedger>(
+    room: Vec<Seat<Boxed, L>>,
+    passes: Vec<Pass>,
+    thieves: Vec<Vec<Thief>>,
+    parkers: Vec<Parker>,
+    all: &mut Share<L>,
+    procs: u8,
+    random: u64,
+) -> Vec<Seat<Boxed, L>>
+    requires empty { room.items ≡ [] }
+    requires room { length passes.items ≤ vec_capacity room }
+    requires passes { All (IsUnused L.run) passes.items }
+    requires thieves { length thieves.items ≡ length passes.items }
+    requires parkers { length parkers.items ≡ length passes.items }
+    requires procs { (1 ≤ procs) × (procs ≤ 32) }
+    requires parts { all.old.parts ≡ length passes.items }
+    requires amount { all.old.amount ≡ 0 }
+    ensures parts { all.new.parts ≡ 0 }
+    ensures amount { all.new.amount ≡ 0 }
+{
+    let mut seats = room;
+    let mut passes = passes;
+    let mut thieves = thieves;
+    let mut parkers = parkers;
+    while let Some(pass) = passes.pop() {
+        let thieves = thieves.pop().unwrap();
+        let parker = parkers.pop().unwrap();
+        let share = all.split_off(1, 0);
+        let random = Lcg64Xsh32::seed_from_u64(random.wrapping_add(u64::from(pass.m.0)));
+        let machine = Machine::new(pass, procs, thieves, random, parker, share);
+        seats.push_reserved(Mutex::new(Some(machine)));
+    }
+    passes.destroy_empty();
+    seats
+}
+
+/// Runs the machines in the seats, and says how many were started. One whose thread can't be started is left in its seat.
+fn in_threads<
+    T: Runs + Send,
+    L: RunLedger + Send + Sync,
+    R: Threads + Wait + Sync,
+    C: Clock + Sync,
+    G: Gate + Sync,
+>(
+    rt: &R,
+    alloc: Global,
+    desk: &Mutex<Desk<T, L>>,
+    unparkers: &[Unparker],
+    clock: &C,
+    gate: &G,
+    seats: &[Seat<T, L>],
+) -> u8 {
+    let [others @ .., first] = seats else {
+        return 0;
+    };
+    thread::scope(thread::scope_env(), rt, |scope| {
+        let mut started = 1u8;
+        for seat in others {
+            if scope
+                .spawn(move || worker(rt, alloc, desk, unparkers, clock, gate, seat))
+                .is_ok()
+            {
+                started = started.saturating_add(1);
+            }
+        }
+        worker(rt, alloc, desk, unparkers, clock, gate, first);
+        started
+    })
+}
+
+/// Takes the machines from their seats, in order: a log of each, in room that is there, and their shares.
+fn gather<L: RunLedger, R: Wait>(
+    rt: &R,
+    all: &mut Share<L>,
+    room: Vec<PassLog>,
+    seats: Vec<Seat<Boxed, L>>,
+    machines: u8,
+) -> Vec<PassLog>
+    requires empty { room.items ≡ [] }
+    requires parts { all.old.parts ≡ 0 }
+    requires amount { all.old.amount ≡ 0 }
+    ensures parts { all.new.parts ≡ machines }
+    ensures amount { all.new.amount ≡ calls_of result.items }
+    ensures logs { AreLogs machines result.items }
+{
+    let mut logs = room;
+    let mut seats = seats;
+    while let Some(seat) = seats.pop() {
+        let Some(machine) = seat.into_inner() else {
+            hang(rt)
+        };
+        let (log, share) = machine.into_log();
+        if usize::from(log.m.0) != logs.len() {
+            hang(rt);
+        }
+        let Ok(()) = logs.push(log) else { hang(rt) };
+        all.merge(share);
+    }
+    seats.destroy_empty();
+    if logs.len() != usize::from(machines) {
+        hang(rt);
+    }
+    logs
+}

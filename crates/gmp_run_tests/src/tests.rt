@@ -1,0 +1,3 @@
+//! Two machines at once.
+
+mod at_once;
