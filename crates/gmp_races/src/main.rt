@@ -1,0 +1,47 @@
+//! `gmp_races FIRST N` runs short scripts in threads, N times by the seeds from FIRST on, under a gate that yields by drawn words; the plain
+//! scheduler judges each history (docs/TESTS.md).
+//!
+//! It prints how many runs ended in which way, or the first run that falls short, and how.
+#![tactic(auto)]
+
+mod gate;
+mod playing;
+mod scripts;
+mod short;
+
+use crate::playing::played;
+use crate::scripts::{Row, of_seed};
+use anyhow::{Context, Result};
+use gmp_seq::Outcome;
+use std::env;
+use std::process::ExitCode;
+
+/// The number that a word is.
+fn number(word: Option<String>) -> Result<u64> {
+    let word = word.context("gmp_races FIRST N")?;
+    Ok(word.as_str().parse()?)
+}
+
+fn main(rt: HostRuntime) -> Result<ExitCode> {
+    let mut words = env::args(&rt)?;
+    let _program = words.next();
+    let first = number(words.next())?;
+    let count = number(words.next())?;
+    let mut ended = 0u64;
+    let mut asleep = 0u64;
+    for seed in first..first.saturating_add(count) {
+        let Row { script, ends } = of_seed(seed);
+        for size in [(1, 1), (4, 6)] {
+            if let Err(short) = played(&rt, rt.alloc(), script, size, ends, seed) {
+                println!(rt; "run {seed} on {} and {}: {short}", size.0, size.1)?;
+                return Ok(ExitCode::FAILURE);
+            }
+            match ends {
+                Outcome::AllAsleep => asleep = asleep.saturating_add(1),
+                _ => ended = ended.saturating_add(1),
+            }
+        }
+    }
+    println!(rt; "main ended: {ended}, all asleep: {asleep}")?;
+    Ok(ExitCode::SUCCESS)
+}

@@ -1,0 +1,99 @@
+//! One run.
+
+use crate::gate::Turnstile;
+use crate::short::Short;
+use gmp_check::outcome_of;
+use gmp_run::{Clock, run};
+use gmp_script::Script;
+use gmp_seq::{Limits, Outcome};
+use gmp_worker::{Boxed, audit};
+use std::alloc::Global;
+use std::sync::Wait;
+use std::sync::atomic::{AtomicU64, Ordering};
+use std::thread::Threads;
+
+/// A clock that goes on by 100 at each reading.
+#[derive(Drop)]
+struct Counting {
+    next: AtomicU64,
+}
+
+impl Clock for Counting {
+    fn now(&self) -> u64 {
+        self.next.fetch_add(100, Ordering::SeqCst)
+    }
+
+    fn rest(&self, _most: u64) {}
+}
+
+fn script(alloc: Global, text: &[u8]) -> Result<Script, Short> {
+    let mut script = Script::new(alloc);
+    for line in text.split(|b| *b == b'/') {
+        if !script.add(alloc, line)? {
+            return Err(Short::BadLine);
+        }
+    }
+    Ok(script)
+}
+
+/// Runs the script by so many processors and machines, under a gate of this seed, and judges it.
+pub fn played<R: Threads + Wait + Sync>(
+    rt: &R,
+    alloc: Global,
+    text: &[u8],
+    size: (u8, u8),
+    ends: Outcome,
+    seed: u64,
+) -> Result<(), Short> {
+    let Script {
+        capacities,
+        bodies,
+        ..
+    } = script(alloc, text)?;
+    let limits = Limits {
+        procs: size.0,
+        machines: size.1,
+        channels: 16,
+        entries: 10_000,
+    };
+    let Ok(count) = u16::try_from(bodies.len()) else {
+        return Err(Short::NotBegun);
+    };
+    let mut boxed: Vec<Boxed> = Vec::with_capacity(alloc, bodies.len())?;
+    for body in bodies {
+        let Ok(body) = Box::new(alloc, body) else {
+            return Err(Short::OutOfMemory);
+        };
+        if boxed.push(body).is_err() {
+            return Err(Short::OutOfMemory);
+        }
+    }
+    let clock = Counting {
+        next: AtomicU64::new(0),
+    };
+    let gate = Turnstile::new(seed);
+    let Ok(report) = run(
+        rt,
+        alloc,
+        seed,
+        limits,
+        &capacities,
+        boxed,
+        &clock,
+        &gate,
+        seed,
+    ) else {
+        return Err(Short::NotBegun);
+    };
+    if audit(&report.history, &report.logs).is_err() {
+        return Err(Short::Mismatch);
+    }
+    match outcome_of(alloc, limits, count, &capacities, &report.history) {
+        Ok(Some(outcome)) if outcome == report.outcome => {}
+        _ => return Err(Short::NotLegal),
+    }
+    if report.outcome != ends {
+        return Err(Short::OtherEnd);
+    }
+    Ok(())
+}

@@ -1,0 +1,61 @@
+//! Scripts that end alike, however their machines go.
+
+use gmp_seq::Outcome;
+
+/// A script, its lines parted by `/`, and how it ends.
+pub struct Row {
+    pub script: &'static [u8],
+    pub ends: Outcome,
+}
+
+fn ends(script: &'static [u8]) -> Row {
+    Row {
+        script,
+        ends: Outcome::MainEnded,
+    }
+}
+
+fn sleeps(script: &'static [u8]) -> Row {
+    Row {
+        script,
+        ends: Outcome::AllAsleep,
+    }
+}
+
+/// The row of a seed.
+pub fn of_seed(seed: u64) -> Row {
+    match seed % 10 {
+        // Nobody sends.
+        0 => sleeps(b"chan 0/body/recv 0"),
+        // A buffer of two, and a sender that waits.
+        1 => ends(
+            b"chan 2/body/go 1/yield/recv 0/recv 0/recv 0/exit/body/send 0 1/send 0 2/send 0 3",
+        ),
+        // A sender that waits meets a close, or the close comes first.
+        2 => ends(b"chan 1/body/go 1/yield/close 0/recv 0/recv 0/exit/body/send 0 5/send 0 6"),
+        // Two selects that may meet, and main waits for one that comes.
+        3 => ends(
+            b"chan 0/chan 0/body/go 1/go 2/recv 1/recv 1/exit/body/select send:0:7 recv:0/send 1 1/body/select send:0:8 recv:0/send 1 2",
+        ),
+        // A machine goes into a blocking call while others work.
+        4 => ends(
+            b"chan 0/body/go 1/go 2/block 9/recv 0/recv 0/exit/body/block 3/send 0 1/body/yield/yield/send 0 2",
+        ),
+        // Back and forth.
+        5 => ends(
+            b"chan 0/chan 0/body/go 1/send 0 1/recv 1/send 0 2/recv 1/send 0 3/recv 1/exit/body/recv 0/send 1 1/again",
+        ),
+        // Sleepers, of which one is woken with a select's deadline.
+        6 => ends(
+            b"chan 0/body/go 1/go 2/sleep 1000/recv 0/recv 0/exit/body/sleep 2000/send 0 1/body/select recv:nil until 1500/send 0 2",
+        ),
+        // Many at once.
+        7 => ends(
+            b"chan 3/body/go 1/go 2/go 3/go 4/go 5/recv 0/recv 0/recv 0/recv 0/recv 0/exit/body/send 0 1/body/yield/send 0 2/body/yield/yield/send 0 3/body/send 0 4/body/send 0 5",
+        ),
+        // All wait on one another.
+        8 => sleeps(b"chan 0/chan 0/body/go 1/recv 0/body/recv 1/send 0 1"),
+        // Those who park are readied by whoever comes later, or are left.
+        _ => sleeps(b"body/go 1/yield/ready 1/park/body/park/park"),
+    }
+}
