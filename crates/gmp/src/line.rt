@@ -1,6 +1,7 @@
 //! How far a check is, on one line of standard error.
 
-use gmp_cli::{Progress, Watch, Work};
+use gmp_check_cli::Progress;
+use gmp_trace::{Watch, Work};
 
 /// An input of more bytes is worth a line.
 const LONG: usize = 16 * 1024 * 1024;

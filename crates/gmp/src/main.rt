@@ -1,10 +1,14 @@
-//! The program `gmp`: runs scripts of goroutines and prints what was done, and checks what was printed.
+//! The program `gmp`: runs scripts of goroutines, in one thread or in several, and prints what was done; and checks what was printed.
 #![tactic(auto)]
 
 mod line;
 
 use crate::line::Line;
-use gmp_cli::{Ended, Task, check, settings, step};
+use gmp_check_cli::check;
+use gmp_cli::step;
+use gmp_clock::Since;
+use gmp_run_cli::run;
+use gmp_words::{Ended, Task, settings};
 use std::io::{self, IsTerminal};
 use std::process::ExitCode;
 
@@ -28,6 +32,14 @@ fn main(rt: HostRuntime) -> io::Result<ExitCode> {
         Err(ended) => ended,
         Ok(settings) => match settings.task {
             Task::Step => step(alloc, &settings, &mut rt.reader(), &mut io::writer(&rt)),
+            Task::Run => run(
+                &rt,
+                alloc,
+                &settings,
+                &mut rt.reader(),
+                &mut io::writer(&rt),
+                &Since::now(&rt),
+            ),
             Task::Check => check(
                 alloc,
                 &mut rt.reader(),

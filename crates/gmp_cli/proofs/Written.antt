@@ -7,9 +7,10 @@ use Rattle.gmp_script.specs.Script.{Commands}
 use Rattle.gmp_trace.specs.HasText.{HasText}
 use Rattle.gmp_trace.specs.Text.{Content, end_of}
 use Rattle.gmp_trace.proofs.Numbered.{legal_text}
-use Rattle.gmp_cli.specs.declared.options.Settings.{Settings}
+use Rattle.gmp_words.specs.declared.options.Settings.{Settings}
 use Rattle.gmp_cli.specs.Plays.{IsPlayed, Stage, opening_stage}
-use Rattle.gmp_cli.specs.Step.{IsRunOf, IsTraceOf, limits_of}
+use Rattle.gmp_words.specs.Runs.{IsTraceOf, limits_of}
+use Rattle.gmp_cli.specs.Step.{IsRunOf}
 
 module _ (s : Settings) (capacities readings : List ℕ) (bodies : List Commands) (before behind : Stage) (x : Content)
     (opened : before ≡ opening_stage (limits_of s) capacities readings bodies) (same : SameOpening before.system.book behind.system.book)

@@ -1,38 +1,13 @@
 -- What `step` writes.
 use Rattle.std.specs.Prelude.{◌≡◌, ℕ, List, Option, IfSome, length}
 use Rattle.std.specs.Io.KnownBytes.{Appends}
-use Rattle.gmp_cli.specs.declared.options.Settings.{Settings}
-use Rattle.gmp_seq.specs.declared.call.Limits.{Limits}
-use Rattle.gmp_seq.specs.Fits.{AreLimits}
-use Rattle.gmp_seq.specs.Run.{IsLegal}
-use Rattle.gmp_seq.specs.State.{State}
 use Rattle.gmp_script.specs.Lines.{lines, IsScript}
 use Rattle.gmp_script.specs.Script.{Commands}
-use Rattle.gmp_trace.specs.declared.trace.End.{End}
-use Rattle.gmp_trace.specs.declared.trace.End.TheVariants.{MainEnded, AllAsleep, BookFull, Running}
 use Rattle.gmp_trace.specs.HasText.{HasText}
 use Rattle.gmp_trace.specs.Text.{Content, text, end_of}
+use Rattle.gmp_words.specs.declared.options.Settings.{Settings}
+use Rattle.gmp_words.specs.Runs.{IsTraceOf, limits_of, status_of}
 use Rattle.gmp_cli.specs.Plays.{IsPlayed, Stage, opening_stage}
-
--- the limits that the command line gives
-abbrev pub limits_of : Settings → Limits
-limits_of s = record { procs = s.procs; machines = s.machines; channels = s.channels; entries = s.entries }
-
--- the exit status where a run ended so
-abbrev pub status_of : End → ℕ
-status_of MainEnded = 0
-status_of AllAsleep = 2
-status_of BookFull = 3
-status_of Running = 4
-
--- The trace of a run that was opened with these limits: its entries are a legal run from the opening state, and its end is the outcome
--- of the state that they lead to, or says that there is none.
-pub record IsTraceOf (limits : Limits) (x : Content) : Type 0 where
-  pub opened : x.limits ≡ limits
-  pub within : AreLimits x.limits x.bodies x.capacities
-  pub last : State
-  pub legal : IsLegal x.limits x.bodies x.capacities x.entries last
-  pub ended : x.end ≡ end_of last.outcome
 
 -- The trace of the core's run under these bodies, by these readings of the clock.
 pub record IsRunOf (s : Settings) (readings : List ℕ) (bodies : List Commands) (x : Content) : Type 0 where
@@ -41,14 +16,6 @@ pub record IsRunOf (s : Settings) (readings : List ℕ) (bodies : List Commands)
   pub played : IsPlayed s.acts s.word (opening_stage (limits_of s) x.capacities readings bodies) last
   pub entries : x.entries ≡ last.system.book.history
   pub ended : x.end ≡ end_of last.system.book.state.outcome
-
--- the script that was read is out of the limits
-pub record IsOutOfLimits (limits : Limits) (all : List ℕ) : Type 0 where
-  pub capacities : List ℕ
-  pub readings : List ℕ
-  pub bodies : List Commands
-  pub script : IsScript (lines all) capacities readings bodies
-  pub out : ¬ (AreLimits limits (length bodies) capacities)
 
 -- What was written is the text of the trace of a legal run, which is the core's run under these bodies, and the status tells its end.
 pub record WritesRun (s : Settings) (capacities readings : List ℕ) (bodies : List Commands) (status : ℕ) (old new : Option (List ℕ)) : Type 0 where

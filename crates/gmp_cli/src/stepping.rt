@@ -1,35 +1,20 @@
 //! One run of a script.
 
 ghost use Rattle.std.specs.Prelude.{◌≡◌, ◌<◌, ◌≤◌, ℕ, true, false, length, IfSome};
-ghost use Rattle.gmp_cli.specs.declared.said.Said.TheVariants.{BadLine, InputTooLong, BadLimits};
+ghost use Rattle.gmp_words.specs.declared.said.Said.TheVariants.{BadLine, InputTooLong, BadLimits};
 ghost use Rattle.gmp_script.specs.Lines.{lines, IsFirstBad};
 ghost use Rattle.gmp_seq.specs.Fits.{AreLimits};
-ghost use Rattle.gmp_cli.specs.Said.{is_before_writing, is_of_input, is_of_run, is_of_step};
-ghost use Rattle.gmp_cli.specs.Step.{limits_of, IsOutOfLimits, WritesRun, WritesTrace};
+ghost use Rattle.gmp_words.specs.Said.{is_before_writing, is_of_input, is_of_run, is_of_step};
+ghost use Rattle.gmp_words.specs.Runs.{limits_of, IsOutOfLimits};
+ghost use Rattle.gmp_cli.specs.Step.{WritesRun, WritesTrace};
 
-use crate::ended::Ended;
-use crate::options::Settings;
-use crate::parsing::script;
 use crate::playing::Player;
-use crate::reading::MAX_SCRIPT;
-use crate::said::Said;
 use gmp_base::Refusal;
 use gmp_script::Script;
-use gmp_seq::Limits;
 use gmp_trace::{End, TraceView, write_view};
+use gmp_words::{Ended, MAX_SCRIPT, Said, Settings, script};
 use std::alloc::Global;
 use std::io::{Read, Write};
-
-fn limits_of(settings: &Settings) -> Limits
-    ensures { result ≡ limits_of settings.now }
-{
-    Limits {
-        procs: settings.procs,
-        machines: settings.machines,
-        channels: settings.channels,
-        entries: settings.entries,
-    }
-}
 
 /// Plays the script, and writes the trace.
 fn run<W: Write>(alloc: Global, settings: &Settings, script: Script, writer: &mut W) -> Ended
@@ -44,7 +29,7 @@ fn run<W: Write>(alloc: Global, settings: &Settings, script: Script, writer: &mu
         bodies,
         readings,
     } = script;
-    let limits = limits_of(settings);
+    let limits = settings.limits();
     let count = bodies.len();
     let mut player = match Player::open(alloc, limits, &capacities, bodies, readings) {
         Ok(player) => player,

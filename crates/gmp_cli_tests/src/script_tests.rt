@@ -1,5 +1,6 @@
 //! How scripts are read.
-use gmp_cli::{Script, script};
+use gmp_script::Script;
+use gmp_words::script;
 use std::alloc::Global;
 use std::process::Abort;
 use std::test::Fail;

@@ -1,6 +1,8 @@
 //! Large runs, and readers and writers that fail.
 use crate::tests::settings_of;
-use gmp_cli::{MAX_SCRIPT, Said, check, step};
+use gmp_check_cli::check;
+use gmp_cli::step;
+use gmp_words::{MAX_SCRIPT, Said};
 use std::alloc::Global;
 use std::io;
 use std::io::{ErrorKind, Read, Write};

@@ -1,6 +1,6 @@
 //! The command line, the input, and how the program ends.
-use gmp_cli::{Ended, Said, Settings, input, settings};
 use gmp_trace::{Bad, Why};
+use gmp_words::{Ended, Said, Settings, input, settings};
 use std::alloc::Global;
 use std::io;
 use std::io::{ErrorKind, Read};

@@ -1,3 +1,4 @@
-//! Two machines at once.
+//! Machines in threads.
 
 mod at_once;
+mod command;

@@ -1,6 +1,8 @@
 //! The program, run on a text.
 
-use gmp_cli::{Said, check, settings, step};
+use gmp_check_cli::check;
+use gmp_cli::step;
+use gmp_words::{Said, settings};
 use std::alloc::{AllocError, Global};
 
 /// What it wrote and what it said.

@@ -75,7 +75,7 @@ impl Gate for Hold {
 }
 
 /// A clock that stands still.
-struct Stopped;
+pub(crate) struct Stopped;
 
 impl Clock for Stopped {
     fn now(&self) -> u64 {

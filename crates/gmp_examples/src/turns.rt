@@ -1,0 +1,132 @@
+//! Runs by a core: one thread makes the acts of all machines, which take turns.
+ghost use Rattle.std.specs.Prelude.{◌≡◌, IfOk, IfSome, length};
+ghost use Rattle.gmp_acts.specs.Headline.{SameOpening};
+ghost use Rattle.gmp_examples.specs.Ends.{IsOfLegalRun};
+
+use crate::ending::{Ran, Short};
+use gmp_acts::Choice;
+use gmp_base::{Ask, Body, MNo, Refused};
+use gmp_core::{Core, Want};
+use gmp_seq::Limits;
+use std::alloc::Global;
+
+/// The number of the run: a program has one at a time.
+const RUN: u64 = 0;
+
+/// The most rounds, in each of which every machine that isn't parked makes an act.
+const MOST_ROUNDS: u32 = 1_000_000;
+
+/// A core, and what its clock shows: it stands still until a machine minds a deadline, and then shows that.
+struct Table<T> {
+    core: Core<T>,
+    shown: u64,
+}
+
+impl<T: Body> Table<T> {
+    /// What the body in the machine's hand asks next.
+    fn ask(&mut self, m: MNo) -> Ask
+        ensures { self.new.core.system ≡ self.old.core.system }
+    {
+        let woke = self.core.held(m);
+        match (woke, self.core.body(m)) {
+            (Some(woke), Some(body)) => body.resume(woke),
+            _ => Ask::Exit,
+        }
+    }
+
+    /// What the blocking call of the body in the machine's hand answers.
+    fn number(&mut self, m: MNo) -> u64
+        ensures { self.new.core.system ≡ self.old.core.system }
+    {
+        match self.core.body(m) {
+            Some(body) => body.blocking(),
+            None => 0,
+        }
+    }
+
+    /// What the clock shows to a machine that minds this deadline, if it does.
+    fn moment(&mut self, minded: Option<u64>) -> u64
+        ensures { self.new.core ≡ self.old.core }
+    {
+        self.shown = self.shown.max(minded.unwrap_or(0));
+        self.shown
+    }
+
+    /// The machine makes its next act, of whose choice it reads what it wants, unless it is parked.
+    fn act(&mut self, m: MNo)
+        ensures { SameOpening self.old.core.system.book self.new.core.system.book }
+    {
+        if self.core.parked(m) {
+            return;
+        }
+        let mut choice = Choice {
+            ask: Ask::Exit,
+            number: 0,
+            word: 0,
+            moment: 0,
+            push_refused: false,
+            unsure: false,
+        };
+        match self.core.wants(m) {
+            Want::Ask => choice.ask = self.ask(m),
+            Want::Number => choice.number = self.number(m),
+            Want::Moment(minded) => choice.moment = self.moment(minded),
+            Want::Nothing => {}
+        }
+        self.core.act(m, &choice);
+    }
+
+    /// So many machines make an act each, but for those that are parked.
+    fn round(&mut self, machines: u8)
+        ensures { SameOpening self.old.core.system.book self.new.core.system.book }
+    {
+        for m in 0..machines {
+            self.act(MNo(m));
+        }
+    }
+
+    /// What the run came to, if it has an outcome.
+    fn ran(&self) -> Option<Ran>
+        ensures { IfSome result (IsOfLegalRun self.now.core.system.book.limits self.now.core.system.book.capacities self.now.core.system.book.bodies) }
+    {
+        let outcome = self.core.outcome()?;
+        let entries = self.core.history().len();
+        Some(Ran { outcome, entries })
+    }
+
+    /// So many machines act in turn until the run has an outcome.
+    #[tactic(auto, using(gmp_core::proofs::Moves::opened_on, crate::proofs::Openings::at_opening))]
+    fn play(&mut self, machines: u8) -> Result<Ran, Short>
+        ensures { IfOk result (IsOfLegalRun self.old.core.system.book.limits self.old.core.system.book.capacities self.old.core.system.book.bodies) }
+    {
+        for _ in 0..MOST_ROUNDS {
+            self.round(machines);
+            if let Some(ran) = self.ran() {
+                return Ok(ran);
+            }
+        }
+        Err(Short::NoEnd)
+    }
+}
+
+/// Runs the bodies, of which the first is main, by a core in this thread. Its machines act in turn, each choice among what can proceed is
+/// the first, and time passes only where a machine waits for a deadline: so it is the same every time.
+#[tactic(auto, using(crate::proofs::Openings::as_given))]
+pub fn by_core<T: Body>(
+    alloc: Global,
+    limits: Limits,
+    capacities: &[u32],
+    bodies: Vec<T>,
+) -> Result<Ran, Short>
+    ensures { IfOk result (IsOfLegalRun limits capacities.now (length bodies.items)) }
+{
+    let core = match Core::open(alloc, RUN, limits, capacities, bodies) {
+        Ok(core) => core,
+        Err(Refused { why, back: _ }) => return Err(why.into()),
+    };
+    let mut table = Table { core, shown: 0 };
+    let ran = table.play(limits.machines);
+    let Table { core, shown: _ } = table;
+    let _ = core.close();
+    ran
+}

@@ -1,0 +1,100 @@
+-- What is written of a run that was reported, and what is said of one that was not begun.
+use Rattle.std.proofs.Common.{◌≡◌, ◌≢◌, ◌⊎◌, ◌<◌, ℕ, List, Option, Some, Result, Ok, Err, IfOk, IfErr, inl, inr, length, sym, ap, ◌∙◌, refl, subst, arith}
+use Rattle.gmp_base.specs.declared.refusal.Refusal.{Refusal}
+use Rattle.gmp_base.specs.declared.refusal.Refusal.TheVariants as refusal
+use Rattle.gmp_seq.specs.declared.call.Limits.{Limits}
+use Rattle.gmp_seq.specs.declared.call.Outcome.{Outcome}
+use Rattle.gmp_seq.specs.declared.call.Outcome.TheVariants as outcome
+use Rattle.gmp_seq.specs.Fits.{AreLimits}
+use Rattle.gmp_trace.specs.declared.trace.End.TheVariants.{Running}
+use Rattle.gmp_trace.specs.HasText.{HasText}
+use Rattle.gmp_trace.specs.Text.{end_of}
+use Rattle.gmp_trace.proofs.Numbered.{legal_text}
+use Rattle.gmp_run.specs.declared.ending.Report.{Report}
+use Rattle.gmp_run.specs.declared.ending.Unrun.{Unrun}
+use Rattle.gmp_run.specs.Reports.{IsReport, WhyUnrun}
+use Rattle.gmp_words.specs.declared.options.Settings.{Settings}
+use Rattle.gmp_words.specs.declared.said.Said.{Said}
+use Rattle.gmp_words.specs.declared.said.Said.TheVariants.{BadLimits, Nothing, OutOfMemory}
+use Rattle.gmp_words.specs.Runs.{IsTraceOf, limits_of, status_of}
+use Rattle.gmp_run_cli.specs.Runs.{WritesRun}
+use Rattle.gmp_run_cli.specs.Told.{Tells, said_of_unrun, trace_of}
+
+-- a run that has an outcome has ended
+over : (o : Outcome) → end_of (Some o) ≢ Running
+over outcome.MainEnded = λ e. cc
+over outcome.AllAsleep = λ e. cc
+over outcome.BookFull = λ e. cc
+
+-- there are two reasons why a run is not begun
+two_ways : (limits : Limits) (bodies : ℕ) (capacities : List ℕ) (why : Refusal) → WhyUnrun limits bodies capacities why
+    → (why ≡ refusal.BadLimits) ⊎ (why ≡ refusal.OutOfMemory)
+two_ways limits bodies capacities refusal.BadLimits h = inl refl
+two_ways limits bodies capacities refusal.OutOfMemory h = inr refl
+two_ways limits bodies capacities refusal.Over h = absurd h
+two_ways limits bodies capacities refusal.WrongRun h = absurd h
+two_ways limits bodies capacities (refusal.OutOfTurn n) h = absurd h
+two_ways limits bodies capacities (refusal.Behind n k) h = absurd h
+two_ways limits bodies capacities refusal.NotOutstanding h = absurd h
+two_ways limits bodies capacities refusal.NoProcessor h = absurd h
+two_ways limits bodies capacities refusal.Busy h = absurd h
+two_ways limits bodies capacities refusal.NotHeld h = absurd h
+two_ways limits bodies capacities refusal.NotOver h = absurd h
+
+module _ {T : Type 0} (s : Settings) (capacities : List ℕ) (bodies : ℕ) (r : Report T) (report : IsReport (limits_of s) capacities bodies r) where
+  is_trace : IsTraceOf (limits_of s) (trace_of capacities r)
+  is_trace = record {
+    opened = report.opened;
+    within = rw (report.opened, report.stock) report.within;
+    last = report.last;
+    legal = rw (report.opened, report.stock) report.legal;
+    ended = ap end_of (sym report.outcome);
+  }
+
+  has_text : HasText (trace_of capacities r)
+  unfolding is_trace
+  has_text = legal_text (trace_of capacities r) report.last is_trace.within is_trace.legal report.fits
+
+  writes : (status : ℕ) (old new : Option (List ℕ)) → Tells s.trace capacities r status old new → WritesRun s capacities bodies status old new
+  writes status old new t = record {
+    trace = trace_of capacities r;
+    legal = is_trace;
+    rooms = refl;
+    stock = report.stock;
+    over = over r.outcome;
+    has_text = has_text;
+    written = t.1.written;
+    told = t.2 ∙ ap status_of t.1.ended;
+  }
+
+not_nothing : (why : Refusal) → (why ≡ refusal.BadLimits) ⊎ (why ≡ refusal.OutOfMemory) → said_of_unrun why ≡ Nothing → ⊥
+not_nothing why (inl e) n = let told : BadLimits ≡ Nothing = ap said_of_unrun (sym e) ∙ n in cc
+not_nothing why (inr e) n = let told : OutOfMemory ≡ Nothing = ap said_of_unrun (sym e) ∙ n in cc
+
+not_within : (limits : Limits) (bodies : ℕ) (capacities : List ℕ) (why : Refusal) → WhyUnrun limits bodies capacities why
+    → (why ≡ refusal.BadLimits) ⊎ (why ≡ refusal.OutOfMemory) → said_of_unrun why ≡ BadLimits → AreLimits limits bodies capacities → ⊥
+not_within limits bodies capacities why h (inl e) n are = subst (WhyUnrun limits bodies capacities) e h are
+not_within limits bodies capacities why h (inr e) n are = let told : OutOfMemory ≡ BadLimits = ap said_of_unrun (sym e) ∙ n in cc
+
+pub wrote : {T : Type 0} (s : Settings) (capacities : List ℕ) (boxes bodies : ℕ) (said : Said) (ran : Result (Report T) (Unrun T)) → boxes ≡ bodies
+    → IfOk ran (IsReport (limits_of s) capacities boxes) → IfErr ran (λ (u : Unrun T). WhyUnrun (limits_of s) boxes capacities u.why)
+    → IfErr ran (λ (u : Unrun T). said ≡ said_of_unrun u.why)
+    → (status : ℕ) (old new : Option (List ℕ)) → IfOk ran (λ (r : Report T). said ≡ Nothing → Tells s.trace capacities r status old new) → said ≡ Nothing
+    → WritesRun s capacities bodies status old new
+wrote s capacities boxes bodies said (Ok r) counted report why unrun status old new printed nothing =
+    writes s capacities bodies r (subst (λ (n : ℕ). IsReport (limits_of s) capacities n r) counted report) status old new (printed nothing)
+wrote s capacities boxes bodies said (Err u) counted report why unrun status old new printed nothing =
+    absurd (not_nothing u.why (two_ways (limits_of s) boxes capacities u.why why) (sym unrun ∙ nothing))
+
+pub out : {T : Type 0} (s : Settings) (capacities : List ℕ) (boxes bodies : ℕ) (said : Said) (ran : Result (Report T) (Unrun T)) → boxes ≡ bodies
+    → IfOk ran (IsReport (limits_of s) capacities boxes) → IfErr ran (λ (u : Unrun T). WhyUnrun (limits_of s) boxes capacities u.why)
+    → IfErr ran (λ (u : Unrun T). said ≡ said_of_unrun u.why)
+    → IfOk ran (λ (r : Report T). said ≡ BadLimits → 65535 < length r.bodies.items) → said ≡ BadLimits → AreLimits (limits_of s) bodies capacities → ⊥
+out s capacities boxes bodies said (Ok r) counted report why unrun many bad are =
+    let stock = report.stock in
+    let few = report.within.stock in
+    let more = many bad in
+    omega (arith, stock, few, more)
+out s capacities boxes bodies said (Err u) counted report why unrun many bad are =
+    not_within (limits_of s) boxes capacities u.why why (two_ways (limits_of s) boxes capacities u.why why) (sym unrun ∙ bad)
+    (subst (λ (n : ℕ). AreLimits (limits_of s) n capacities) (sym counted) are)

@@ -1,0 +1,24 @@
+use Rattle.std.proofs.Common.{rules, ◌≡◌, ◌∙◌, length}
+use Rattle.std.proofs.lemmas.Iterator.Consumers.{YieldsList-end}
+use Rattle.std.proofs.lemmas.Iterator.Adapters.{YieldsList-from_vec}
+use Rattle.gmp_run_cli.proofs.Written.{out, wrote}
+use Rattle.gmp_run_cli.proofs.running.threaded.Given.{Over}
+use Rattle.gmp_run_cli.proofs.running.threaded.Goals as goal
+
+-- each body has its box
+module _ (g : Over) (c : goal.After-drop-script-2 g) where
+  counted : length c.loop-body.boxed.items ≡ length c.args.script.bodies.items
+  counted =
+      let gives = c.into_iter-body-iterator.ensures.into_iter_gives in
+      let ended = YieldsList-end (YieldsList-from_vec {s = c.into_iter-body-iterator.result} c.args.script.bodies.items gives.0 (search rules)) c.loop-body.yielded c.loop-body.body-iterator c.loop-body.yielded_by c.next.result c.next.new.self c.in-None.is c.next.ensures.steps in
+      c.loop-body.invariant ∙ ended.1
+
+pub returns-clause-written : goal.returns-clause-written
+returns-clause-written g c =
+    wrote c.args.settings.now c.args.script.capacities.items _ _ c.told.result.said c.run-ran.result (counted g c) (search rules) (search rules) c.told.ensures.unrun
+    c.told.result.status _ _ (search rules)
+
+pub returns-clause-limits : goal.returns-clause-limits
+returns-clause-limits g c =
+    out c.args.settings.now c.args.script.capacities.items _ _ c.told.result.said c.run-ran.result (counted g c) (search rules) (search rules) c.told.ensures.unrun
+    c.told.ensures.limits

@@ -1,0 +1,103 @@
+//! One run of a script in threads.
+
+ghost use Rattle.std.specs.Prelude.{◌≡◌, ◌<◌, ◌≤◌, ℕ, true, false, length, IfSome};
+ghost use Rattle.gmp_script.specs.Lines.{lines, IsFirstBad};
+ghost use Rattle.gmp_words.specs.declared.said.Said.TheVariants.{BadLine, BadLimits, InputTooLong, Nothing};
+ghost use Rattle.gmp_words.specs.Said.{is_before_writing, is_of_input};
+ghost use Rattle.gmp_words.specs.Runs.{IsOutOfLimits, limits_of};
+ghost use Rattle.gmp_run_cli.specs.Runs.{WritesReport, WritesRun, is_of_threads};
+ghost use Rattle.gmp_run_cli.specs.Told.{is_of_report};
+ghost use Rattle.gmp_seq.specs.Fits.{AreLimits};
+
+use crate::telling::told;
+use gmp_run::{Clock, Open};
+use gmp_script::Script;
+use gmp_words::{Ended, MAX_SCRIPT, Settings, script};
+use gmp_worker::Boxed;
+use std::alloc::Global;
+use std::io::{Read, Write};
+use std::sync::Wait;
+use std::thread::Threads;
+
+/// The number of the run: the program has one.
+const RUN: u64 = 0;
+
+/// Runs the script's bodies in threads, and tells what came of it.
+fn threaded<H: Threads + Wait + Sync, W: Write, C: Clock + Sync>(
+    rt: &H,
+    alloc: Global,
+    settings: &Settings,
+    script: Script,
+    writer: &mut W,
+    clock: &C,
+) -> Ended
+    ensures written { result.said ≡ Nothing
+        → WritesRun settings.now script.capacities.items (length script.bodies.items) result.status (W.contents writer.old) (W.contents writer.new) }
+    ensures kinds { is_of_report result.said ≡ true }
+    ensures quiet { is_before_writing result.said ≡ true → W.contents writer.new ≡ W.contents writer.old }
+    ensures limits { result.said ≡ BadLimits → ¬ (AreLimits (limits_of settings.now) (length script.bodies.items) script.capacities.items) }
+{
+    let Script {
+        capacities,
+        bodies,
+        ..
+    } = script;
+    let Ok(mut boxed) = Vec::<Boxed>::with_capacity(alloc, bodies.len()) else {
+        return Ended::out_of_memory();
+    };
+    for body in bodies {
+        let Ok(body) = Box::new(alloc, body) else {
+            return Ended::out_of_memory();
+        };
+        if boxed.push(body).is_err() {
+            return Ended::out_of_memory();
+        }
+    }
+    let ran = gmp_run::run(
+        rt,
+        alloc,
+        RUN,
+        settings.limits(),
+        &capacities,
+        boxed,
+        clock,
+        &Open,
+        settings.random,
+    );
+    told(alloc, settings, &capacities, ran, writer)
+}
+
+/// Reads a script, runs its bodies by machines in threads, audits the run, and writes its trace or its summary, as the settings say.
+///
+/// It ends with what is wrong where something is: the input, the script's first bad line, the limits, the audit, the output, or memory. The
+/// script's readings of the clock are passed over. Where main waits for good among goroutines that go on for good, it comes back once the
+/// history is full.
+pub fn run<H: Threads + Wait + Sync, R: Read, W: Write, C: Clock + Sync>(
+    rt: &H,
+    alloc: Global,
+    settings: &Settings,
+    reader: &mut R,
+    writer: &mut W,
+    clock: &C,
+) -> Ended
+    ensures written { result.said ≡ Nothing
+        → WritesReport settings.now (R.remaining reader.old) result.status (W.contents writer.old) (W.contents writer.new) }
+
+    // What is wrong is said by one of the program's own texts, and nothing is written but where the output or memory fails.
+    ensures kinds { is_of_threads result.said ≡ true }
+    ensures quiet { is_before_writing result.said ≡ true → W.contents writer.new ≡ W.contents writer.old }
+
+    ensures first { (line : ℕ) → result.said ≡ BadLine line
+        → IfSome (R.remaining reader.old) (λ all. IsFirstBad (lines all) line) }
+    ensures too_long { result.said ≡ InputTooLong
+        → IfSome (R.remaining reader.old) (λ all. MAX_SCRIPT < length all) }
+    ensures short { is_of_input result.said ≡ false
+        → IfSome (R.remaining reader.old) (λ all. length all ≤ MAX_SCRIPT) }
+    ensures limits { result.said ≡ BadLimits
+        → IfSome (R.remaining reader.old) (λ all. IsOutOfLimits (limits_of settings.now) all) }
+{
+    match script(alloc, reader) {
+        Ok(script) => threaded(rt, alloc, settings, script, writer, clock),
+        Err(ended) => ended,
+    }
+}

@@ -1,0 +1,126 @@
+//! What is told of a run in threads.
+
+ghost use Rattle.std.specs.Prelude.{◌≡◌, ◌<◌, IfOk, IfErr, length, true};
+ghost use Rattle.gmp_base.specs.declared.number.MNo.{MNo};
+ghost use Rattle.gmp_words.specs.Said.{is_before_writing};
+ghost use Rattle.gmp_words.specs.declared.said.Said.TheVariants.{BadLimits, Mismatch, Nothing};
+ghost use Rattle.gmp_run_cli.specs.Told.{IsLeast, IsPrinted, Prints, Tells, is_of_print, is_of_report, is_short, said_of_unrun, trace_of};
+ghost use Rattle.gmp_trace.specs.Text.{content};
+
+use gmp_base::Refusal;
+use gmp_run::{Report, Unrun};
+use gmp_trace::{End, Trace, summary, write};
+use gmp_words::{Ended, Settings};
+use gmp_worker::audit;
+use std::alloc::{AllocError, Global};
+use std::io::Write;
+
+/// What is said of a run that was not begun.
+fn unrun(why: Refusal) -> Ended
+    ensures { result.said ≡ said_of_unrun why }
+{
+    match why {
+        Refusal::BadLimits => Ended::bad_limits(),
+        _ => Ended::out_of_memory(),
+    }
+}
+
+/// The trace of the report.
+fn trace_of<T: Drop>(
+    alloc: Global,
+    capacities: &[u32],
+    report: Report<T>,
+    bodies: u16,
+) -> Result<Trace, AllocError>
+    requires { bodies ≡ length report.bodies.items }
+    ensures { IfOk result (λ trace. content trace ≡ trace_of capacities.now report) }
+{
+    let mut copied = Vec::new(alloc);
+    copied.extend_from_slice(capacities)?;
+    let Report {
+        limits,
+        history,
+        outcome,
+        ..
+    } = report;
+    Ok(Trace {
+        limits,
+        bodies,
+        capacities: copied,
+        entries: history,
+        end: End::of(Some(outcome)),
+    })
+}
+
+/// Writes the trace or the summary, and says how the run ended.
+fn print<W: Write>(
+    alloc: Global,
+    shows_trace: bool,
+    trace: &Trace,
+    writer: &mut W,
+) -> Result<End, Ended>
+    ensures written { IfOk result (λ end. (end ≡ trace.now.end) × IsPrinted shows_trace (content trace.now) (W.contents writer.old) (W.contents writer.new)) }
+    ensures kinds { IfErr result (λ e. is_of_print e.said ≡ true) }
+{
+    if shows_trace {
+        write(alloc, trace, writer)?;
+    } else {
+        summary(alloc, trace, writer)?;
+    }
+    Ok(trace.end)
+}
+
+/// Audits a report, and writes its trace or its summary.
+fn reported<T: Drop, W: Write>(
+    alloc: Global,
+    shows_trace: bool,
+    capacities: &[u32],
+    report: Report<T>,
+    writer: &mut W,
+) -> Result<End, Ended>
+    ensures printed { IfOk result (λ end. Prints shows_trace capacities.now report end (W.contents writer.old) (W.contents writer.new)) }
+    ensures kinds { IfErr result (λ e. is_short e.said ≡ true) }
+    ensures limits { IfErr result (λ e. e.said ≡ BadLimits → 65535 < length report.bodies.items) }
+    ensures mismatch { IfErr result (λ e. (m : MNo) → e.said ≡ Mismatch m → IsLeast report m) }
+    ensures quiet { IfErr result (λ e. is_before_writing e.said ≡ true → W.contents writer.new ≡ W.contents writer.old) }
+{
+    let Ok(bodies) = u16::try_from(report.bodies.len()) else {
+        return Err(Ended::bad_limits());
+    };
+    if let Err(mismatch) = audit(&report.history, &report.logs) {
+        return Err(Ended::mismatch(mismatch.m));
+    }
+    let trace = trace_of(alloc, capacities, report, bodies)?;
+    print(alloc, shows_trace, &trace, writer)
+}
+
+/// Audits the report of a run that was opened with these capacities, and writes its trace or its summary, as the settings say.
+///
+/// It ends with what is wrong where something is: more bodies than a trace can count, the audit, the output, or memory. Of a run that was
+/// not begun it says why.
+pub fn told<T: Drop, W: Write>(
+    alloc: Global,
+    settings: &Settings,
+    capacities: &[u32],
+    ran: Result<Report<T>, Unrun<T>>,
+    writer: &mut W,
+) -> Ended
+    ensures printed { IfOk ran (λ report. result.said ≡ Nothing
+        → Tells settings.now.trace capacities.now report result.status (W.contents writer.old) (W.contents writer.new)) }
+    ensures kinds { IfOk ran (λ report. is_of_report result.said ≡ true) }
+    ensures limits { IfOk ran (λ report. result.said ≡ BadLimits → 65535 < length report.bodies.items) }
+    ensures mismatch { IfOk ran (λ report. (m : MNo) → result.said ≡ Mismatch m → IsLeast report m) }
+    ensures unrun { IfErr ran (λ u. result.said ≡ said_of_unrun u.why) }
+
+    // Where it is not begun, or falls short before it is written, nothing is written.
+    ensures quiet { is_before_writing result.said ≡ true → W.contents writer.new ≡ W.contents writer.old }
+    ensures silent { IfErr ran (λ u. W.contents writer.new ≡ W.contents writer.old) }
+{
+    match ran {
+        Ok(report) => match reported(alloc, settings.trace, capacities, report, writer) {
+            Ok(end) => Ended::traced(end),
+            Err(ended) => ended,
+        },
+        Err(refused) => unrun(refused.why),
+    }
+}

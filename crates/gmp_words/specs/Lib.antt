@@ -1,0 +1,3 @@
+pub mod Said
+pub mod Words
+pub mod Runs

@@ -1,0 +1,202 @@
+//! How the program ends.
+
+ghost use Rattle.std.specs.Prelude.{◌≡◌, true};
+ghost use Rattle.gmp_words.specs.Runs.{status_of};
+ghost use Rattle.gmp_words.specs.Said.{goes_with};
+
+use crate::said::Said;
+use gmp_base::MNo;
+use gmp_trace::{Bad, End, Why, WriteError};
+use std::alloc::AllocError;
+
+/// The exit status, and what is said: a status goes only with what it stands for.
+#[derive(Debug, Drop)]
+pub struct Ended {
+    pub status: u8,
+    pub said: Said,
+    pub ghost paired: { goes_with said status ≡ true },
+}
+
+fn status_of(end: End) -> u8
+    ensures { result ≡ status_of end }
+{
+    match end {
+        End::MainEnded => 0,
+        End::AllAsleep => 2,
+        End::BookFull => 3,
+        End::Running => 4,
+    }
+}
+
+impl Ended {
+    /// The trace was written, and the run ended so.
+    pub fn traced(end: End) -> Self
+        ensures status { result.status ≡ status_of end }
+        ensures said { result.said ≡ Said.Nothing }
+    {
+        let status = status_of(end);
+        Ended {
+            status,
+            said: Said::Nothing,
+        }
+    }
+
+    /// The trace that was read is right, and its summary was written.
+    pub fn passed() -> Self
+        ensures status { result.status ≡ 0 }
+        ensures said { result.said ≡ Said.Nothing }
+    {
+        Ended {
+            status: 0,
+            said: Said::Nothing,
+        }
+    }
+
+    /// The script's line, numbered from 1, is bad.
+    pub fn bad_line(line: u64) -> Self
+        ensures status { result.status ≡ 1 }
+        ensures said { result.said ≡ Said.BadLine line }
+    {
+        Ended {
+            status: 1,
+            said: Said::BadLine(line),
+        }
+    }
+
+    /// The first bad line of the trace.
+    pub fn bad_trace(bad: Bad) -> Self
+        ensures status { result.status ≡ 1 }
+        ensures said { result.said ≡ Said.BadTrace bad }
+    {
+        Ended {
+            status: 1,
+            said: Said::BadTrace(bad),
+        }
+    }
+
+    /// The input is longer than it may be.
+    pub fn too_long() -> Self
+        ensures status { result.status ≡ 1 }
+        ensures said { result.said ≡ Said.InputTooLong }
+    {
+        Ended {
+            status: 1,
+            said: Said::InputTooLong,
+        }
+    }
+
+    /// A read failed.
+    pub fn unreadable() -> Self
+        ensures status { result.status ≡ 1 }
+        ensures said { result.said ≡ Said.InputUnreadable }
+    {
+        Ended {
+            status: 1,
+            said: Said::InputUnreadable,
+        }
+    }
+
+    /// A write failed.
+    pub fn output_failed() -> Self
+        ensures status { result.status ≡ 1 }
+        ensures said { result.said ≡ Said.OutputFailed }
+    {
+        Ended {
+            status: 1,
+            said: Said::OutputFailed,
+        }
+    }
+
+    /// No run can be opened with these limits.
+    pub fn bad_limits() -> Self
+        ensures status { result.status ≡ 64 }
+        ensures said { result.said ≡ Said.BadLimits }
+    {
+        Ended {
+            status: 64,
+            said: Said::BadLimits,
+        }
+    }
+
+    pub fn out_of_memory() -> Self
+        ensures status { result.status ≡ 5 }
+        ensures said { result.said ≡ Said.OutOfMemory }
+    {
+        Ended {
+            status: 5,
+            said: Said::OutOfMemory,
+        }
+    }
+
+    /// The machine's count of its calls is not the number of its entries.
+    pub fn mismatch(m: MNo) -> Self
+        ensures status { result.status ≡ 6 }
+        ensures said { result.said ≡ Said.Mismatch m }
+    {
+        Ended {
+            status: 6,
+            said: Said::Mismatch(m),
+        }
+    }
+
+    /// The command line was refused, with this text.
+    pub fn usage(text: String) -> Self
+        ensures status { result.status ≡ 64 }
+        ensures said { result.said ≡ Said.Usage text }
+    {
+        Ended {
+            status: 64,
+            said: Said::Usage(text),
+        }
+    }
+
+    /// Help was asked for, and this is its text.
+    pub fn help(text: String) -> Self
+        ensures status { result.status ≡ 0 }
+        ensures said { result.said ≡ Said.Usage text }
+    {
+        Ended {
+            status: 0,
+            said: Said::Usage(text),
+        }
+    }
+}
+
+impl From<AllocError> for Ended {
+    ghost use Rattle.std.specs.Prelude.{◌≡◌};
+    ghost use Rattle.gmp_words.specs.declared.said.Said.TheVariants.{OutOfMemory};
+
+    ghost from_gives = { λ _ e. (e.status ≡ 5) × (e.said ≡ OutOfMemory) };
+
+    fn from(_error: AllocError) -> Self {
+        Ended::out_of_memory()
+    }
+}
+
+impl From<Bad> for Ended {
+    ghost use Rattle.std.specs.Prelude.{◌≡◌};
+    ghost use Rattle.gmp_words.specs.Said.{said_for};
+
+    ghost from_gives = { λ bad e. e.said ≡ said_for bad.why bad };
+
+    fn from(bad: Bad) -> Self {
+        match bad.why {
+            Why::OutOfMemory => Ended::out_of_memory(),
+            _ => Ended::bad_trace(bad),
+        }
+    }
+}
+
+impl From<WriteError> for Ended {
+    ghost use Rattle.std.specs.Prelude.{◌≡◌};
+    ghost use Rattle.gmp_words.specs.Said.{said_of_write};
+
+    ghost from_gives = { λ error e. e.said ≡ said_of_write error };
+
+    fn from(error: WriteError) -> Self {
+        match error {
+            WriteError::Device => Ended::output_failed(),
+            WriteError::OutOfMemory => Ended::out_of_memory(),
+        }
+    }
+}

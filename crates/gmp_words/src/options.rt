@@ -1,0 +1,60 @@
+//! What is to be done, and with which numbers.
+
+ghost use Rattle.std.specs.Prelude.{◌≤◌};
+
+use gmp_seq::Limits;
+
+/// What the program is to do.
+#[derive(Clone, Copy, Debug, PartialEq, Eq)]
+pub enum Task {
+    /// Runs a script in one thread, and prints the trace.
+    Step,
+    /// Runs a script by machines in threads, and prints the trace or its summary.
+    Run,
+    /// Reads a trace, checks it, and prints its summary.
+    Check,
+}
+
+/// What the command line says: the task, and the number of each option.
+#[derive(Clone, Copy, Debug, PartialEq, Eq)]
+pub struct Settings {
+    pub task: Task,
+    /// Processors: 1 to 32.
+    pub procs: u8,
+    /// Machines: 1 to 64.
+    pub machines: u8,
+    /// The most channels that a run may have: 0 to 1,024.
+    pub channels: u16,
+    /// The most entries that a history may have: 16 to 1,000,000.
+    pub entries: u32,
+    /// The word that every choice draws.
+    pub word: u64,
+    /// The most acts that the machines may make: 1 to 1,000,000,000.
+    pub acts: u32,
+    /// Machine m draws its words in threads from a generator that is seeded by this number and m.
+    pub random: u64,
+    /// Whether a run in threads prints its trace, and not its summary.
+    pub trace: bool,
+    pub ghost procs_in_range: { (1 ≤ procs) × (procs ≤ 32) },
+    pub ghost machines_in_range: { (1 ≤ machines) × (machines ≤ 64) },
+    pub ghost channels_in_range: { channels ≤ 1024 },
+    pub ghost entries_in_range: { (16 ≤ entries) × (entries ≤ 1000000) },
+    pub ghost acts_in_range: { (1 ≤ acts) × (acts ≤ 1000000000) },
+}
+
+impl Settings {
+    ghost use Rattle.std.specs.Prelude.{◌≡◌};
+    ghost use Rattle.gmp_words.specs.Runs.{limits_of};
+
+    /// The limits of a run.
+    pub fn limits(&self) -> Limits
+        ensures { result ≡ limits_of self.now }
+    {
+        Limits {
+            procs: self.procs,
+            machines: self.machines,
+            channels: self.channels,
+            entries: self.entries,
+        }
+    }
+}

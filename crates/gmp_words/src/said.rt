@@ -1,0 +1,49 @@
+//! What the program says at its end.
+
+use gmp_base::MNo;
+use gmp_trace::Bad;
+use std::fmt;
+
+/// What is said at the end, besides the trace or the summary.
+///
+/// Its text, by `Display`, ends with a line feed. `Nothing` has no text.
+#[derive(Debug, Drop)]
+pub enum Said {
+    /// The trace or the summary was written.
+    Nothing,
+    /// This line of the script is the first bad one, numbered from 1.
+    BadLine(u64),
+    /// The first bad line of the trace.
+    BadTrace(Bad),
+    InputTooLong,
+    InputUnreadable,
+    OutputFailed,
+    BadLimits,
+    OutOfMemory,
+    /// The least machine whose count of calls is not the number of its entries.
+    Mismatch(MNo),
+    /// A text of the command line's parser: why it refused, or the help that was asked for.
+    Usage(String),
+}
+
+impl fmt::Display for Said {
+    ghost use Rattle.std.specs.Prelude.{Some};
+    ghost use Rattle.gmp_words.specs.Said.{text_of};
+
+    ghost output = { λ said. Some (text_of said) };
+
+    fn fmt<W: fmt::Write>(&self, f: &mut fmt::Formatter<W>) -> fmt::Result {
+        match self {
+            Said::Nothing => Ok(()),
+            Said::BadLine(line) => writeln!(f, "gmp: line {line}: bad script line"),
+            Said::BadTrace(bad) => writeln!(f, "gmp: {bad}"),
+            Said::InputTooLong => f.write_str("gmp: input too long\n"),
+            Said::InputUnreadable => f.write_str("gmp: input unreadable\n"),
+            Said::OutputFailed => f.write_str("gmp: output failed\n"),
+            Said::BadLimits => f.write_str("gmp: bad limits\n"),
+            Said::OutOfMemory => f.write_str("gmp: out of memory\n"),
+            Said::Mismatch(m) => writeln!(f, "gmp: audit: machine {}", m.0),
+            Said::Usage(text) => f.write_str(text),
+        }
+    }
+}

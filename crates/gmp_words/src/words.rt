@@ -1,0 +1,193 @@
+//! Reads the words of the command line.
+
+ghost use Rattle.std.specs.Prelude.{◌≡◌, ◌≢◌, ◌⊎◌, string_bytes, true, IfOk, IfErr, IfSome};
+ghost use Rattle.gmp_words.specs.Said.{is_of_words};
+ghost use Rattle.gmp_words.specs.Words.{AreSaid, is_given, is_named};
+ghost use Rattle.clap.specs.Values.{kind_of};
+
+use crate::ended::Ended;
+use crate::numeric::Numeric;
+use crate::options::{Settings, Task};
+use crate::said::Said;
+use clap::error::ErrorKind;
+use clap::{Arg, ArgAction, Command};
+use gmp_seq::{LEAST_ENTRIES, MOST_CHANNELS, MOST_ENTRIES, MOST_MACHINES, MOST_PROCS};
+use std::alloc::{AllocError, Global};
+
+const PROCS: Numeric = Numeric {
+    id: "procs",
+    option: "--procs",
+    help: "Processors, 1 to 32 [default: 1]",
+    least: 1,
+    most: MOST_PROCS as u64,
+    default: 1,
+};
+
+const MACHINES: Numeric = Numeric {
+    id: "machines",
+    option: "--machines",
+    help: "Machines, 1 to 64 [default: 1]",
+    least: 1,
+    most: MOST_MACHINES as u64,
+    default: 1,
+};
+
+const CHANNELS: Numeric = Numeric {
+    id: "channels",
+    option: "--channels",
+    help: "The most channels, 0 to 1024 [default: 16]",
+    least: 0,
+    most: MOST_CHANNELS as u64,
+    default: 16,
+};
+
+const ENTRIES: Numeric = Numeric {
+    id: "entries",
+    option: "--entries",
+    help: "The most entries, 16 to 1000000 [default: 10000]",
+    least: LEAST_ENTRIES as u64,
+    most: MOST_ENTRIES as u64,
+    default: 10_000,
+};
+
+const WORD: Numeric = Numeric {
+    id: "word",
+    option: "--word",
+    help: "The word that every choice draws, 0 to 18446744073709551615 [default: 0]",
+    least: 0,
+    most: u64::MAX,
+    default: 0,
+};
+
+const ACTS: Numeric = Numeric {
+    id: "acts",
+    option: "--acts",
+    help: "The most acts of machines, 1 to 1000000000 [default: 10000000]",
+    least: 1,
+    most: 1_000_000_000,
+    default: 10_000_000,
+};
+
+const RANDOM: Numeric = Numeric {
+    id: "random",
+    option: "--random",
+    help: "The number that seeds each machine's words, 0 to 18446744073709551615 [default: 0]",
+    least: 0,
+    most: u64::MAX,
+    default: 0,
+};
+
+/// The command with the options of any run.
+fn running<'a>(alloc: Global, command: Command<'a>) -> Result<Command<'a>, AllocError> {
+    command
+        .arg(PROCS.arg(alloc))?
+        .arg(MACHINES.arg(alloc))?
+        .arg(CHANNELS.arg(alloc))?
+        .arg(ENTRIES.arg(alloc))
+}
+
+fn command<'a>(alloc: Global) -> Result<Command<'a>, AllocError> {
+    let step = Command::new(alloc, "step").about(
+        "Runs a script in one thread and prints the trace",
+    );
+    let step = running(alloc, step)?
+        .arg(WORD.arg(alloc))?
+        .arg(ACTS.arg(alloc))?;
+    let run = Command::new(alloc, "run").about(
+        "Runs a script by machines in threads and prints the summary",
+    );
+    let trace = Arg::new(alloc, "trace")
+        .long("trace")
+        .action(ArgAction::SetTrue)
+        .help("Prints the trace, and not the summary");
+    let run = running(alloc, run)?.arg(RANDOM.arg(alloc))?.arg(trace)?;
+    let check = Command::new(alloc, "check").about(
+        "Reads a trace, checks it and prints its summary",
+    );
+    Command::new(alloc, "gmp")
+        .subcommand_required(true)
+        .subcommand(step)?
+        .subcommand(run)?
+        .subcommand(check)
+}
+
+/// What a refusal by `clap` ends with: its own text, and for help that was asked for status 0.
+fn refused(alloc: Global, error: &clap::Error) -> Ended
+    ensures said { is_of_words result.said ≡ true }
+    ensures help { kind_of error.now ≡ ErrorKind.DisplayHelp → (result.status ≡ 0) ⊎ (result.said ≡ Said.OutOfMemory) }
+    ensures refusal { kind_of error.now ≢ ErrorKind.DisplayHelp → kind_of error.now ≢ ErrorKind.DisplayVersion
+        → (result.status ≡ 64) ⊎ (result.said ≡ Said.OutOfMemory) }
+{
+    if error.kind() == ErrorKind::OutOfMemory {
+        return Ended::out_of_memory();
+    }
+    match error.to_string(alloc) {
+        Ok(text) if error.use_stderr() => Ended::usage(text),
+        Ok(text) => Ended::help(text),
+        Err(_) => Ended::out_of_memory(),
+    }
+}
+
+/// The task that the words name.
+fn task(words: &[String]) -> Option<Task>
+    ensures { IfSome result (λ task. is_named string_bytes words.now task ≡ true) }
+{
+    match words.get(1)?.as_bytes() {
+        b"step" => Some(Task::Step),
+        b"run" => Some(Task::Run),
+        b"check" => Some(Task::Check),
+        _ => None,
+    }
+}
+
+/// Whether the flag is among the words.
+fn is_given(words: &[String], flag: &[u8]) -> bool
+    ensures { result ≡ is_given string_bytes words.now flag.now }
+{
+    words.iter().any(|word| word.as_bytes() == flag)
+}
+
+/// What the words say for this task.
+///
+/// None where a number is out of range, or is not written in digits alone.
+fn settings_of(task: Task, words: &[String]) -> Option<Settings>
+    requires { is_named string_bytes words.now task ≡ true }
+    ensures { IfSome result (AreSaid string_bytes words.now) }
+{
+    Some(Settings {
+        task,
+        procs: PROCS.read(words)? as u8,
+        machines: MACHINES.read(words)? as u8,
+        channels: CHANNELS.read(words)? as u16,
+        entries: ENTRIES.read(words)? as u32,
+        word: WORD.read(words)?,
+        acts: ACTS.read(words)? as u32,
+        random: RANDOM.read(words)?,
+        trace: is_given(words, b"--trace"),
+    })
+}
+
+/// What the command line says, the program's name first.
+///
+/// A line that `clap` refuses ends with status 64 and its text, help that was asked for with 0.
+pub fn settings<'a>(alloc: Global, words: &'a [String]) -> Result<Settings, Ended>
+    ensures ok { IfOk result (AreSaid string_bytes words.now) }
+    ensures err { IfErr result (λ e. is_of_words e.said ≡ true) }
+{
+    let mut command: Command<'a> = command(alloc)?;
+    if let Err(error) = command.try_get_matches_from_mut(words) {
+        return Err(refused(alloc, &error));
+    }
+    let Some(task) = task(words) else {
+        let error = command.error(ErrorKind::InvalidSubcommand, "there is no such command")?;
+        return Err(refused(alloc, &error));
+    };
+    let Some(settings) = settings_of(task, words) else {
+        let error = command.error(
+            ErrorKind::InvalidValue,
+            "a number is written in digits alone",
+        )?;
+        return Err(refused(alloc, &error));
+    };
+    Ok(settings)
+}
