@@ -16,7 +16,7 @@ abbrev pub AreLogs : ℕ → List PassLog → Type 0
 AreLogs machines logs = map (λ (l : PassLog). l.m) logs ≡ map (λ (m : ℕ). record { 0 = m }) (range_with_len 0 machines)
 
 -- The history is a legal run, from the opening under these limits, with these capacities and so many bodies, to a state with this outcome. It has
--- as many entries as the passes made calls, and all bodies are back.
+-- as many entries as the passes made calls, and there are as many bodies as were given.
 pub record IsReport {T : Type 0} (limits : Limits) (capacities : List ℕ) (bodies : ℕ) (r : Report T) : Type 0 where
   pub last : State
   pub legal : Run limits (opening limits bodies capacities) r.history.items last
