@@ -19,6 +19,9 @@ use Rattle.gmp_queue.specs.declared.ends.Owner.{Owner}
 use Rattle.gmp_queue.specs.declared.ends.Thief.{Thief}
 use Rattle.gmp_queue.specs.Ends.{KeepsOwner, KeepsThief, owner_run, owner_view, thief_run, thief_view}
 use Rattle.gmp_queue.specs.Queue.{FoundNone, PoppedFirst, PutLast, StoleFirst}
+use Rattle.rand_core.specs.Steps.{u64_via_u32}
+use Rattle.rand_pcg.specs.Lcg.{Lcg}
+use Rattle.rand_pcg.specs.Pcg.{pcg32}
 
 -- The act is one at a local queue.
 abbrev pub IsQueueAct : Act → Type 0
@@ -27,6 +30,11 @@ IsQueueAct act.Push = Unit {0}
 IsQueueAct act.Hunt = Unit {0}
 IsQueueAct (act.Steal victim) = Unit {0}
 IsQueueAct _ = ⊥
+
+-- the word that an act draws, of two of the generator's 32 bits, the low half first, and the generator after it; an act that draws none leaves the generator
+abbrev pub drawn : Act → Lcg → ℕ × Lcg
+drawn act.Hunt g = u64_via_u32 pcg32 g
+drawn what g = (0, g)
 
 -- The own queue
 

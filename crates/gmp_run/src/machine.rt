@@ -8,11 +8,10 @@ ghost use Rattle.gmp_run.specs.Counts.{calls_in};
 use crate::desk::RunLedger;
 use crossbeam_utils::sync::Parker;
 use gmp_base::{MNo, Pass};
-use gmp_driver::{Act, Driver};
+use gmp_driver::Driver;
 use gmp_queue::{Owner, Thief};
 use gmp_queue_turn::queue_turn;
 use gmp_worker::{Boxed, PassLog, local_turn};
-use rand_core::utils::next_u64_via_u32;
 use rand_pcg::Lcg64Xsh32;
 use std::sync::ledger::Share;
 
@@ -72,7 +71,7 @@ impl<T: Drop, L: RunLedger> Machine<T, L> {
         (PassLog { m, calls }, share)
     }
 
-    /// Makes the act on a queue that the driver names next. The first of a hunt draws a word.
+    /// Makes the act on a queue that the driver names next.
     pub fn queue_turn(&mut self)
         requires { IsQueueAct (next_act self.old.driver) }
     {
@@ -82,11 +81,7 @@ impl<T: Drop, L: RunLedger> Machine<T, L> {
             random,
             ..
         } = self;
-        let word = match driver.next() {
-            Act::Hunt => next_u64_via_u32(random),
-            _ => 0,
-        };
-        queue_turn(driver, thieves.as_mut_slice(), word);
+        queue_turn(driver, thieves.as_mut_slice(), random);
     }
 }
 

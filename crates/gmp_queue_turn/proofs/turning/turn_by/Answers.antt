@@ -4,9 +4,9 @@ use Rattle.gmp_driver.specs.declared.load.Load.{Load}
 use Rattle.gmp_driver.specs.Loads.{parts_of}
 use Rattle.gmp_driver.specs.Table.{next_act}
 use Rattle.gmp_queue_turn.proofs.Turned.{Came, fits_now, got_fits, hunt_came, pop_came, push_came, same_pass, same_run, steal_came, turned}
-use Rattle.gmp_queue_turn.proofs.turning.queue_turn.Given.{Over}
-use Rattle.gmp_queue_turn.proofs.turning.queue_turn.Goals as goal
-use Rattle.gmp_queue_turn.proofs.turning.queue_turn.Goals.{in-Pop, in-Push, in-Hunt, in-Steal}
+use Rattle.gmp_queue_turn.proofs.turning.turn_by.Given.{Over}
+use Rattle.gmp_queue_turn.proofs.turning.turn_by.Goals as goal
+use Rattle.gmp_queue_turn.proofs.turning.turn_by.Goals.{in-Pop, in-Push, in-Hunt, in-Steal}
 
 -- what the try came to, by the act
 
