@@ -1,147 +1,138 @@
 -- A goroutine begins to wait, and waits no more.
-use Rattle.std.proofs.Common.{◌≡◌, ◌≢◌, ◌⊎◌, inl, inr, ℕ, zero, suc, ◌+◌, ◌*◌, ◌<◌, ◌≤◌, ◌==◌, not, ◌&&◌, ◌||◌, ltb, cond, Bool, true, false, Option, Some, None, List, [], ◌∷◌, ◌++◌, length, get_or, set, take, count_by, is_some, get_or-set_same, get_or-set_other, append_assoc, refl, sym, ap, ◌∙◌, subst, arith}
-use Rattle.std.specs.List.{list_any, range_with_len}
+use Rattle.std.proofs.Common.{◌≡◌, ◌≢◌, ◌⊎◌, inl, inr, ℕ, zero, suc, ◌+◌, ◌*◌, ◌<◌, ◌≤◌, not, ◌&&◌, ltb, cond, Bool, true, false, IfSome, IfNone, Option, Some, None, List, [], ◌∷◌, ◌++◌, length, get_or, set, take, count_by, is_some, get_or-set_same, get_or-set_other, length-set, append_assoc, refl, sym, ap, ◌∙◌, arith}
+use Rattle.std.specs.List.{list_all, range_with_len}
 use Rattle.std.proofs.lemmas.Bool.Decides.{nat_tests}
 use Rattle.std.proofs.lemmas.List.{take_more}
-use Rattle.std.proofs.lemmas.List.Sums.{sum_by-cons}
+use Rattle.std.proofs.lemmas.List.Sums.{count_by-le-length, sum_by-append}
 use Rattle.gmp_base.specs.declared.number.GNo.{GNo}
 use Rattle.gmp_seq.specs.declared.status.Kind.{Kind}
 use Rattle.gmp_seq.specs.declared.status.Offer.{Offer}
 use Rattle.gmp_seq.specs.declared.status.Waiter.{Waiter}
 use Rattle.gmp_seq.specs.Waits.{as_waiters}
 use Rattle.gmp_chan.specs.Contents.{is_of, without}
-use Rattle.gmp_chan.specs.Kept.{IsInPlace}
-use Rattle.gmp_chan.specs.Order.{is_later}
-use Rattle.gmp_chan.specs.Cells.{IsLast, in_order}
-use Rattle.gmp_chan.proofs.Ordered.{Every, emptied, filled_last, every_of, keep, of_every}
+use Rattle.gmp_chan.specs.Order.{above, is_later, rise}
+use Rattle.gmp_chan.specs.Slots.{IsNowhere, IsThere, in_order, rank, vacant_or}
+use Rattle.gmp_chan.proofs.Counted.{none_counted, none_passes, one}
+use Rattle.gmp_chan.proofs.Ordered.{Every, emptied, every_of, keep, of_every, within_some}
 use Rattle.gmp_chan.proofs.Ringed.{order, same_or_not}
 
 -- It waits no more
 
--- its cells are empty, and the others are as they were
-pub withdrawn : (g : GNo) (channels : ℕ) (cells now : List (Option Waiter)) → length now ≡ length cells → ((k : ℕ) → IsInPlace channels k (get_or cells k None))
-    → ((k : ℕ) → 8 * g.0 ≤ k → k < 8 * g.0 + 8 → get_or now k None ≡ None)
-    → ((k : ℕ) → (8 * g.0 ≤ k → 8 * g.0 + 8 ≤ k) → get_or now k None ≡ get_or cells k None)
-    → in_order now ≡ without g (in_order cells)
-withdrawn g channels cells now same placed gone rest = emptied others cells now same (λ k. by k (order k (8 * g.0)) (order k (8 * g.0 + 8)))
+-- of those in the slots, some of g's are gone, and all others are left
+pub record HasLost (g : GNo) (slots now : List (Option Waiter)) : Type 0 where
+  pub size : length now ≡ length slots
+  pub left : (k : ℕ) (x : Waiter) → get_or now k None ≡ Some x → get_or slots k None ≡ Some x
+  pub others : (k : ℕ) (x : Waiter) → get_or slots k None ≡ Some x → is_of g x ≡ false → get_or now k None ≡ Some x
+
+pub lost_step : (g : GNo) (slots now : List (Option Waiter)) (i : ℕ) → HasLost g slots now → IsThere (is_of g) now i → HasLost g slots (set now i None)
+lost_step g slots now i lost found = record {
+  size = length-set now i None ∙ lost.size;
+  left = λ k x is. left k x is (same_or_not k i);
+  others = λ k x is away. others k x is away (same_or_not k i);
+}
   where
-    others : Waiter → Bool
-    others w = not (w.g.0 == g.0)
+    left : (k : ℕ) (x : Waiter) → get_or (set now i None) k None ≡ Some x → (k ≡ i) ⊎ (k ≢ i) → get_or slots k None ≡ Some x
+    left k x is (inl e) =
+        absurd (let no : None ≡ Some x = sym (get_or-set_same now i None None (within_some now i found.waiter found.there)) ∙ (ap (λ (n : ℕ). get_or (set now i None) n None) (sym e) ∙ is) in cc)
+    left k x is (inr e) = lost.left k x (sym (get_or-set_other now i k None None e) ∙ is)
 
-    kept : (k : ℕ) (c : Option Waiter) → IsInPlace channels k c → (8 * g.0 ≤ k → 8 * g.0 + 8 ≤ k) → c ≡ keep others c
-    kept k None at away = refl
-    kept k (Some x) at away = (let t : (x.g.0 == g.0) ≡ false = (let apart : x.g.0 ≢ g.0 = λ e. omega (arith, e, at.0, at.1, away (omega (arith, e, at.0))) in grind (arith, nat_tests)) in rw t refl)
+    others : (k : ℕ) (x : Waiter) → get_or slots k None ≡ Some x → is_of g x ≡ false → (k ≡ i) ⊎ (k ≢ i) → get_or (set now i None) k None ≡ Some x
+    others k x is away (inl e) =
+        let same : x ≡ found.waiter = (let s : Some x ≡ Some found.waiter = sym (lost.others k x is away) ∙ (ap (λ (n : ℕ). get_or now n None) e ∙ found.there) in cc) in
+        absurd (let no : false ≡ true = sym away ∙ (ap (is_of g) same ∙ found.passes) in cc)
+    others k x is away (inr e) = get_or-set_other now i k None None e ∙ lost.others k x is away
 
-    dropped : (k : ℕ) (c : Option Waiter) → IsInPlace channels k c → 8 * g.0 ≤ k → k < 8 * g.0 + 8 → None ≡ keep others c
-    dropped k None at low high = refl
-    dropped k (Some x) at low high = (let t : (x.g.0 == g.0) ≡ true = (let one : x.g.0 ≡ g.0 = omega (arith, at.0, at.1) in grind (arith, nat_tests)) in rw t refl)
+pub withdrawn : (g : GNo) (slots now : List (Option Waiter)) → HasLost g slots now → IsNowhere (is_of g) now → in_order now ≡ without g (in_order slots)
+withdrawn g slots now lost none = emptied (λ (w : Waiter). not (is_of g w)) slots now lost.size (λ k. by k (get_or slots k None) refl (get_or now k None) refl)
+  where
+    by : (k : ℕ) (o : Option Waiter) → get_or slots k None ≡ o → (n : Option Waiter) → get_or now k None ≡ n → get_or now k None ≡ keep (λ (w : Waiter). not (is_of g w)) o
+    by k None was None is = is
+    by k None was (Some y) is = absurd (let no : None ≡ Some y = sym was ∙ lost.left k y is in cc)
+    by k (Some x) was n is = passes (is_of g x) refl n is
+      where
+        passes : (b : Bool) → is_of g x ≡ b → (n : Option Waiter) → get_or now k None ≡ n → get_or now k None ≡ cond (not b) (Some x) None
+        passes false away n is = lost.others k x was away
+        passes true own None is = is
+        passes true own (Some y) is =
+            let same : x ≡ y = (let s : Some x ≡ Some y = sym was ∙ lost.left k y is in cc) in
+            absurd (let no : true ≡ false = sym own ∙ (ap (is_of g) same ∙ none k y is) in cc)
 
-    by : (k : ℕ) → (k < 8 * g.0) ⊎ (8 * g.0 ≤ k) → (k < 8 * g.0 + 8) ⊎ (8 * g.0 + 8 ≤ k) → get_or now k None ≡ keep others (get_or cells k None)
-    by k (inl h) _ = rest k (λ l. absurd (omega (arith, l, h))) ∙ kept k (get_or cells k None) (placed k) (λ l. absurd (omega (arith, l, h)))
-    by k (inr l) (inl h) = gone k l h ∙ dropped k (get_or cells k None) (placed k) l h
-    by k (inr _) (inr h) = rest k (λ _. h) ∙ kept k (get_or cells k None) (placed k) (λ _. h)
+-- Whether it waits
+
+pub waiting : (g : GNo) (slots : List (Option Waiter)) (found : Option ℕ) → IfSome found (IsThere (is_of g) slots) → IfNone found (IsNowhere (is_of g) slots)
+    → is_some found ≡ ltb 0 (count_by (is_of g) (in_order slots))
+waiting g slots None some none = (let no = none_passes (is_of g) (in_order slots) (every_of _ slots none) in grind (arith, nat_tests))
+waiting g slots (Some i) some none =
+    let more : 0 < count_by (is_of g) (in_order slots) = elim (order 0 (count_by (is_of g) (in_order slots))) [
+      | inl h ↦ h
+      | inr h ↦ absurd (let no = of_every (λ w. is_of g w ≡ false) slots (none_counted (is_of g) (in_order slots) (omega (arith, h))) i some.waiter some.there in let clash : true ≡ false = sym some.passes ∙ no in cc)
+    ] in
+    grind (arith, nat_tests)
+
+-- Whether an arrival is later than all
+
+slots_from : (p : Waiter → Bool) (slots : List (Option Waiter)) (n a : ℕ) (at : ℕ → Option Waiter) → length slots ≤ n → ((k : ℕ) → at (a + k) ≡ get_or slots k None)
+    → list_all (λ (k : ℕ). vacant_or p (at k)) (range_with_len a n) ≡ list_all (vacant_or p) slots
+slots_from p [] zero a at few same = refl
+slots_from p (x ∷ slots) zero a at few same = absurd (omega (arith, few))
+slots_from p [] (suc n) a at few same =
+    ap (λ (o : Option Waiter). vacant_or p o && list_all (λ (k : ℕ). vacant_or p (at k)) (range_with_len (a + 1) n)) (ap at (omega arith) ∙ same 0)
+    ∙ slots_from p [] n (a + 1) at (omega arith) (λ k. ap at (omega arith) ∙ same (suc k))
+slots_from p (x ∷ slots) (suc n) a at few same =
+    ap (λ (o : Option Waiter). vacant_or p o && list_all (λ (k : ℕ). vacant_or p (at k)) (range_with_len (a + 1) n)) (ap at (omega arith) ∙ same 0)
+    ∙ ap (λ (b : Bool). vacant_or p x && b) (slots_from p slots n (a + 1) at (omega (arith, few)) (λ k. ap at (omega arith) ∙ same (suc k)))
+
+pub all_slots : (p : Waiter → Bool) (slots : List (Option Waiter)) (n : ℕ) → length slots ≤ n → list_all (λ (k : ℕ). vacant_or p (get_or slots k None)) (range_with_len 0 n) ≡ list_all (vacant_or p) slots
+all_slots p slots n few = slots_from p slots n 0 (λ k. get_or slots k None) few (λ k. ap (λ (j : ℕ). get_or slots j None) (omega arith))
 
 -- It begins to wait
 
-every_later : (arrival : ℕ) (l : List Waiter) → is_later arrival l ≡ true → Every (λ x. x.arrival < arrival) l
-every_later arrival [] h = tt
-every_later arrival (x ∷ l) h = by (ltb x.arrival arrival) refl (every_later arrival l) h
+every_append : (P : Waiter → Type 0) (a b : List Waiter) → Every P a → Every P b → Every P (a ++ b)
+every_append P [] b h k = k
+every_append P (x ∷ a) b (here, rest) k = (here, every_append P a b rest k)
+
+every_lower : (arrival case : ℕ) (l : List Waiter) → is_later arrival l ≡ true → Every (λ x. x.offer.case < 256) l → Every (λ x. rank x < arrival * 256 + case) l
+every_lower arrival case [] h k = tt
+every_lower arrival case (x ∷ l) h (low, rest) = by (ltb x.arrival arrival) refl (λ later. every_lower arrival case l later rest) h
   where
-    by : (b : Bool) → ltb x.arrival arrival ≡ b → (is_later arrival l ≡ true → Every (λ x. x.arrival < arrival) l) → b && is_later arrival l ≡ true
-        → (x.arrival < arrival) × Every (λ x. x.arrival < arrival) l
-    by true is deeper rest = (grind (arith, nat_tests), deeper rest)
-    by false is deeper rest = absurd cc
+    by : (b : Bool) → ltb x.arrival arrival ≡ b → (is_later arrival l ≡ true → Every (λ x. rank x < arrival * 256 + case) l) → b && is_later arrival l ≡ true
+        → (rank x < arrival * 256 + case) × Every (λ x. rank x < arrival * 256 + case) l
+    by true is deeper later = (let less : x.arrival < arrival = grind (arith, nat_tests) in omega (arith, less, low), deeper later)
+    by false is deeper later = absurd cc
 
-abbrev one : Bool → ℕ
-one b = cond b 1 0
+and_both : (a b : Bool) → a && b ≡ true → (a ≡ true) × (b ≡ true)
+and_both true b h = (refl, h)
+and_both false b h = absurd cc
 
-none_counted : (p : Waiter → Bool) (l : List Waiter) → count_by p l ≡ 0 → Every (λ x. p x ≡ false) l
-none_counted p [] h = tt
-none_counted p (x ∷ l) h =
-    let parts = sum_by-cons (λ (z : Waiter). one (p z)) x l in
-    (by (p x) (omega (arith, h, parts)), none_counted p l (omega (arith, h, parts)))
-  where
-    by : (b : Bool) → one b ≡ 0 → b ≡ false
-    by true h = absurd (omega arith)
-    by false h = refl
+above_at : (case : ℕ) (offers : List Offer) (n : ℕ) (d : Offer) → n < length offers → above case offers ≡ true → case < (get_or offers n d).case
+above_at case [] n d within h = absurd (omega (arith, within))
+above_at case (o ∷ offers) zero d within h = (let t = (and_both (ltb case o.case) (above case offers) h).0 in grind (arith, nat_tests))
+above_at case (o ∷ offers) (suc n) d within h = above_at case offers n d (omega (arith, within)) (and_both (ltb case o.case) (above case offers) h).1
 
--- all in the cells arrived earlier
-pub all_older : (arrival : ℕ) (cells : List (Option Waiter)) → is_later arrival (in_order cells) ≡ true → (k : ℕ) (x : Waiter) → get_or cells k None ≡ Some x → x.arrival < arrival
-all_older arrival cells later = of_every _ cells (every_later arrival (in_order cells) later)
+own_lower : (g : GNo) (arrival : ℕ) (kind : Kind) (offers : List Offer) (n : ℕ) (d : Offer) → n < length offers → rise offers ≡ true
+    → Every (λ x. rank x < arrival * 256 + (get_or offers n d).case) (as_waiters g arrival kind (take n offers))
+own_lower g arrival kind [] n d within h = absurd (omega (arith, within))
+own_lower g arrival kind (o ∷ offers) zero d within h = tt
+own_lower g arrival kind (o ∷ offers) (suc n) d within h =
+    let both = and_both (above o.case offers) (rise offers) h in
+    (omega (arith, above_at o.case offers n d (omega (arith, within)) both.0), own_lower g arrival kind offers n d (omega (arith, within)) both.1)
 
--- the cells of one that has no offer are empty
-pub all_vacant : (g : GNo) (channels : ℕ) (cells : List (Option Waiter)) → ((k : ℕ) → IsInPlace channels k (get_or cells k None)) → count_by (is_of g) (in_order cells) ≡ 0
-    → (k : ℕ) → 8 * g.0 ≤ k → k < 8 * g.0 + 8 → get_or cells k None ≡ None
-all_vacant g channels cells placed fresh k low high = by (get_or cells k None) refl (placed k)
-  where
-    by : (c : Option Waiter) → get_or cells k None ≡ c → IsInPlace channels k c → c ≡ None
-    by None is at = refl
-    by (Some x) is at =
-        let no : (x.g.0 == g.0) ≡ false = of_every (λ w. is_of g w ≡ false) cells (none_counted (is_of g) (in_order cells) fresh) k x is in
-        let one : x.g.0 ≡ g.0 = omega (arith, at.0, at.1) in
-        absurd (grind (arith, nat_tests))
+-- all that wait rank lower than the offer that is next
+pub all_lower : (g : GNo) (arrival : ℕ) (kind : Kind) (offers : List Offer) (n : ℕ) (d : Offer) (old : List Waiter) → n < length offers → rise offers ≡ true → is_later arrival old ≡ true
+    → Every (λ x. x.offer.case < 256) old → Every (λ x. rank x < arrival * 256 + (get_or offers n d).case) (old ++ as_waiters g arrival kind (take n offers))
+all_lower g arrival kind offers n d old within rises later cases =
+    every_append _ old (as_waiters g arrival kind (take n offers)) (every_lower arrival (get_or offers n d).case old later cases) (own_lower g arrival kind offers n d within rises)
 
--- It waits where one of its cells is filled
+length-as_waiters : (g : GNo) (arrival : ℕ) (kind : Kind) (offers : List Offer) (n : ℕ) → length (as_waiters g arrival kind (take n offers)) ≤ n
+length-as_waiters g arrival kind offers zero = omega arith
+length-as_waiters g arrival kind [] (suc n) = omega arith
+length-as_waiters g arrival kind (o ∷ offers) (suc n) = (let r = length-as_waiters g arrival kind offers n in omega (arith, r))
 
-none_passes : (p : Waiter → Bool) (l : List Waiter) → Every (λ x. p x ≡ false) l → count_by p l ≡ 0
-none_passes p [] h = refl
-none_passes p (x ∷ l) (here, rest) =
-    let deeper = none_passes p l rest in
-    omega (arith, deeper, ap one here, sum_by-cons (λ (z : Waiter). one (p z)) x l)
-
-waits_nowhere : (g : GNo) (channels : ℕ) (cells : List (Option Waiter)) → ((k : ℕ) → IsInPlace channels k (get_or cells k None))
-    → ((k : ℕ) → 8 * g.0 ≤ k → k < 8 * g.0 + 8 → is_some (get_or cells k None) ≡ false) → count_by (is_of g) (in_order cells) ≡ 0
-waits_nowhere g channels cells placed vacant = none_passes (is_of g) (in_order cells) (every_of _ cells (λ k x at. by k x at (subst (IsInPlace channels k) at (placed k))))
-  where
-    by : (k : ℕ) (x : Waiter) → get_or cells k None ≡ Some x → IsInPlace channels k (Some x) → is_of g x ≡ false
-    by k x at here =
-        let apart : x.g.0 ≢ g.0 = λ e. (let no : is_some (Some x) ≡ false = ap is_some (sym at) ∙ vacant k (omega (arith, e, here.0)) (omega (arith, e, here.1)) in cc) in
-        grind (arith, nat_tests)
-
-waits_there : (g : GNo) (channels : ℕ) (cells : List (Option Waiter)) → ((k : ℕ) → IsInPlace channels k (get_or cells k None))
-    → (k : ℕ) → 8 * g.0 ≤ k → k < 8 * g.0 + 8 → is_some (get_or cells k None) ≡ true → 0 < count_by (is_of g) (in_order cells)
-waits_there g channels cells placed k low high filled = by (order 0 (count_by (is_of g) (in_order cells)))
-  where
-    by : (0 < count_by (is_of g) (in_order cells)) ⊎ (count_by (is_of g) (in_order cells) ≤ 0) → 0 < count_by (is_of g) (in_order cells)
-    by (inl some) = some
-    by (inr none) = absurd (let no = ap is_some (all_vacant g channels cells placed (omega arith) k low high) in cc)
-
-some_in : (test : ℕ → Bool) (a n : ℕ) → list_any test (range_with_len a n) ≡ true → (k : ℕ) × (a ≤ k) × (k < a + n) × (test k ≡ true)
-some_in test a zero h = absurd cc
-some_in test a (suc n) h = by (test a) refl (some_in test (a + 1) n) h
-  where
-    by : (b : Bool) → test a ≡ b → (list_any test (range_with_len (a + 1) n) ≡ true → (k : ℕ) × (a + 1 ≤ k) × (k < a + 1 + n) × (test k ≡ true))
-        → b || list_any test (range_with_len (a + 1) n) ≡ true → (k : ℕ) × (a ≤ k) × (k < a + suc n) × (test k ≡ true)
-    by true is deeper h = (a, omega arith, omega arith, is)
-    by false is deeper h = (let r = deeper h in (r.0, omega (arith, r.1), omega (arith, r.2), r.3))
-
-none_in : (test : ℕ → Bool) (a n : ℕ) → list_any test (range_with_len a n) ≡ false → (k : ℕ) → a ≤ k → k < a + n → test k ≡ false
-none_in test a zero h k low high = absurd (omega (arith, low, high))
-none_in test a (suc n) h k low high = by (test a) refl h (λ r above. none_in test (a + 1) n r k above (omega (arith, high))) (same_or_not k a)
-  where
-    by : (b : Bool) → test a ≡ b → b || list_any test (range_with_len (a + 1) n) ≡ false → (list_any test (range_with_len (a + 1) n) ≡ false → a + 1 ≤ k → test k ≡ false)
-        → (k ≡ a) ⊎ (k ≢ a) → test k ≡ false
-    by true is h deeper s = absurd cc
-    by false is h deeper (inl e) = ap test e ∙ is
-    by false is h deeper (inr e) = deeper h (omega (arith, low, e))
-
-pub waiting : (g : GNo) (channels : ℕ) (cells : List (Option Waiter)) → ((k : ℕ) → IsInPlace channels k (get_or cells k None))
-    → list_any (λ k. is_some (get_or cells k None)) (range_with_len (8 * g.0) 8) ≡ ltb 0 (count_by (is_of g) (in_order cells))
-waiting g channels cells placed = by (list_any filled (range_with_len (8 * g.0) 8)) refl
-  where
-    filled : ℕ → Bool
-    filled k = is_some (get_or cells k None)
-
-    by : (b : Bool) → list_any filled (range_with_len (8 * g.0) 8) ≡ b → b ≡ ltb 0 (count_by (is_of g) (in_order cells))
-    by true is =
-        let r = some_in filled (8 * g.0) 8 is in
-        let some = waits_there g channels cells placed r.0 r.1 r.2 r.3 in
-        grind (arith, nat_tests)
-    by false is =
-        let none = waits_nowhere g channels cells placed (none_in filled (8 * g.0) 8 is) in
-        grind (arith, nat_tests)
-
--- One offer more
+pub few_own : (g : GNo) (arrival : ℕ) (kind : Kind) (offers : List Offer) (n : ℕ) (old : List Waiter) → count_by (is_of g) old ≡ 0 → count_by (is_of g) (old ++ as_waiters g arrival kind (take n offers)) ≤ n
+few_own g arrival kind offers n old fresh =
+    let parts = sum_by-append (λ (z : Waiter). one (is_of g z)) old (as_waiters g arrival kind (take n offers)) in
+    let most = count_by-le-length (is_of g) (as_waiters g arrival kind (take n offers)) in
+    omega (arith, fresh, parts, most, length-as_waiters g arrival kind offers n)
 
 as_waiters_last : (g : GNo) (arrival : ℕ) (kind : Kind) (offers : List Offer) (o : Offer)
     → as_waiters g arrival kind (offers ++ o ∷ []) ≡ as_waiters g arrival kind offers ++ record { g = g; arrival = arrival; kind = kind; offer = o } ∷ []
@@ -149,28 +140,13 @@ as_waiters_last g arrival kind [] o = refl
 as_waiters_last g arrival kind (x ∷ offers) o =
     ap (λ (l : List Waiter). record { g = g; arrival = arrival; kind = kind; offer = x } ∷ l) (as_waiters_last g arrival kind offers o)
 
-pub added_step : (g : GNo) (arrival : ℕ) (kind : Kind) (offers : List Offer) (n : ℕ) (d : Offer) (old : List Waiter) (cells : List (Option Waiter)) (i : ℕ) → n < length offers
-    → i < length cells → get_or cells i None ≡ None → IsLast cells i (record { g = g; arrival = arrival; kind = kind; offer = get_or offers n d })
-    → in_order cells ≡ old ++ as_waiters g arrival kind (take n offers)
-    → in_order (set cells i (Some (record { g = g; arrival = arrival; kind = kind; offer = get_or offers n d }))) ≡ old ++ as_waiters g arrival kind (take (n + 1) offers)
-added_step g arrival kind offers n d old cells i within room vacant last so_far =
+-- one offer more
+pub added_step : (g : GNo) (arrival : ℕ) (kind : Kind) (offers : List Offer) (n : ℕ) (d : Offer) (old so_far now : List Waiter) → n < length offers
+    → now ≡ so_far ++ record { g = g; arrival = arrival; kind = kind; offer = get_or offers n d } ∷ [] → so_far ≡ old ++ as_waiters g arrival kind (take n offers)
+    → now ≡ old ++ as_waiters g arrival kind (take (n + 1) offers)
+added_step g arrival kind offers n d old so_far now within last before =
     let x : Waiter = record { g = g; arrival = arrival; kind = kind; offer = get_or offers n d } in
-    let more : as_waiters g arrival kind (take (n + 1) offers) ≡ as_waiters g arrival kind (take n offers) ++ x ∷ [] =
-    ap (as_waiters g arrival kind) (take_more offers n d within) ∙ as_waiters_last g arrival kind (take n offers) (get_or offers n d) in
-    filled_last cells i x room vacant last
-    ∙ (ap (λ (l : List Waiter). l ++ x ∷ []) so_far ∙ (append_assoc old (as_waiters g arrival kind (take n offers)) (x ∷ []) ∙ ap (λ (l : List Waiter). old ++ l) (sym more)))
-
-pub older_step : (arrival : ℕ) (cells : List (Option Waiter)) (i : ℕ) (w : Waiter) → w.arrival ≡ arrival → i < length cells
-    → ((k : ℕ) (x : Waiter) → get_or cells k None ≡ Some x → (x.arrival ≤ arrival) × (i ≤ k → x.arrival < arrival))
-    → (k : ℕ) (x : Waiter) → get_or (set cells i (Some w)) k None ≡ Some x → (x.arrival ≤ arrival) × (i + 1 ≤ k → x.arrival < arrival)
-older_step arrival cells i w is room older k x at = by (same_or_not k i)
-  where
-    by : (k ≡ i) ⊎ (k ≢ i) → (x.arrival ≤ arrival) × (i + 1 ≤ k → x.arrival < arrival)
-    by (inl e) =
-        let one : w ≡ x = (let s : Some w ≡ Some x = sym (get_or-set_same cells i (Some w) None room) ∙ (ap (λ (n : ℕ). get_or (set cells i (Some w)) n None) (sym e) ∙ at) in cc) in
-        (omega (arith, is, ap (λ (z : Waiter). z.arrival) one), λ h. absurd (omega (arith, h, e)))
-    by (inr e) = (let old = older k x (sym (get_or-set_other cells i k (Some w) None e) ∙ at) in (old.0, λ h. old.1 (omega arith)))
-
-pub vacant_step : (cells : List (Option Waiter)) (i end : ℕ) (w : Waiter) → ((k : ℕ) → i ≤ k → k < end → get_or cells k None ≡ None)
-    → (k : ℕ) → i + 1 ≤ k → k < end → get_or (set cells i (Some w)) k None ≡ None
-vacant_step cells i end w vacant k low high = get_or-set_other cells i k (Some w) None (λ e. omega (arith, e, low)) ∙ vacant k (omega arith) high
+    last
+    ∙ (ap (λ (l : List Waiter). l ++ x ∷ []) before
+    ∙ (append_assoc old (as_waiters g arrival kind (take n offers)) (x ∷ [])
+    ∙ ap (λ (l : List Waiter). old ++ l) (sym (ap (as_waiters g arrival kind) (take_more offers n d within) ∙ as_waiters_last g arrival kind (take n offers) (get_or offers n d)))))

@@ -1,7 +1,9 @@
-pub mod Filled
+pub mod Counted
 pub mod Finding
 pub mod First
 pub mod Goroutines
+pub mod Kept
+pub mod Linked
 pub mod Opened
 pub mod Ordered
 pub mod Ringed

@@ -1,50 +1,34 @@
 -- Nobody waits.
-use Rattle.std.proofs.Common.{◌≡◌, ℕ, zero, suc, ◌+◌, ◌*◌, ◌<◌, Option, None, List, [], length, get_or, replicate, refl, sym, ap, ◌∙◌, subst, arith}
+use Rattle.std.proofs.Common.{◌≡◌, ℕ, ◌+◌, ◌*◌, ◌<◌, ◌≤◌, None, List, [], get_or, ap, ◌∙◌, arith}
 use Rattle.gmp_seq.specs.declared.status.Waiter.{Waiter}
-use Rattle.gmp_chan.specs.Kept.{AreAlone, IsKept, IsInPlace, mark_at, mark_in, key_in}
-use Rattle.gmp_chan.specs.Cells.{in_order}
-use Rattle.gmp_chan.specs.Rings.{IsLinkedAt}
-use Rattle.gmp_chan.proofs.Filled.{mark_record, node_within}
+use Rattle.gmp_chan.specs.Kept.{AreRings, IsKept, chain_of, key_in, mark_at, queue_of}
+use Rattle.gmp_chan.specs.Rings.{AreAlone, IsLinkedAt}
+use Rattle.gmp_chan.proofs.Linked.{mark_record, node_within}
 
-pub in_order-empty : (n : ℕ) → in_order (replicate n None) ≡ []
-in_order-empty zero = refl
-in_order-empty (suc n) = in_order-empty n
-
-all_empty : (n i : ℕ) → get_or {A = Option Waiter} (replicate n None) i None ≡ None
-all_empty zero i = refl
-all_empty (suc n) zero = refl
-all_empty (suc n) (suc i) = all_empty n i
-
-length-empty : (n : ℕ) → length {A = Option Waiter} (replicate n None) ≡ n
-length-empty zero = refl
-length-empty (suc n) = let r = length-empty n in omega arith
-
-pub opened : (cells : List (Option Waiter)) (next prev : List ℕ) (bodies channels : ℕ) → cells ≡ replicate (8 * bodies) None → AreAlone (8 * bodies + 2 * channels) next → AreAlone (8 * bodies + 2 * channels) prev
-    → IsKept cells next prev bodies channels
-opened cells next prev bodies channels empty alone alone' = record {
-  size = ap length empty ∙ length-empty (8 * bodies);
-  next_size = alone.size;
-  prev_size = alone'.size;
-  placed = λ n. subst (IsInPlace channels n) (sym (vacant n)) tt;
-  linked = linked;
-}
+all_alone : (ring : Waiter → ℕ) (base ends : ℕ) (next prev : List ℕ) → AreAlone (base + ends) next → AreAlone (base + ends) prev → AreRings ring ends base [] next prev
+all_alone ring base ends next prev alone alone' = record { next_size = alone.size; prev_size = alone'.size; linked = linked }
   where
-    vacant : (n : ℕ) → get_or cells n None ≡ None
-    vacant n = ap (λ (l : List (Option Waiter)). get_or l n None) empty ∙ all_empty (8 * bodies) n
-
-    no_record : (k : ℕ) → k < 8 * bodies → mark_at (8 * bodies) channels k (get_or cells k None) ≡ 0
-    no_record k h = mark_record (8 * bodies) channels k (get_or cells k None) h ∙ ap (mark_in (8 * bodies)) (vacant k)
-
-    linked : (n : ℕ) → 0 < mark_at (8 * bodies) channels n (get_or cells n None)
-        → IsLinkedAt (8 * bodies) (λ k. mark_at (8 * bodies) channels k (get_or cells k None)) (λ k. key_in (8 * bodies) k (get_or cells k None)) (λ k. get_or next k 0) (λ k. get_or prev k 0) n
+    linked : (n : ℕ) → 0 < mark_at ring base ends n (get_or [] n None)
+        → IsLinkedAt base (λ k. mark_at ring base ends k (get_or [] k None)) (λ k. key_in (get_or [] k None)) (λ k. get_or next k 0) (λ k. get_or prev k 0) n
     linked n live =
-        let within = node_within (8 * bodies) channels n (get_or cells n None) live in
+        let within = node_within ring base ends n (get_or [] n None) live in
         let on : get_or next n 0 ≡ n = alone.same n within in
         let back : get_or prev n 0 ≡ n = alone'.same n within in
         record {
-          onward = ap (λ k. mark_at (8 * bodies) channels k (get_or cells k None)) on;
-          back = ap (λ k. mark_at (8 * bodies) channels k (get_or cells k None)) back;
+          onward = ap (λ k. mark_at ring base ends k (get_or [] k None)) on;
+          back = ap (λ k. mark_at ring base ends k (get_or [] k None)) back;
           there = ap (λ k. get_or prev k 0) on ∙ back;
           here = ap (λ k. get_or next k 0) back ∙ on;
-          none = λ k h same _ _. omega (arith, no_record k h, same, live);
+          none = λ k h same _ _. omega (arith, mark_record ring base ends k None h, same, live);
         }
+
+pub opened : (base : ℕ) (next prev own_next own_prev : List ℕ) (bodies channels : ℕ) → 8 * bodies ≤ base → AreAlone (base + 2 * channels) next → AreAlone (base + 2 * channels) prev
+    → AreAlone (base + bodies) own_next → AreAlone (base + bodies) own_prev → IsKept [] base next prev own_next own_prev bodies channels
+opened base next prev own_next own_prev bodies channels room alone alone' own own' = record {
+  room = room;
+  placed = λ n w is. absurd cc;
+  apart = λ n k w x is is' same. absurd cc;
+  few = λ g. omega arith;
+  queues = all_alone queue_of base (2 * channels) next prev alone alone';
+  chains = all_alone chain_of base bodies own_next own_prev own own';
+}

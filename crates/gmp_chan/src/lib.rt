@@ -1,13 +1,14 @@
 //! The channels, and those who wait on them.
 //!
 //! What a call costs does not grow with those who wait: a send, a receive, `can` and `first_waiting` look at who waits first on the channel,
-//! `wait_on` links each offer behind the last one, and `is_waiting` and a withdrawal look at the goroutine's own 8 cells. `is_later` alone,
-//! which tests what `wait_on` requires, looks at all cells. Only the opening and `make` take memory.
+//! `wait_on` links each offer behind the last one, `is_waiting` looks at the goroutine's first offer, and a withdrawal unlinks the goroutine's
+//! own. `is_later` alone, which tests what `wait_on` requires, looks at all slots. Only the opening and `make` take memory.
 #![tactic(auto)]
 
 mod cases;
 mod channel;
 mod channels;
+mod rings;
 mod waiters;
 
 pub use cases::cases_rise;

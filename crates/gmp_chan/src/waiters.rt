@@ -1,29 +1,32 @@
-//! Who waits on channels: each offer in a cell of its goroutine, linked with the others of its channel and direction.
-ghost use Rattle.std.specs.Prelude.{◌≡◌, ◌≤◌, ◌<◌, ◌+◌, ◌*◌, ◌++◌, [], true, None, Some, count_by, find, nat_lt, set, get_or, IfSome, IfNone, IfOk};
-ghost use Rattle.std.specs.List.{list_all};
+//! Who waits on channels: each offer is a record of a slab, linked with the others of its channel and direction, and with those of its goroutine.
+ghost use Rattle.std.specs.Prelude.{◌≡◌, ◌≤◌, ◌<◌, ◌+◌, ◌*◌, ◌++◌, [], ◌∷◌, true, None, Some, IsSome, count_by, find, nat_lt, set, get_or, IfSome, IfNone, IfOk};
 ghost use Rattle.gmp_seq.specs.declared.status.Waiter.{Waiter};
 ghost use Rattle.gmp_seq.specs.Waits.{as_waiters, first_on, is_on};
-ghost use Rattle.gmp_chan.specs.Cells.{IsFirstAt, IsLast, IsNowhere, earlier_of, in_order, vacant_or};
 ghost use Rattle.gmp_chan.specs.Contents.{is_of, without};
-ghost use Rattle.gmp_chan.specs.Kept.{AreAlone, AreBelow, IsKept, end_of, mark_at};
-ghost use Rattle.gmp_chan.specs.Order.{is_at, is_later};
+ghost use Rattle.gmp_chan.specs.Kept.{AreBelow, end_of};
+ghost use Rattle.gmp_chan.specs.Order.{is_at, is_later, rise};
+ghost use Rattle.gmp_chan.specs.Slots.{IsFirst, IsLast, IsNowhere, IsThere, earlier_of, in_order};
+ghost use Rattle.gmp_chan.specs.Stored.{IsStored};
 ghost use Rattle.gmp_chan.specs.Waiting.{Waiting};
+ghost use Rattle.slab.specs.Slab.{slab_len};
 
+use crate::rings::Rings;
 use gmp_base::{CNo, GNo};
 use gmp_seq::{Direction, Kind, Offers, Waiter};
+use slab::Slab;
 use std::alloc::{AllocError, Global};
 use std::marker::Model;
 
 /// How many offers a goroutine may have.
 const OFFERS: usize = 8;
 
-/// The cells, 8 for each goroutine, and their links. Nodes are the cells, and then two ends for each channel: the ring of an end has the
-/// offers on that channel in that direction, in order.
+/// The records, and their links by key. Nodes are the slab's slots, and then the ends: of the queues two for each channel, and of the
+/// chains one for each goroutine. A queue has the offers on a channel in a direction, in order, and a chain those of a goroutine.
 #[derive(Drop)]
 struct Store {
-    cells: Vec<Option<Waiter>>,
-    next: Vec<usize>,
-    prev: Vec<usize>,
+    records: Slab<Waiter>,
+    queues: Rings,
+    chains: Rings,
     bodies: u16,
     channels: u16,
 }
@@ -38,82 +41,84 @@ fn end_of(c: CNo, direction: Direction) -> usize
         }
 }
 
-/// What is in cell i, if there is such a cell.
-fn cell_at(cells: &[Option<Waiter>], i: usize) -> Option<Waiter>
-    ensures { result ≡ get_or cells.now i None }
-{
-    if i < cells.len() { cells[i] } else { None }
-}
-
 impl Store {
-    /// Empties cell i, and links its neighbours.
-    fn empty(&mut self, i: usize)
-        requires kept { IsKept self.old.cells.items self.old.next.items self.old.prev.items self.old.bodies self.old.channels }
-        requires cell { i < 8 * self.old.bodies }
-        requires filled { 0 < mark_at (8 * self.old.bodies) self.old.channels i (get_or self.old.cells.items i None) }
-        ensures kept { IsKept self.new.cells.items self.new.next.items self.new.prev.items self.new.bodies self.new.channels }
-        ensures cells { self.new.cells.items ≡ set self.old.cells.items i None }
+    /// Removes the record under this key, and links its neighbours.
+    fn take_out(&mut self, key: usize)
+        requires kept { IsStored self.old }
+        requires there { IsSome (get_or self.old.records.slots key None) }
+        ensures kept { IsStored self.new }
+        ensures slots { self.new.records.slots ≡ set self.old.records.slots key None }
+        ensures len { slab_len self.new.records + 1 ≡ slab_len self.old.records }
         ensures bodies { self.new.bodies ≡ self.old.bodies }
         ensures channels { self.new.channels ≡ self.old.channels }
     {
-        let after = self.next[i];
-        let before = self.prev[i];
-        self.next[before] = after;
-        self.prev[after] = before;
-        self.cells[i] = None;
+        self.queues.unlink(key);
+        self.chains.unlink(key);
+        let _ = self.records.remove(key);
     }
 
-    /// Puts a waiter into cell i, and links it last in its ring.
-    fn fill(&mut self, i: usize, w: Waiter)
-        requires kept { IsKept self.old.cells.items self.old.next.items self.old.prev.items self.old.bodies self.old.channels }
-        requires low { 8 * w.g.0 ≤ i }
-        requires high { i < 8 * w.g.0 + 8 }
+    /// Puts in a record, last in its queue and in its chain.
+    fn put_in(&mut self, w: Waiter)
+        requires kept { IsStored self.old }
         requires known { w.g.0 < self.old.bodies }
         requires made { w.offer.channel.0 < self.old.channels }
-        requires vacant { get_or self.old.cells.items i None ≡ None }
-        requires last { IsLast self.old.cells.items i w }
-        ensures kept { IsKept self.new.cells.items self.new.next.items self.new.prev.items self.new.bodies self.new.channels }
-        ensures cells { self.new.cells.items ≡ set self.old.cells.items i (Some w) }
+        requires last { IsLast self.old.records.slots w }
+        requires few { count_by (is_of w.g) (in_order self.old.records.slots) < 8 }
+        ensures kept { IsStored self.new }
+        ensures list { in_order self.new.records.slots ≡ in_order self.old.records.slots ++ w ∷ [] }
         ensures bodies { self.new.bodies ≡ self.old.bodies }
         ensures channels { self.new.channels ≡ self.old.channels }
     {
-        let end = OFFERS * self.bodies as usize + end_of(w.offer.channel, w.offer.deal.direction());
-        let last = self.prev[end];
-        self.next[last] = i;
-        self.next[i] = end;
-        self.prev[i] = last;
-        self.prev[end] = i;
-        self.cells[i] = Some(w);
+        let base = self.records.capacity();
+        let queue = base + end_of(w.offer.channel, w.offer.deal.direction());
+        let chain = base + w.g.0 as usize;
+        let key = self.records.insert_reserved(w);
+        self.queues.link_last(key, queue);
+        self.chains.link_last(key, chain);
     }
 
-    /// The cell of the first that waits on the channel in this direction, and who that is.
-    fn first_cell(&self, c: CNo, direction: Direction) -> Option<(usize, Waiter)>
-        requires { IsKept self.now.cells.items self.now.next.items self.now.prev.items self.now.bodies self.now.channels }
-        ensures some { IfSome result (λ r. IsFirstAt (is_on c direction) self.now.cells.items r.0 r.1) }
-        ensures none { IfNone result (IsNowhere (is_on c direction) self.now.cells.items) }
+    /// Who is first in the queue of the channel in this direction.
+    fn first_in_queue(&self, c: CNo, direction: Direction) -> Option<Waiter>
+        requires { IsStored self.now }
+        ensures some { IfSome result (λ w. IsFirst (is_on c direction) self.now.records.slots w) }
+        ensures none { IfNone result (IsNowhere (is_on c direction) self.now.records.slots) }
     {
         if c.0 >= self.channels {
             return None;
         }
-        let end = OFFERS * self.bodies as usize + end_of(c, direction);
-        let i = self.next[end];
-        match cell_at(&self.cells, i) {
-            Some(w) => Some((i, w)),
+        let end = self.records.capacity() + end_of(c, direction);
+        let key = self.queues.first(end);
+        self.records.get(key).copied()
+    }
+
+    /// The key of the first in the chain of goroutine g.
+    fn first_in_chain(&self, g: GNo) -> Option<usize>
+        requires { IsStored self.now }
+        ensures some { IfSome result (λ key. IsThere (is_of g) self.now.records.slots key) }
+        ensures none { IfNone result (IsNowhere (is_of g) self.now.records.slots) }
+    {
+        if g.0 >= self.bodies {
+            return None;
+        }
+        let end = self.records.capacity() + g.0 as usize;
+        let key = self.chains.first(end);
+        match self.records.get(key) {
+            Some(_) => Some(key),
             None => None,
         }
     }
 }
 
-/// The earlier of two in cells, by arrival, and then by cell.
-fn earlier(a: Option<(usize, Waiter)>, b: Option<(usize, Waiter)>) -> Option<Waiter>
+/// The earlier of two, by arrival, and then by case.
+fn earlier(a: Option<Waiter>, b: Option<Waiter>) -> Option<Waiter>
     ensures { result ≡ earlier_of a b }
 {
     match (a, b) {
         (None, None) => None,
-        (Some((_, v)), None) => Some(v),
-        (None, Some((_, w))) => Some(w),
-        (Some((i, v)), Some((j, w))) => {
-            if v.arrival < w.arrival || (v.arrival == w.arrival && i < j) {
+        (Some(v), None) => Some(v),
+        (None, Some(w)) => Some(w),
+        (Some(v), Some(w)) => {
+            if v.arrival < w.arrival || (v.arrival == w.arrival && v.offer.case < w.offer.case) {
                 Some(v)
             } else {
                 Some(w)
@@ -129,36 +134,15 @@ pub(crate) struct Waiters {
 }
 
 impl Model for Waiters {
-    ghost use Rattle.gmp_chan.specs.Cells.{in_order};
-    ghost use Rattle.gmp_chan.specs.Kept.{IsKept};
+    ghost use Rattle.gmp_chan.specs.Slots.{in_order};
+    ghost use Rattle.gmp_chan.specs.Stored.{IsStored};
     ghost use Rattle.gmp_chan.specs.Waiting.{Waiting};
 
     ghost Value = { Waiting };
 
-    ghost view = { λ w. record { list = in_order w.store.cells.items; bodies = w.store.bodies; channels = w.store.channels } };
+    ghost view = { λ w. record { list = in_order w.store.records.slots; bodies = w.store.bodies; channels = w.store.channels } };
 
-    ghost invariant = { λ w. IsKept w.store.cells.items w.store.next.items w.store.prev.items w.store.bodies w.store.channels };
-}
-
-/// Nodes that are each linked with themselves.
-fn alone(alloc: Global, nodes: usize) -> Result<Vec<usize>, AllocError>
-    ensures { IfOk result (λ links. AreAlone nodes links.items) }
-{
-    let mut links = Vec::with_capacity(alloc, nodes)?;
-    for n in 0..nodes {
-        links.push_reserved(n);
-    }
-    Ok(links)
-}
-
-/// Whether all in these cells arrived before.
-fn all_before(cells: &[Option<Waiter>], arrival: u64) -> bool
-    ensures { result ≡ list_all (vacant_or (λ w. nat_lt w.arrival arrival)) cells.now }
-{
-    cells.iter().all(|cell| match cell {
-        Some(w) => w.arrival < arrival,
-        None => true,
-    })
+    ghost invariant = { λ w. IsStored w.store };
 }
 
 impl Waiters {
@@ -166,16 +150,15 @@ impl Waiters {
     pub(crate) fn open(alloc: Global, bodies: u16, channels: u16) -> Result<Self, AllocError>
         ensures { IfOk result (λ w. w ≡ record { list = []; bodies = bodies; channels = channels }) }
     {
-        let base = OFFERS * bodies as usize;
-        let nodes = base + 2 * channels as usize;
-        let cells = vec![in alloc; None; base]?;
-        let next = alone(alloc, nodes)?;
-        let prev = alone(alloc, nodes)?;
+        let records = Slab::with_capacity(alloc, OFFERS * bodies as usize)?;
+        let base = records.capacity();
+        let queues = Rings::open(alloc, base, 2 * channels as usize)?;
+        let chains = Rings::open(alloc, base, bodies as usize)?;
         Ok(Waiters {
             store: Store {
-                cells,
-                next,
-                prev,
+                records,
+                queues,
+                chains,
                 bodies,
                 channels,
             },
@@ -186,18 +169,15 @@ impl Waiters {
     pub(crate) fn first_on(&self, c: CNo, direction: Direction) -> Option<Waiter>
         ensures { result ≡ first_on self.now.list c direction }
     {
-        match self.store.first_cell(c, direction) {
-            Some((_, w)) => Some(w),
-            None => None,
-        }
+        self.store.first_in_queue(c, direction)
     }
 
     /// Who waits first on the channel, in either direction.
     pub(crate) fn first_at(&self, c: CNo) -> Option<Waiter>
         ensures { result ≡ find (is_at c) self.now.list }
     {
-        let sender = self.store.first_cell(c, Direction::Sending);
-        let receiver = self.store.first_cell(c, Direction::Receiving);
+        let sender = self.store.first_in_queue(c, Direction::Sending);
+        let receiver = self.store.first_in_queue(c, Direction::Receiving);
         earlier(sender, receiver)
     }
 
@@ -212,16 +192,18 @@ impl Waiters {
     pub(crate) fn has(&self, g: GNo) -> bool
         ensures { result ≡ nat_lt 0 (count_by (is_of g) self.now.list) }
     {
-        let cells = &self.store.cells;
-        let first = OFFERS * g.0 as usize;
-        (first..first + OFFERS).any(|i| cell_at(cells, i).is_some())
+        self.store.first_in_chain(g).is_some()
     }
 
-    /// Whether this arrival is later than all. It looks at all cells.
+    /// Whether this arrival is later than all. It looks at all records.
     pub(crate) fn is_later(&self, arrival: u64) -> bool
         ensures { result ≡ is_later arrival self.now.list }
     {
-        all_before(&self.store.cells, arrival)
+        let records = &self.store.records;
+        (0..records.capacity()).all(|key| match records.get(key) {
+            Some(w) => w.arrival < arrival,
+            None => true,
+        })
     }
 
     /// Goroutine g begins to wait.
@@ -229,23 +211,19 @@ impl Waiters {
         requires known { g.0 < self.old.bodies }
         requires fresh { count_by (is_of g) self.old.list ≡ 0 }
         requires later { is_later arrival self.old.list ≡ true }
+        requires rising { rise offers.now ≡ true }
         requires made { AreBelow self.old.channels offers.now }
         ensures list { self.new.list ≡ self.old.list ++ as_waiters g arrival kind offers.now }
         ensures bodies { self.new.bodies ≡ self.old.bodies }
         ensures channels { self.new.channels ≡ self.old.channels }
     {
-        let mut i = OFFERS * g.0 as usize;
         for offer in offers.as_slice() {
-            self.store.fill(
-                i,
-                Waiter {
-                    g,
-                    arrival,
-                    kind,
-                    offer: *offer,
-                },
-            );
-            i += 1;
+            self.store.put_in(Waiter {
+                g,
+                arrival,
+                kind,
+                offer: *offer,
+            });
         }
     }
 
@@ -255,11 +233,8 @@ impl Waiters {
         ensures bodies { self.new.bodies ≡ self.old.bodies }
         ensures channels { self.new.channels ≡ self.old.channels }
     {
-        for j in 0..OFFERS {
-            let i = OFFERS * g.0 as usize + j;
-            if cell_at(&self.store.cells, i).is_some() {
-                self.store.empty(i);
-            }
+        while let Some(key) = self.store.first_in_chain(g) {
+            self.store.take_out(key);
         }
     }
 }

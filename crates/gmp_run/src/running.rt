@@ -203,6 +203,7 @@ fn gather<L: RunLedger, R: Wait>(
     machines: u8,
 ) -> Vec<PassLog>
     requires empty { room.items ≡ [] }
+    requires room { machines ≤ vec_capacity room }
     requires parts { all.old.parts ≡ 0 }
     requires amount { all.old.amount ≡ 0 }
     ensures parts { all.new.parts ≡ machines }
@@ -216,10 +217,10 @@ fn gather<L: RunLedger, R: Wait>(
             hang(rt)
         };
         let (log, share) = machine.into_log();
-        if usize::from(log.m.0) != logs.len() {
+        if usize::from(log.m.0) != logs.len() || log.m.0 >= machines {
             hang(rt);
         }
-        let Ok(()) = logs.push(log) else { hang(rt) };
+        logs.push_reserved(log);
         all.merge(share);
     }
     seats.destroy_empty();

@@ -87,6 +87,11 @@ pub(crate) fn worker<T: Runs, R: Wait, C: Clock, G: Gate, L: RunLedger>(
     let mut over = false;
     for _ in rt.forever() {
         let act = machine.driver.next();
+        // Where the run is over, surrenders come next, and then nothing.
+        if !over && matches!(act, Act::Surrender(_) | Act::Nothing) {
+            over = true;
+            floor.wake_all();
+        }
         floor.gate.before(machine.m, &act);
         match act {
             Act::Nothing => break,
@@ -97,13 +102,7 @@ pub(crate) fn worker<T: Runs, R: Wait, C: Clock, G: Gate, L: RunLedger>(
                 }
                 floor.at_book(rt, alloc, &mut machine);
             }
-            Act::Surrender(_) => {
-                if !over {
-                    over = true;
-                    floor.wake_all();
-                }
-                floor.at_book(rt, alloc, &mut machine);
-            }
+            Act::Surrender(_) => floor.at_book(rt, alloc, &mut machine),
             Act::Pop | Act::Push => machine.queue_turn(),
             Act::Hunt | Act::Steal(_) => {
                 machine.queue_turn();

@@ -4,7 +4,7 @@ use crossbeam_utils::Backoff;
 use gmp_base::{Ask, Body, GNo, MNo, Woke};
 use gmp_driver::Act;
 use gmp_run::{Clock, Gate, run};
-use gmp_seq::{Limits, Outcome};
+use gmp_seq::{Call, Limits, Outcome};
 use gmp_worker::{Boxed, audit};
 use std::alloc::Global;
 use std::sync::Arc;
@@ -27,10 +27,10 @@ fn is_seen(flag: &Flag) -> bool {
     false
 }
 
-/// Starts the other body if it is main, sets its own flag and waits for the other's.
+/// Starts the other body if it is main, once its flag is set; then sets its own flag and waits for the other's.
 #[derive(Drop)]
 struct Meets {
-    starts: bool,
+    starts: Option<Flag>,
     ends: bool,
     own: Flag,
     other: Flag,
@@ -43,8 +43,8 @@ impl Body for Meets {
     ghost blocked = { λ _ _ _. Unit {0} };
 
     fn resume(&mut self, _woke: Woke) -> Ask {
-        if self.starts {
-            self.starts = false;
+        if let Some(flag) = self.starts.take() {
+            let _ = is_seen(&flag);
             return Ask::Go(GNo(1));
         }
         if !self.ends {
@@ -74,6 +74,20 @@ impl Gate for Hold {
     }
 }
 
+/// Sets the flag once machine 1 is parked.
+#[derive(Drop)]
+struct Parked {
+    flag: Flag,
+}
+
+impl Gate for Parked {
+    fn before(&self, m: MNo, act: &Act) {
+        if m == MNo(1) && matches!(act, Act::Call(Call::Woken)) {
+            self.flag.store(true, Ordering::SeqCst);
+        }
+    }
+}
+
 /// A clock that stands still.
 pub(crate) struct Stopped;
 
@@ -89,25 +103,24 @@ fn flag(alloc: Global) -> Result<Flag, Fail> {
     Ok(Arc::new(alloc, AtomicBool::new(false))?)
 }
 
-#[test]
-fn two_at_once(rt: HostRuntime) -> Result<(), Fail> {
+/// Runs main, which sets `a` and starts the other once `starts` is set, and the other, by two machines; each has to see the other's flag.
+fn meet<G: Gate + Sync>(rt: &HostRuntime, starts: Flag, a: Flag, gate: &G) -> Result<(), Fail> {
     let alloc = rt.alloc();
-    let a = flag(alloc)?;
     let b = flag(alloc)?;
     let main_met = flag(alloc)?;
     let other_met = flag(alloc)?;
     let main = Meets {
-        starts: true,
+        starts: Some(starts),
         ends: false,
         own: Arc::try_clone(&a)?,
         other: Arc::try_clone(&b)?,
         met: Arc::try_clone(&main_met)?,
     };
     let other = Meets {
-        starts: false,
+        starts: None,
         ends: false,
         own: b,
-        other: Arc::try_clone(&a)?,
+        other: a,
         met: Arc::try_clone(&other_met)?,
     };
     let mut bodies: Vec<Boxed> = Vec::new(alloc);
@@ -119,8 +132,7 @@ fn two_at_once(rt: HostRuntime) -> Result<(), Fail> {
         channels: 0,
         entries: 10_000,
     };
-    let gate = Hold { flag: a };
-    let ran = run(&rt, alloc, 0, limits, &[], bodies, &Stopped, &gate, 0);
+    let ran = run(rt, alloc, 0, limits, &[], bodies, &Stopped, gate, 0);
     let report = ran.ok().ok_or("not run")?;
     assert_eq!(rt; report.started, 2);
     assert!(rt; main_met.load(Ordering::SeqCst));
@@ -128,4 +140,25 @@ fn two_at_once(rt: HostRuntime) -> Result<(), Fail> {
     assert!(rt; audit(&report.history, &report.logs).is_ok());
     assert!(rt; report.outcome == Outcome::MainEnded);
     Ok(())
+}
+
+#[test]
+fn two_at_once(rt: HostRuntime) -> Result<(), Fail> {
+    let at_once = flag(rt.alloc())?;
+    at_once.store(true, Ordering::SeqCst);
+    let a = flag(rt.alloc())?;
+    let gate = Hold {
+        flag: Arc::try_clone(&a)?,
+    };
+    meet(&rt, at_once, a, &gate)
+}
+
+/// The other body runs only where machine 1 is woken, since main holds machine 0.
+#[test]
+fn a_parked_machine_is_woken(rt: HostRuntime) -> Result<(), Fail> {
+    let parked = flag(rt.alloc())?;
+    let gate = Parked {
+        flag: Arc::try_clone(&parked)?,
+    };
+    meet(&rt, parked, flag(rt.alloc())?, &gate)
 }

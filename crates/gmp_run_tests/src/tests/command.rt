@@ -14,6 +14,8 @@ use std::test::*;
 /// goes to standard output and then to standard error, its lines parted by `/`; else it is a trace that passes.
 type Row = (&'static str, &'static str, u8, Option<&'static str>);
 
+const YIELDS: &str = "body/yield/exit";
+
 const ALONE: &str = "chan 0/body/recv 0";
 
 const CHANNEL: &str =
@@ -143,7 +145,7 @@ fn wrong_logs_are_found(rt: HostRuntime) -> Result<(), Fail> {
     let alloc = rt.alloc();
     let settings = settings_of(alloc, "gmp run")?;
     for (calls, said) in LOGS {
-        let input = lines(alloc, ALONE)?;
+        let input = lines(alloc, YIELDS)?;
         let script = script(alloc, &mut input.as_slice())
             .ok()
             .ok_or("the script")?;
@@ -152,7 +154,7 @@ fn wrong_logs_are_found(rt: HostRuntime) -> Result<(), Fail> {
             bodies.push(Box::new(alloc, body)?)?;
         }
         let limits = settings.limits();
-        let ran = gmp_run::run(&rt, alloc, 0, limits, &[0], bodies, &Stopped, &Open, 0);
+        let ran = gmp_run::run(&rt, alloc, 0, limits, &[], bodies, &Stopped, &Open, 0);
         let mut report = ran.ok().ok_or("not run")?;
         let m = MNo(0);
         report.logs.clear();
@@ -162,7 +164,7 @@ fn wrong_logs_are_found(rt: HostRuntime) -> Result<(), Fail> {
         let found = audit(&report.history, &report.logs);
         assert_eq!(rt; found, Err(Mismatch { m, said, found: 7 }));
         let mut output = Vec::new(alloc);
-        let ended = told(alloc, &settings, &[0], Ok(report), &mut output);
+        let ended = told(alloc, &settings, &[], Ok(report), &mut output);
         assert_eq!(rt; ended.status, 6);
         let said = ended.said;
         assert_eq!(rt;

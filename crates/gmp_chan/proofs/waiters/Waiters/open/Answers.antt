@@ -1,15 +1,10 @@
-use Rattle.std.proofs.Common.{rules, ◌≡◌, ◌*◌, [], ap, ◌∙◌}
-use Rattle.gmp_chan.specs.Cells.{in_order}
-use Rattle.gmp_chan.proofs.Opened.{in_order-empty, opened}
+use Rattle.std.proofs.Common.{arith}
+use Rattle.gmp_chan.proofs.Opened.{opened}
 use Rattle.gmp_chan.proofs.waiters.Waiters.open.Goals as goal
 
 pub invariant_of-result : goal.invariant_of-result
 invariant_of-result c =
-    let empty = c.in_ok-cells.ensures.items_if_clones_equal (λ y h. search (rules, h)) in
-    opened c.in_ok-cells.cells.items _ _ c.args.bodies c.args.channels empty c.in_ok-next.ensures c.in_ok-prev.ensures
-
-pub returns : goal.returns
-returns c =
-    let empty = c.in_ok-cells.ensures.items_if_clones_equal (λ y h. search (rules, h)) in
-    let none : in_order c.in_ok-cells.cells.items ≡ [] = ap in_order empty ∙ in_order-empty (8 * c.args.bodies) in
-    ap (λ l. record { list = l; bodies = c.args.bodies; channels = c.args.channels }) none
+    let base = c.capacity-base.ensures.value in
+    rw (c.in_ok-records.ensures.empty, ← base)
+    (opened c.capacity-base.result c.in_ok-queues.queues.next.items c.in_ok-queues.queues.prev.items c.in_ok-chains.chains.next.items c.in_ok-chains.chains.prev.items c.args.bodies c.args.channels
+    (omega (arith, base, c.in_ok-records.ensures.capacity)) c.in_ok-queues.ensures.next c.in_ok-queues.ensures.prev c.in_ok-chains.ensures.next c.in_ok-chains.ensures.prev)

@@ -1,13 +1,17 @@
-use Rattle.std.proofs.Common.{◌≡◌, ◌+◌, ◌*◌, ◌<◌, ◌≤◌, ℕ, None, get_or}
-use Rattle.gmp_chan.specs.Kept.{IsKept}
+use Rattle.std.proofs.Common.{◌≡◌}
+use Rattle.slab.specs.Slab.{slab_len}
+use Rattle.gmp_chan.specs.Stored.{IsStored}
+use Rattle.gmp_chan.proofs.Goroutines.{HasLost}
 use Rattle.gmp_chan.proofs.waiters.Waiters.withdraw.Given as goal
 
--- the first j cells of the goroutine are empty, and the others are as they were
-abbrev pub invariant-loop-j : goal.invariant-loop-j
-invariant-loop-j l = record {
-  kept : IsKept l.self-inside.store.cells.items l.self-inside.store.next.items l.self-inside.store.prev.items l.self-inside.store.bodies l.self-inside.store.channels;
-  gone : (k : ℕ) → 8 * l.fn.g.0 ≤ k → k < 8 * l.fn.g.0 + l.j → get_or l.self-inside.store.cells.items k None ≡ None;
-  rest : (k : ℕ) → (8 * l.fn.g.0 ≤ k → 8 * l.fn.g.0 + l.j ≤ k) → get_or l.self-inside.store.cells.items k None ≡ get_or l.initial.self-inside.store.cells.items k None;
+-- some of the goroutine's offers are gone, and all others are left
+abbrev pub invariant-loop-key : goal.invariant-loop-key
+invariant-loop-key l = record {
+  kept : IsStored l.self-inside.store;
+  lost : HasLost l.fn.g l.initial.self-inside.store.records.slots l.self-inside.store.records.slots;
   bodies : l.self-inside.store.bodies ≡ l.initial.self-inside.store.bodies;
   channels : l.self-inside.store.channels ≡ l.initial.self-inside.store.channels;
 }
+
+abbrev pub decreases-loop-key : goal.decreases-loop-key
+decreases-loop-key l = slab_len l.self-inside.store.records

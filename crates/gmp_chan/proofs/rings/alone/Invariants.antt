@@ -1,6 +1,6 @@
 use Rattle.std.proofs.Common.{◌≤◌, vec_capacity}
-use Rattle.gmp_chan.specs.Kept.{AreAlone}
-use Rattle.gmp_chan.proofs.waiters.alone.Given as goal
+use Rattle.gmp_chan.specs.Rings.{AreAlone}
+use Rattle.gmp_chan.proofs.rings.alone.Given as goal
 
 abbrev pub invariant-loop-n : goal.invariant-loop-n
 invariant-loop-n l = record {
