@@ -6,7 +6,7 @@
 //!   status table, an end of the shelf, a place of bodies, one entry.
 //! - `acquire`, `declare`, `declare_bare`, `spin`, `unspin`, `poke`, `woken` are constant: a mask of processors or of machines, one entry;
 //!   `is_parked` is, without one.
-//! - `send`, `recv` and each case of a `select` are constant: who waits first on the channel, the 8 cells of a goroutine that is served, and
+//! - `send`, `recv` and each case of a `select` are constant: who waits first on the channel, the offers of a goroutine that is served, and
 //!   no row but those of the two.
 //! - `sleep`, and a `select` that waits until a moment, find the place of their deadline by halves, and move those that are sooner; so does
 //!   the end of such a wait.
