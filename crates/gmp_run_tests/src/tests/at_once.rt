@@ -7,9 +7,11 @@ use gmp_run::{Clock, Gate, run};
 use gmp_seq::{Call, Limits, Outcome};
 use gmp_worker::{Boxed, audit};
 use std::alloc::Global;
-use std::sync::Arc;
+use std::process::Abort;
 use std::sync::atomic::{AtomicBool, Ordering};
+use std::sync::{Arc, Wait};
 use std::test::*;
+use std::thread::Threads;
 
 const TURNS: u32 = 10_000_000;
 
@@ -104,8 +106,13 @@ fn flag(alloc: Global) -> Result<Flag, Fail> {
 }
 
 /// Runs main, which sets `a` and starts the other once `starts` is set, and the other, by two machines; each has to see the other's flag.
-fn meet<G: Gate + Sync>(rt: &HostRuntime, starts: Flag, a: Flag, gate: &G) -> Result<(), Fail> {
-    let alloc = rt.alloc();
+fn meet<R: Threads + Wait + Abort + Sync, G: Gate + Sync>(
+    rt: &R,
+    alloc: Global,
+    starts: Flag,
+    a: Flag,
+    gate: &G,
+) -> Result<(), Fail> {
     let b = flag(alloc)?;
     let main_met = flag(alloc)?;
     let other_met = flag(alloc)?;
@@ -150,7 +157,7 @@ fn two_at_once(rt: HostRuntime) -> Result<(), Fail> {
     let gate = Hold {
         flag: Arc::try_clone(&a)?,
     };
-    meet(&rt, at_once, a, &gate)
+    meet(&rt, rt.alloc(), at_once, a, &gate)
 }
 
 /// The other body runs only where machine 1 is woken, since main holds machine 0.
@@ -160,5 +167,5 @@ fn a_parked_machine_is_woken(rt: HostRuntime) -> Result<(), Fail> {
     let gate = Parked {
         flag: Arc::try_clone(&parked)?,
     };
-    meet(&rt, parked, flag(rt.alloc())?, &gate)
+    meet(&rt, rt.alloc(), parked, flag(rt.alloc())?, &gate)
 }
