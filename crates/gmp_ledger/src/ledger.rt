@@ -16,12 +16,9 @@ ghost use Rattle.gmp_seq.specs.Laws.{IsInOrder};
 ghost use Rattle.gmp_ledger.specs.Log.{Records, entries_made, opening_log};
 ghost use Rattle.gmp_ledger.specs.Refusals.{IsAllowed, IsCurrent, Says, first_refusal, is_foreign, refusal_in, refusal_of, turn_lines};
 
-use crate::counts::Counts;
 use crate::handed::Handed;
 use crate::scheduler::Scheduler;
 use gmp_base::{MNo, Pass, Readiness, Refusal, Woke};
-use gmp_goroutines::Goroutines;
-use gmp_idle::Machines;
 use gmp_seq::{Call, Entry, Limits, Outcome, Reply};
 use std::alloc::{AllocError, Global};
 use std::marker::Model;
@@ -65,13 +62,7 @@ impl Ledger {
         requires { AreLimits limits bodies capacities.items }
         ensures { IfOk result (λ l. l ≡ opening_log run limits bodies capacities.items) }
     {
-        let (machines, channels) = (limits.machines, limits.channels);
-        let scheduler = Scheduler {
-            goroutines: Goroutines::open(alloc, machines, channels, bodies, &capacities)?,
-            machines: Machines::opening(alloc, limits.procs, machines)?,
-            counts: Counts::none(alloc, machines)?,
-            outcome: None,
-        };
+        let scheduler = Scheduler::open(alloc, limits, bodies, &capacities)?;
         let entries = Vec::with_capacity(alloc, limits.entries as usize)?;
         Ok(Ledger {
             run,

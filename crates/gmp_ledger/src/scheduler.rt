@@ -1,16 +1,18 @@
 //! Goroutines, channels and machines together: the effect of each call on them.
-ghost use Rattle.std.specs.Prelude.{◌≡◌, ℕ, ◌+◌, ◌<◌, ◌^◌, List, Option, Some, length, slice_get, sum, IfOk, OnErr};
+ghost use Rattle.std.specs.Prelude.{◌≡◌, ℕ, [], ◌∷◌, ◌+◌, ◌<◌, ◌^◌, List, Option, Some, length, slice_get, sum, IfOk, OnErr};
 ghost use Rattle.gmp_seq.specs.declared.call.Call.{Call};
 ghost use Rattle.gmp_seq.specs.declared.call.Outcome.{Outcome};
 ghost use Rattle.gmp_seq.specs.declared.status.Mode.{Mode};
 ghost use Rattle.gmp_seq.specs.declared.status.Status.{Status};
+ghost use Rattle.gmp_seq.specs.Fits.{AreLimits};
 ghost use Rattle.gmp_seq.specs.Machines.{Enters, Holds, IsAwake, IsBare};
-ghost use Rattle.gmp_seq.specs.State.{SameChannels};
+ghost use Rattle.gmp_seq.specs.State.{SameChannels, opening};
 ghost use Rattle.gmp_seq.specs.Step.{Effect, Exits, OnTable, Parks, counted_one};
 ghost use Rattle.gmp_seq.specs.Table.{IsCalling, IsRunning, RunsNothing, set_status};
 ghost use Rattle.gmp_goroutines.specs.Shelf.{Shelves};
 ghost use Rattle.gmp_seq.specs.Needs.{WantsMemory};
 ghost use Rattle.gmp_ledger.specs.Grants.{Chooses, Grants, Leaves, NeedsMemory};
+ghost use Rattle.gmp_ledger.specs.Kept.{IsSized};
 ghost use Rattle.gmp_ledger.specs.Scene.{IsYoung, SameRest, state_of};
 
 mod refusing;
@@ -32,6 +34,27 @@ pub(crate) struct Scheduler {
 }
 
 impl Scheduler {
+    /// No call was made, and the first goroutine is on the shelf.
+    pub(crate) fn open(
+        alloc: Global,
+        limits: Limits,
+        bodies: u16,
+        capacities: &[u32],
+    ) -> Result<Self, AllocError>
+        requires { AreLimits limits bodies capacities.now }
+        ensures state { IfOk result (λ s. state_of s ≡ opening limits bodies capacities.now) }
+        ensures shelf { IfOk result (λ s. s.goroutines.shelf ≡ record { 0 = 0 } ∷ []) }
+        ensures sized { IfOk result (IsSized limits) }
+    {
+        let (machines, channels) = (limits.machines, limits.channels);
+        Ok(Scheduler {
+            goroutines: Goroutines::open(alloc, machines, channels, bodies, capacities)?,
+            machines: Machines::opening(alloc, limits.procs, machines)?,
+            counts: Counts::none(alloc, machines)?,
+            outcome: None,
+        })
+    }
+
     /// A call of m has its effect. g and p are a goroutine and a processor of m's, where the call is by one.
     #[inline(always)]
     pub(crate) fn effect(
