@@ -1,5 +1,5 @@
 //! `gmp_scanned N` gives N lists of drawn asks to the channels of gmp_chan, whose waiters are linked, and to channels whose waiters are one
-//! list that is scanned, and compares what comes of each ask (docs/TESTS.md).
+//! list that is scanned, and compares what comes of each ask, and after it all that both say of each channel and goroutine (docs/TESTS.md).
 //!
 //! It prints how often what came, or the first ask at which the two differ.
 #![tactic(auto)]
@@ -32,6 +32,9 @@ fn compare(alloc: Global, seed: u64, tally: &mut Tally) -> Result<(), (u32, Shor
         match pair.ask(g, &asked, draw.word()) {
             Ok(came) => tally.add(came),
             Err(short) => return Err((i, short)),
+        }
+        if let Err(short) = pair.agree() {
+            return Err((i, short));
         }
     }
     Ok(())

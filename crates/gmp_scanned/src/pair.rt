@@ -143,6 +143,31 @@ impl Pair {
         Err(Short::Differ)
     }
 
+    /// Both say the same of a channel: who waits on it first, what can proceed, how many values it holds, and whether it is closed.
+    fn agree_on(&self, c: CNo) -> Result<(), Short> {
+        self.can(Case::Send(Some(c), 0))?;
+        self.can(Case::Recv(Some(c)))?;
+        if self.linked.first_waiting(c) == self.scanned.first_waiting(c)
+            && self.linked.len(c) == self.scanned.len(c)
+            && self.linked.is_closed(c) == self.scanned.is_closed(c)
+        {
+            Ok(())
+        } else {
+            Err(Short::Differ)
+        }
+    }
+
+    /// Both say the same of every channel, and of every goroutine whether it waits.
+    pub fn agree(&self) -> Result<(), Short> {
+        for c in 0..CHANNELS {
+            self.agree_on(CNo(c))?;
+        }
+        for g in 0..BODIES {
+            self.is_waiting(GNo(g))?;
+        }
+        Ok(())
+    }
+
     /// What comes of what g asks, or, where it waits, of the end of its wait.
     pub fn ask(&mut self, g: GNo, asked: &Asked, word: u64) -> Result<Came, Short> {
         if self.is_waiting(g)? {

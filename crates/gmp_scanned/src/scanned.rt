@@ -75,6 +75,14 @@ impl Scanned {
         }
     }
 
+    /// How many values the channel holds.
+    pub fn len(&self, c: CNo) -> u64 {
+        match self.rows.get(c.0 as usize) {
+            Some(row) => row.items.len() as u64,
+            None => 0,
+        }
+    }
+
     pub fn close(&mut self, c: CNo) {
         if let Some(row) = self.rows.get_mut(c.0 as usize) {
             row.is_closed = true;

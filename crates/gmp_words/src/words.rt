@@ -77,38 +77,54 @@ const RANDOM: Numeric = Numeric {
     default: 0,
 };
 
-/// The command with the options of any run.
-fn running<'a>(alloc: Global, command: Command<'a>) -> Result<Command<'a>, AllocError> {
-    command
-        .arg(PROCS.arg(alloc))?
-        .arg(MACHINES.arg(alloc))?
-        .arg(CHANNELS.arg(alloc))?
-        .arg(ENTRIES.arg(alloc))
+/// The command with these options.
+fn with<'a>(
+    alloc: Global,
+    command: Command<'a>,
+    options: &[Numeric],
+) -> Result<Command<'a>, AllocError> {
+    let mut command = command;
+    for option in options {
+        command = command.arg(option.arg(alloc))?;
+    }
+    Ok(command)
 }
 
-fn command<'a>(alloc: Global) -> Result<Command<'a>, AllocError> {
+fn step<'a>(alloc: Global) -> Result<Command<'a>, AllocError> {
     let step = Command::new(alloc, "step").about(
         "Runs a script in one thread and prints the trace",
     );
-    let step = running(alloc, step)?
-        .arg(WORD.arg(alloc))?
-        .arg(ACTS.arg(alloc))?;
+    with(
+        alloc,
+        step,
+        &[PROCS, MACHINES, CHANNELS, ENTRIES, WORD, ACTS],
+    )
+}
+
+fn run<'a>(alloc: Global) -> Result<Command<'a>, AllocError> {
     let run = Command::new(alloc, "run").about(
         "Runs a script by machines in threads and prints the summary",
     );
-    let trace = Arg::new(alloc, "trace")
+    with(alloc, run, &[PROCS, MACHINES, CHANNELS, ENTRIES, RANDOM])?.arg(trace(alloc))
+}
+
+fn trace<'a>(alloc: Global) -> Arg<'a> {
+    Arg::new(alloc, "trace")
         .long("trace")
         .action(ArgAction::SetTrue)
-        .help("Prints the trace, and not the summary");
-    let run = running(alloc, run)?.arg(RANDOM.arg(alloc))?.arg(trace)?;
-    let check = Command::new(alloc, "check").about(
-        "Reads a trace, checks it and prints its summary",
-    );
+        .help("Prints the trace, and not the summary")
+}
+
+fn check<'a>(alloc: Global) -> Command<'a> {
+    Command::new(alloc, "check").about("Reads a trace, checks it and prints its summary")
+}
+
+fn command<'a>(alloc: Global) -> Result<Command<'a>, AllocError> {
     Command::new(alloc, "gmp")
         .subcommand_required(true)
-        .subcommand(step)?
-        .subcommand(run)?
-        .subcommand(check)
+        .subcommand(step(alloc)?)?
+        .subcommand(run(alloc)?)?
+        .subcommand(check(alloc))
 }
 
 /// What a refusal by `clap` ends with: its own text, and for help that was asked for status 0.

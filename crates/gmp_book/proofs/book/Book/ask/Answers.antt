@@ -32,3 +32,12 @@ returns-in-Ok-clause-moves g c = rw (c.of.ensures, c.parts-held.ensures) (its g 
 
 pub returns-in-Ok-clause-body : goal.returns-in-Ok-clause-body
 returns-in-Ok-clause-body g c = rw (c.of.ensures, c.parts-held.ensures) (its g c).body
+
+pub returns-in-Ok-clause-refused : goal.returns-in-Ok-clause-refused
+returns-in-Ok-clause-refused g c = rw (c.in-Ok.is, c.of-values.ensures) at c.call-values.ensures.refused
+
+pub returns-in-Err-clause-refused : goal.returns-in-Err-clause-refused
+returns-in-Err-clause-refused g c = rw (c.in-Err.is, c.of-values.ensures) at c.call-values.ensures.refused
+
+pub returns-in-Ok-clause-done : goal.returns-in-Ok-clause-done
+returns-in-Ok-clause-done g c = rw (c.in-Ok.is, c.of-values.ensures) at c.call-values.ensures.done

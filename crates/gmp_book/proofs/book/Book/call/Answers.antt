@@ -1,6 +1,8 @@
-use Rattle.std.proofs.Common.{subst}
+use Rattle.std.proofs.Common.{subst, None, Some}
+use Rattle.gmp_seq.specs.Needs.{WantsMemory}
 use Rattle.gmp_ledger.specs.Done.{Done}
 use Rattle.gmp_ledger.specs.Handed.{goroutine_in, processor_in}
+use Rattle.gmp_ledger.specs.Refusals.{Says, refusal_of}
 use Rattle.gmp_ledger.proofs.Done.{done}
 use Rattle.gmp_book.specs.Book.{BookContents}
 use Rattle.gmp_book.specs.Hands.{handed_of}
@@ -46,3 +48,15 @@ returns-after-ticket-clause-done g c =
     let p = processor_in (handed_of a.values) in
     subst (λ (b : BookContents _ _). Done a.call a.pass.now.m g p k.reply b.log.state c.call.new.self.state) c.self.view_is
     (done a.call i.ledger.limits a.pass.now.m g p k.reply i.ledger.state c.call.new.self.state k.ensures.order grants k.ensures.records.step)
+
+pub returns-in-Err-clause-refused : goal.returns-in-Err-clause-refused
+returns-in-Err-clause-refused g c =
+    let a = c.args in
+    subst (λ (b : BookContents _ _). Says (WantsMemory b.log.limits a.call b.log.state) (refusal_of b.log a.pass.now a.call (handed_of a.values)) (Some c.in-Err.why)) c.self.view_is
+    (rw c.handed-given.ensures at c.in-Err.ensures.refused)
+
+pub returns-after-ticket-clause-refused : goal.returns-after-ticket-clause-refused
+returns-after-ticket-clause-refused g c =
+    let a = c.args in
+    subst (λ (b : BookContents _ _). Says (WantsMemory b.log.limits a.call b.log.state) (refusal_of b.log a.pass.now a.call (handed_of a.values)) None) c.self.view_is
+    (rw c.handed-given.ensures at c.in-Ok.ensures.refused)

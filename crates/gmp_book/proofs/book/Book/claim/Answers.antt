@@ -9,3 +9,6 @@ pub returns-in-None-None-Some-None-Err-clause-refused : goal.returns-in-None-Non
 returns-in-None-None-Some-None-Err-clause-refused g c =
     let k = c.in-None-None-Some-None-Err in
     says_alone _ _ (rw (k.is-4, c.of-values.ensures) at c.call-values.ensures.refused)
+
+pub returns-in-Some-None-None-None-Ok-clause-refused : goal.returns-in-Some-None-None-None-Ok-clause-refused
+returns-in-Some-None-None-None-Ok-clause-refused g c = says_alone _ _ (rw (c.in-Some-None-None-None-Ok.is-4, c.of-values.ensures) at c.call-values.ensures.refused)

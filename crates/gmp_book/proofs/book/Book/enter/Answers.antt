@@ -1,5 +1,9 @@
 use Rattle.std.proofs.Common.{refl}
+use Rattle.gmp_ledger.proofs.Saying.{says_alone}
 use Rattle.gmp_book.proofs.book.Book.enter.Goals as goal
 
 pub call-values-requires-clause-suits : goal.call-values-requires-clause-suits
 call-values-requires-clause-suits g c = (c.args.held.run, c.args.held.g, c.args.proc.run, c.args.proc.p, rw c.of-values.ensures refl)
+
+pub returns-in-Some-None-None-Some-Err-clause-refused : goal.returns-in-Some-None-None-Some-Err-clause-refused
+returns-in-Some-None-None-Some-Err-clause-refused g c = says_alone _ _ (rw (c.in-Some-None-None-Some-Err.is-4, c.of-values.ensures) at c.call-values.ensures.refused)

@@ -13,3 +13,6 @@ pub returns-in-Err-clause-refused : goal.returns-in-Err-clause-refused
 returns-in-Err-clause-refused g c =
     let old = c.args.self.now.log in
     plain c.args.call old.limits old.state (refusal_of old c.args.pass.now c.args.call nothing_handed) (Some c.in-Err.why) c.requires.plain (rw (c.in-Err.is, c.of-values.ensures) at c.call-values.ensures.refused)
+
+pub returns-in-Ok-clause-done : goal.returns-in-Ok-clause-done
+returns-in-Ok-clause-done g c = rw (c.in-Ok.is, c.of-values.ensures) at c.call-values.ensures.done

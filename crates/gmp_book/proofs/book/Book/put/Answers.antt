@@ -1,5 +1,12 @@
 use Rattle.std.proofs.Common.{refl}
+use Rattle.gmp_ledger.proofs.Saying.{says_alone}
 use Rattle.gmp_book.proofs.book.Book.put.Goals as goal
 
 pub call-values-requires-clause-suits : goal.call-values-requires-clause-suits
 call-values-requires-clause-suits g c = (c.args.ticket.run, rw (c.of-values.ensures, c.readiness.ensures) refl)
+
+pub returns-in-None-None-Some-None-Err-clause-refused : goal.returns-in-None-None-Some-None-Err-clause-refused
+returns-in-None-None-Some-None-Err-clause-refused g c = says_alone _ _ (rw (c.in-None-None-Some-None-Err.is-4, c.of-values.ensures) at c.call-values.ensures.refused)
+
+pub returns-in-None-None-None-None-Ok-clause-refused : goal.returns-in-None-None-None-None-Ok-clause-refused
+returns-in-None-None-None-None-Ok-clause-refused g c = says_alone _ _ (rw (c.in-None-None-None-None-Ok.is-4, c.of-values.ensures) at c.call-values.ensures.refused)
