@@ -65,9 +65,7 @@ impl Channel {
         requires { length self.old.items < self.old.capacity }
         ensures { self.new ≡ record self.old { items = self.old.items ++ v ∷ [] } }
     {
-        if self.items.try_push_back(v).is_err() {
-            unreachable!()
-        }
+        self.items.try_push_back(v).unwrap();
     }
 
     /// Takes the first value.
@@ -76,10 +74,7 @@ impl Channel {
         ensures first { self.old.items ≡ result ∷ drop 1 self.old.items }
         ensures rest { self.new ≡ record self.old { items = drop 1 self.old.items } }
     {
-        let Some(v) = self.items.pop_front() else {
-            unreachable!()
-        };
-        v
+        self.items.pop_front().unwrap()
     }
 
     /// Puts a value last and takes the first, which may be that value.

@@ -43,9 +43,7 @@ fn put_last(ring: &mut HeapCircularBuffer<Readiness>, r: Readiness)
     requires { length ring.old.items < ring.old.capacity }
     ensures { ring.new ≡ buffer (ring.old.items ++ r ∷ []) ring.old.capacity }
 {
-    if ring.try_push_back(r).is_err() {
-        unreachable!()
-    }
+    ring.try_push_back(r).unwrap();
 }
 
 impl Queues {

@@ -1,10 +1,11 @@
 //! Queues of run 7, whose tickets have the numbers from 0 up, each with epoch 1.
 ghost use Rattle.std.specs.Prelude.{◌≡◌, [], ◌∷◌, IfSome};
-ghost use Rattle.gmp_queue.specs.Ends.{AreTheEnds};
+ghost use Rattle.gmp_queue.specs.Ends.{AreTheEnds, KeepsThief};
 
 use gmp_base::{GNo, Ticket};
-use gmp_queue::{Owner, Thief, open};
+use gmp_queue::{Owner, Stole, Thief, open};
 use std::alloc::Global;
+use std::process::Abort;
 
 mod keeping;
 mod refusing;
@@ -35,4 +36,14 @@ fn queue_of_two(alloc: Global) -> Option<(Owner, Thief, Thief)>
     let two = second.pop()?;
     let one = first.pop()?;
     Some((owner, one, two))
+}
+
+/// The thief takes this ticket.
+fn steals(rt: &impl Abort, thief: &mut Thief, g: u16)
+    ensures { KeepsThief thief.old thief.new }
+{
+    match thief.steal() {
+        Stole::Got(ticket) => assert_eq!(rt; spend(ticket), g),
+        Stole::Empty | Stole::Unsure => assert!(rt; false),
+    }
 }

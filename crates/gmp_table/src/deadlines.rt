@@ -102,9 +102,7 @@ impl Deadlines {
             return;
         };
         let i = self.place(x);
-        let Ok(()) = self.list.insert(i, x) else {
-            unreachable!()
-        };
+        self.list.insert(i, x).unwrap();
     }
 
     /// Takes one out, if one is given: it is found by halves, and those that are sooner move up.

@@ -152,9 +152,7 @@ impl StatusTable {
         ensures first { IfSome result (λ r. self.old.shelf ≡ r.g ∷ self.new.shelf) }
     {
         let g = self.shelf.pop_front()?;
-        let Some(woke) = self.rows.answer(g) else {
-            unreachable!()
-        };
+        let woke = self.rows.answer(g).unwrap();
         self.rows.turn(g, Status::Ready(Place::Out, woke));
         Some(Readiness {
             g,
@@ -168,9 +166,7 @@ impl StatusTable {
         ensures puts { Puts r Reply.Shelf self.old.table self.new.table }
         ensures last { self.new.shelf ≡ self.old.shelf ++ r.g ∷ [] }
     {
-        let Some(woke) = self.rows.answer(r.g) else {
-            unreachable!()
-        };
+        let woke = self.rows.answer(r.g).unwrap();
         self.rows.turn(r.g, Status::Ready(Place::Shelf, woke));
         self.shelf.push_back(r.g);
     }
@@ -182,9 +178,7 @@ impl StatusTable {
         ensures answer { IsReady self.old.table r Place.Out result }
         ensures shelf { self.new.shelf ≡ self.old.shelf }
     {
-        let Some(woke) = self.rows.answer(r.g) else {
-            unreachable!()
-        };
+        let woke = self.rows.answer(r.g).unwrap();
         self.rows.turn(r.g, Status::Running(m));
         woke
     }

@@ -2,9 +2,9 @@
 ghost use Rattle.std.specs.Prelude.{◌≡◌, ◌≤◌, [], ◌∷◌, IfOk, IfSome, vec_capacity};
 ghost use Rattle.gmp_queue.specs.Ends.{AreTheEnds, KeepsOwner, KeepsThief};
 
-use super::{TICKETS, queue_of_two, spend, ticket};
+use super::{TICKETS, queue_of_two, spend, steals, ticket};
 use gmp_base::GNo;
-use gmp_queue::{Owner, Stole, Thief, close};
+use gmp_queue::{Owner, Thief, close};
 use std::alloc::{AllocError, Global};
 use std::process::Abort;
 use std::test::Fail;
@@ -65,10 +65,7 @@ fn use_queue(rt: &impl Abort, owner: &mut Owner, thief: &mut Thief)
         assert_eq!(rt; owner.pop().map(spend), Some(g));
     }
     for g in 2..5 {
-        match thief.steal() {
-            Stole::Got(ticket) => assert_eq!(rt; spend(ticket), g),
-            Stole::Empty | Stole::Unsure => assert!(rt; false),
-        }
+        steals(rt, thief, g);
     }
 }
 
@@ -84,10 +81,10 @@ fn close_or_again(rt: &impl Abort, owner: Owner, thieves: Vec<Thief>, out: &mut 
 #[test]
 fn a_refused_close_gives_the_ends_back(rt: HostRuntime) -> Result<(), Fail> {
     let alloc = rt.alloc();
+    let mut thieves = room_or_again(alloc)?;
     let Some((mut owner, mut first, second)) = queue_or_again(alloc) else {
         return Err(Fail::new("no queue"));
     };
-    let mut thieves = room_or_again(alloc)?;
     use_queue(&rt, &mut owner, &mut first);
     thieves.push_reserved(first);
     thieves.push_reserved(second);

@@ -5,7 +5,8 @@ ghost use Rattle.gmp_queue.specs.Ends.{AreTheEnds, KeepsOwner, KeepsThief};
 use super::{TICKETS, queue_of_two, spend, ticket};
 use gmp_base::GNo;
 use gmp_queue::{Owner, Stole, Thief, close};
-use std::alloc::Global;
+use std::alloc::{AllocError, Global};
+use std::process::Abort;
 use std::test::Fail;
 use std::thread::{Threads, join};
 
@@ -81,6 +82,23 @@ fn exchange<R: Threads + Sync>(
     Some((one, two, rest))
 }
 
+/// Adds the numbers to those of the list, and sorts it.
+fn gather(
+    rt: &impl Abort,
+    all: &mut Vec<u16>,
+    two: &[u16],
+    rest: &[(GNo, u64)],
+) -> Result<(), AllocError> {
+    for g in two {
+        all.push(*g)?;
+    }
+    for (g, epoch) in rest {
+        assert_eq!(rt; *epoch, 1);
+        all.push(g.0)?;
+    }
+    all.sort()
+}
+
 #[test]
 fn steals_once(rt: HostRuntime) -> Result<(), Fail> {
     let alloc = rt.alloc();
@@ -88,14 +106,7 @@ fn steals_once(rt: HostRuntime) -> Result<(), Fail> {
     let (one, two, rest) = exchange(&rt, alloc, owner, first, second).ok_or("not closed")?;
     assert!(rt; one.is_sorted() && two.is_sorted());
     let mut all = one;
-    for g in two.as_slice() {
-        all.push(*g)?;
-    }
-    for (g, epoch) in rest.as_slice() {
-        assert_eq!(rt; *epoch, 1);
-        all.push(g.0)?;
-    }
-    all.sort()?;
+    gather(&rt, &mut all, &two, &rest)?;
     assert_eq!(rt; all.len(), usize::from(TICKETS));
     for (at, g) in all.iter().enumerate() {
         assert_eq!(rt; usize::from(*g), at);

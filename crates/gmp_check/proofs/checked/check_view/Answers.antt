@@ -32,3 +32,6 @@ returns-in-Err-NoStep-clause-exact g c outcome right =
     let line = c.line_of-in-Err-NoStep.result in
     let wrong : IsFault x line why.Step = search rules in
     only_memory x outcome line why.Step right wrong
+
+pub returns-in-Ok-clause-right : goal.returns-in-Ok-clause-right
+returns-in-Ok-clause-right g c = search rules

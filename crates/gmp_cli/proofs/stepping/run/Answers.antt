@@ -27,3 +27,6 @@ returns-in-Ok-written-clause-traced g c = λ nothing.
       written = c.in-Ok-written.ensures.written;
       told = c.traced.ensures.status;
     }
+
+pub returns-clause-traced : goal.returns-clause-traced
+returns-clause-traced g c = search rules

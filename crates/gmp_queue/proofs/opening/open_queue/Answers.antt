@@ -1,4 +1,4 @@
-use Rattle.std.proofs.Common.{List, ◌≡◌, ◌≢◌, ℕ, ◌<◌, ◌-◌, ◌++◌, ◌∷◌, [], true, arith, ap, ◌∙◌, length, get_or, get_or-set_other}
+use Rattle.std.proofs.Common.{List, ◌≡◌, ◌≢◌, ℕ, ◌<◌, ◌-◌, ◌++◌, ◌∷◌, [], true, arith, ap, ◌∙◌, length, get_or, get_or-set_other, rules}
 use Rattle.std.specs.Global.{Vec}
 use Rattle.gmp_queue.specs.declared.ends.Thief.{Thief}
 use Rattle.gmp_queue.specs.Queue.{all_parts, view_with, kept}
@@ -27,3 +27,6 @@ returns c =
       (inv.run, inv.view_with ∙ ap (λ (n : ℕ). view_with true (all_parts - n) [] []) all),
       λ k d lt. inv.done k d (omega arith),
     )
+
+pub invariant_of-owner : goal.invariant_of-owner
+invariant_of-owner c = search rules

@@ -1,4 +1,5 @@
-use Rattle.std.proofs.Common.{rules, ◌≡◌, ◌∙◌, length}
+use Rattle.std.proofs.lemmas.Grind.{common_steps}
+use Rattle.std.proofs.Common.{rules, ◌≡◌, ◌∙◌, length, arith}
 use Rattle.std.proofs.lemmas.Iterator.Consumers.{YieldsList-end}
 use Rattle.std.proofs.lemmas.Iterator.Adapters.{YieldsList-from_vec}
 use Rattle.gmp_run_cli.proofs.Written.{out, wrote}
@@ -22,3 +23,6 @@ pub returns-clause-limits : goal.returns-clause-limits
 returns-clause-limits g c =
     out c.args.settings.now c.args.script.capacities.items _ _ c.told.result.said c.run-ran.result (counted g c) (search rules) (search rules) c.told.ensures.unrun
     c.told.ensures.limits
+
+pub loop-body-preserved : goal.loop-body-preserved
+loop-body-preserved g c = grind (arith, common_steps)

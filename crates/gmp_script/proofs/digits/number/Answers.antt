@@ -58,3 +58,6 @@ returns c =
       | in_default-2 w ↦ grind (arith, common_steps)
     ] in
     c.ok-2.ensures.value ∙ parsed c.args.word.now c.parse.result plus h
+
+pub returns-then-matches : goal.returns-then-matches
+returns-then-matches c = grind (arith, common_steps)

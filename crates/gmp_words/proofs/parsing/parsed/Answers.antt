@@ -45,3 +45,6 @@ returns-clause-ok c =
     (λ x b q k. search (rules, tests))))
     c.loop-line.yielded _ c.loop-line.yielded_by _ _ c.in-None.is c.next.ensures.steps in
     rw (take_all (length c.loop-line.yielded) (lines c.args.text.now) (omega (arith, t.1))) at c.loop-line.invariant.good
+
+pub loop-line-init : goal.loop-line-init
+loop-line-init c = search rules

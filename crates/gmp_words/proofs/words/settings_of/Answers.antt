@@ -1,4 +1,4 @@
-use Rattle.std.proofs.Common.{arith}
+use Rattle.std.proofs.Common.{arith, rules}
 use Rattle.gmp_words.proofs.words.settings_of.Goals as goal
 
 pub overflow_cast-result : goal.overflow_cast-result
@@ -28,3 +28,6 @@ returns c = record {
   random = c.in_ok-read-7.ensures.value;
   trace = c.is_given.ensures;
 }
+
+pub invariant_of-result : goal.invariant_of-result
+invariant_of-result c = search rules

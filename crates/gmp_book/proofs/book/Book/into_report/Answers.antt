@@ -24,3 +24,9 @@ returns-clause-report g c =
       fits = subst (λ (l : Log). All Fits l.history) same told.fits;
       within = subst (λ (l : Log). AreLimits l.limits l.bodies l.capacities) same told.within;
     }
+
+pub into_items-requires : goal.into_items-requires
+into_items-requires g c = search rules
+
+pub returns-clause-refused : goal.returns-clause-refused
+returns-clause-refused g c = search rules

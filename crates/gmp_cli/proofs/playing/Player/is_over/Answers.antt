@@ -1,4 +1,4 @@
-use Rattle.std.proofs.Common.{◌≡◌, ◌<◌, false, true, sym, ◌∙◌, arith}
+use Rattle.std.proofs.Common.{◌≡◌, ◌<◌, false, true, sym, ◌∙◌, arith, rules}
 use Rattle.gmp_driver.specs.Machine.{is_done}
 use Rattle.gmp_acts.specs.System.{machine_at}
 use Rattle.gmp_cli.specs.Plays.{machines_of, parked}
@@ -11,3 +11,6 @@ returns-then-not-done c =
     let awake : parked k c.loop-m.m ≡ false = sym c.parked.ensures ∙ c.if-not-parked.true in
     let busy : is_done (machine_at k (record { 0 = c.loop-m.m })).place ≡ false = sym c.done.ensures ∙ c.if-not-done.true in
     ((λ no. (let e : false ≡ true = no in cc)), (λ over. sym busy ∙ over.done (record { 0 = c.loop-m.m }) within awake))
+
+pub returns : goal.returns
+returns c = search rules

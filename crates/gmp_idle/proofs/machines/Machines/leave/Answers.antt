@@ -1,4 +1,4 @@
-use Rattle.std.proofs.Common.{◌≡◌, Some, sym, subst}
+use Rattle.std.proofs.Common.{◌≡◌, Some, sym, subst, rules}
 use Rattle.std.specs.Prelude.{slice_get}
 use Rattle.gmp_seq.specs.declared.status.Mode.TheVariants.{Calling}
 use Rattle.gmp_seq.specs.Machines.{Machines}
@@ -11,3 +11,9 @@ acquire-requires-clause-bare c =
     let m = c.args.m in
     let calls = subst (λ (w : Machines). slice_get w.modes m.0 ≡ Some Calling) (sym c.self.view_is) c.requires in
     bare_in_call i.processors i.modes i.holding i.spinning c.self.invariant m calls
+
+pub returns-clause-runs : goal.returns-clause-runs
+returns-clause-runs c = search rules
+
+pub returns-clause-least : goal.returns-clause-least
+returns-clause-least c = search rules

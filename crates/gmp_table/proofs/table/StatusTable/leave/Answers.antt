@@ -1,4 +1,4 @@
-use Rattle.std.proofs.Common.{ap, refl}
+use Rattle.std.proofs.Common.{ap, refl, rules}
 use Rattle.gmp_table.proofs.Moves.{off_turned}
 use Rattle.gmp_table.proofs.table.StatusTable.leave.Goals as goal
 
@@ -6,3 +6,6 @@ pub invariant_of-self : goal.invariant_of-self
 invariant_of-self c =
     let rows = ap (λ v. v.table.goroutines) c.self.view_is in
     rw c.turn.ensures (off_turned c.self.inside.rows c.args.g _ _ _ c.self.invariant (rw rows c.requires) refl)
+
+pub returns-clause-table : goal.returns-clause-table
+returns-clause-table c = search rules

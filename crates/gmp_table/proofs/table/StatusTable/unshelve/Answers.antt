@@ -24,13 +24,13 @@ pub invariant_of-self-2 : goal.invariant_of-self-2
 invariant_of-self-2 c =
     let first = sym c.pop_front.ensures.value ∙ c.in_ok-g.was in
     rw (c.turn.ensures, c.pop_front.ensures.items) (top_popped c.self.inside.rows c.self.inside.shelf.items _ c.in_ok-g.g
-    (record { status = Ready Out c.in-Some.woke; epoch = epoch_in c.self.inside.rows c.in_ok-g.g }) c.self.invariant first refl)
+    (record { status = Ready Out c.unwrap-woke.result; epoch = epoch_in c.self.inside.rows c.in_ok-g.g }) c.self.invariant first refl)
 
 pub returns-clause-taken : goal.returns-clause-taken
 returns-clause-taken c =
     let first = sym c.pop_front.ensures.value ∙ c.in_ok-g.was in
     let top = top_is_shelved c.self.inside.rows c.self.inside.shelf.items _ c.in_ok-g.g c.self.invariant first in
-    let woke = top_answer c.self.inside.rows c.in_ok-g.g c.in-Some.woke top (sym c.answer.ensures ∙ c.in-Some.is) in
+    let woke = top_answer c.self.inside.rows c.in_ok-g.g c.unwrap-woke.result top (sym c.answer.ensures ∙ c.unwrap-woke.ensures) in
     let epoch = c.epoch.ensures ∙ top_turned c.self.inside.rows c.in_ok-g.g c.turn.new.self _ top c.turn.ensures in
     let rows = ap (λ v. v.table.goroutines) c.self.view_is in
     (top.answer, rw (← rows, epoch) top.at, rw (c.turn.ensures, woke) (ap (λ v. set_status v.table c.in_ok-g.g (Ready Out top.answer)) c.self.view_is))

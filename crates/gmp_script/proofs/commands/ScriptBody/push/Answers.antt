@@ -1,0 +1,8 @@
+use Rattle.std.proofs.Common.{rules}
+use Rattle.gmp_script.proofs.commands.ScriptBody.push.Goals as goal
+
+pub invariant_of-self-2 : goal.invariant_of-self-2
+invariant_of-self-2 c = search rules
+
+pub returns-clause-ok : goal.returns-clause-ok
+returns-clause-ok c = search rules
