@@ -153,8 +153,8 @@ impl<T, Q> Book<T, Q> {
         self.ledger.is_parked(m)
     }
 
-    /// The machine of the pass makes the call, with these values, or it is refused and hands them back. A make is given memory: where
-    /// that is refused, its goroutine is to be told `NoMemory`. `word` chooses among the cases of a select.
+    /// The machine of the pass makes the call, with these values, or it is refused and hands them back. A make, and no other call, is given
+    /// memory: where that is refused, its goroutine is to be told `NoMemory`. `word` chooses among the cases of a select.
     #[inline(always)]
     pub fn call(
         &mut self,

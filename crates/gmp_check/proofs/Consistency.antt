@@ -3,7 +3,9 @@ use Rattle.std.proofs.Common.{◌≡◌, ℕ, ◌<◌, ◌^◌, inl, inr, Bool, 
 use Rattle.std.specs.List.{slice_get, filter}
 use Rattle.gmp_base.specs.declared.number.CNo.{CNo}
 use Rattle.gmp_base.specs.declared.number.GNo.{GNo}
+use Rattle.gmp_base.specs.declared.number.MNo.{MNo}
 use Rattle.gmp_seq.proofs.Arranged.{contains_in}
+use Rattle.gmp_seq.proofs.Manned.{free_runs_none}
 use Rattle.gmp_seq.proofs.Proceed.{offer_waits}
 use Rattle.gmp_seq.proofs.Waiting.{In, in_filter, waiter_in, waiter_waits}
 use Rattle.gmp_seq.specs.declared.call.Limits.{Limits}
@@ -11,7 +13,8 @@ use Rattle.gmp_seq.specs.declared.status.Direction.{Direction}
 use Rattle.gmp_seq.specs.declared.status.Waiter.{Waiter}
 use Rattle.gmp_seq.specs.Laws.{ComesBefore, IsOffer}
 use Rattle.gmp_seq.specs.State.{State}
-use Rattle.gmp_seq.specs.Table.{epoch_at}
+use Rattle.gmp_seq.specs.Step.{IsFree}
+use Rattle.gmp_seq.specs.Table.{IsHeld, epoch_at}
 use Rattle.gmp_seq.specs.Waits.{first_on, is_on, waiters, waits}
 use Rattle.gmp_check.proofs.Ordered.{Sorted, first_sorted, pairs_rise}
 use Rattle.gmp_check.specs.Consistent.{IsConsistent, IsConsistentUnder}
@@ -32,6 +35,18 @@ consistent_arrivals s t same (limits, is) =
 
 pub consistent_few : (limits : Limits) (s : State) (counts : List ℕ) → IsConsistentUnder limits s → counts ≡ s.counts → sum counts < 2 ^ 63
 consistent_few limits s counts is are = subst (λ l. sum l < 2 ^ 63) (sym are) (omega (arith, is.entries, is.limit))
+
+-- nobody else is at the machine of one that is held
+pub alone_held : (s t : State) → t ≡ s → IsConsistent s → (m : MNo) (g : GNo) → IsHeld s.table g m → (n : MNo) (h : GNo) → m ≡ n → IsHeld t.table h n → h ≡ g
+alone_held s t same consistent m g held n h is there =
+    consistent.1.one_goroutine m h g (subst (λ (k : MNo). IsHeld s.table h k) (sym is) (subst (λ (x : State). IsHeld x.table h n) same there)) held
+
+-- nobody at all is at a machine that is free
+pub free_alone : (s t : State) → t ≡ s → IsConsistent s → (m : MNo) → IsFree s m → (g : GNo) → IsHeld t.table g m → ⊥
+free_alone s t same consistent m (awake, runs_none, still) g there = here (subst (λ (x : State). IsHeld x.table g m) same there) where
+  here : IsHeld s.table g m → ⊥
+  here (inl runs) = free_runs_none s.table m m g.0 runs_none runs refl
+  here (inr calls) = let calling = consistent.1.caller g m calls in cc
 
 -- The first that waits
 

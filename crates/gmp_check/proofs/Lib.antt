@@ -1,5 +1,6 @@
 pub mod Firsts
 pub mod Listed
+pub mod Last
 pub mod Young
 pub mod Ordered
 pub mod Consistency

@@ -4,5 +4,6 @@ pub mod First
 pub mod Consistent
 pub mod Ways
 pub mod Calls
+pub mod Last
 pub mod Replayed
 pub mod Checked

@@ -1,9 +1,11 @@
 //! The status table as a plain list of goroutines.
-ghost use Rattle.std.specs.Prelude.{◌≡◌, ◌<◌, ◌^◌, ◌∷◌, ◌-◌, Some, None, Option, option_copied, replicate, slice_get, slice_set, IfOk, IfSome, IfNone};
+ghost use Rattle.std.specs.Prelude.{◌≡◌, ◌↔◌, ◌<◌, ◌^◌, ◌∷◌, ◌-◌, Some, None, Option, option_copied, replicate, slice_get, slice_set, IfOk, IfSome, IfNone};
 ghost use Rattle.gmp_base.specs.declared.ask.Woke.{Woke};
 ghost use Rattle.gmp_base.specs.declared.number.GNo.{GNo};
+ghost use Rattle.gmp_base.specs.declared.number.MNo.{MNo};
 ghost use Rattle.gmp_seq.specs.declared.status.Place.{Place};
 ghost use Rattle.gmp_seq.specs.declared.status.Status.{Status};
+ghost use Rattle.gmp_check.specs.Last.{IsAlone, IsAt};
 ghost use Rattle.gmp_seq.specs.State.{first_goroutine, dormant};
 ghost use Rattle.gmp_seq.specs.Table.{IsReady, IsRunning, IsCalling, epoch_at, is_astir, is_ready_or_running, is_running_on, is_shelved, made_ready, made_wait, next_of, set_status, some_status, status_at};
 
@@ -22,17 +24,42 @@ pub(crate) struct Table {
     goroutines: Vec<Goroutine>,
     arrivals: u64,
     clock: u64,
+    // By machine, who runs there or is in its blocking call, where somebody is: nobody need be looked for.
+    last: [GNo; 256],
 }
 
 impl Model for Table {
     ghost use Rattle.std.specs.Prelude.{◌<◌, ◌^◌, length};
+    ghost use Rattle.gmp_check.specs.Last.{AreLast};
     ghost use Rattle.gmp_seq.specs.Table.{Table as Contents};
 
     ghost Value = { Contents };
 
     ghost view = { λ t. record { goroutines = t.goroutines.items; arrivals = t.arrivals; clock = t.clock } };
 
-    ghost invariant = { λ t. length t.goroutines.items < 2 ^ 16 };
+    ghost invariant = { λ t. (length t.goroutines.items < 2 ^ 16)
+        × AreLast t.last (record { goroutines = t.goroutines.items; arrivals = t.arrivals; clock = t.clock }) };
+}
+
+/// The machine that runs the goroutine of this status, or makes its blocking call.
+fn machine_of(status: &Status) -> Option<MNo>
+    ensures { (m : MNo) → IsAt m status.now ↔ (result ≡ Some m) }
+{
+    match status {
+        Status::Running(m) => Some(*m),
+        Status::Calling(m) => Some(*m),
+        _ => None,
+    }
+}
+
+/// The goroutine comes to the machine where this status has it.
+fn come(last: &mut [GNo; 256], g: GNo, status: &Status)
+    ensures here { (m : MNo) → IsAt m status.now → slice_get last.new m.0 ≡ Some g }
+    ensures there { (m : MNo) → (IsAt m status.now → ⊥) → slice_get last.new m.0 ≡ slice_get last.old m.0 }
+{
+    if let Some(m) = machine_of(status) {
+        last[usize::from(m.0)] = g;
+    }
 }
 
 impl Table {
@@ -56,6 +83,7 @@ impl Table {
             goroutines,
             arrivals: 0,
             clock: 0,
+            last: [GNo(0); 256],
         })
     }
 
@@ -121,9 +149,7 @@ impl Table {
     pub(crate) fn runs_some(&self, m: MNo) -> bool
         ensures { result ≡ some_status (is_running_on m) self.now }
     {
-        self.goroutines
-            .iter()
-            .any(|row| row.status.is_running_on(m))
+        self.running(m).is_some()
     }
 
     /// Whom m runs.
@@ -131,9 +157,11 @@ impl Table {
         ensures some { IfSome result (λ g. IsRunning self.now g m) }
         ensures none { IfNone result ((g : GNo) → IsRunning self.now g m → ⊥) }
     {
-        let mut rows = self.goroutines.iter();
-        let g = rows.position(|row| row.status.is_running_on(m))?;
-        Some(GNo(g as u16))
+        let g = self.last[usize::from(m.0)];
+        match self.status(g) {
+            Some(status) if status.is_running_on(m) => Some(g),
+            _ => None,
+        }
     }
 
     /// Whose blocking call m makes.
@@ -141,9 +169,11 @@ impl Table {
         ensures some { IfSome result (λ g. IsCalling self.now g m) }
         ensures none { IfNone result ((g : GNo) → IsCalling self.now g m → ⊥) }
     {
-        let mut rows = self.goroutines.iter();
-        let g = rows.position(|row| row.status.is_calling_on(m))?;
-        Some(GNo(g as u16))
+        let g = self.last[usize::from(m.0)];
+        match self.status(g) {
+            Some(status) if status.is_calling_on(m) => Some(g),
+            _ => None,
+        }
     }
 
     /// The next readiness of g.
@@ -158,15 +188,19 @@ impl Table {
     }
 
     fn set(&mut self, g: GNo, row: Goroutine)
+        requires { IsAlone self.old g row.status }
         ensures { self.new ≡ record self.old { goroutines = slice_set self.old.goroutines g.0 row } }
     {
         let place = g.0 as usize;
-        if place < self.goroutines.len() {
-            self.goroutines[place] = row;
+        if place >= self.goroutines.len() {
+            return;
         }
+        come(&mut self.last, g, &row.status);
+        self.goroutines[place] = row;
     }
 
     pub(crate) fn set_status(&mut self, g: GNo, status: Status)
+        requires { IsAlone self.old g status }
         ensures { self.new ≡ set_status self.old g status }
     {
         let epoch = self.epoch(g);

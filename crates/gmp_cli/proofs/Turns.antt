@@ -15,7 +15,7 @@ use Rattle.gmp_core.proofs.Moves.{opened_on}
 use Rattle.gmp_script.specs.Script.{Commands, called_number}
 use Rattle.gmp_cli.specs.Clock.{ClockState}
 use Rattle.gmp_cli.specs.declared.playing.Player.{Player}
-use Rattle.gmp_cli.specs.Plays.{Answers, AreParked, Deals, Stage, machines_of, parked}
+use Rattle.gmp_cli.specs.Plays.{Answers, AreParked, IsDealt, Stage, machines_of, parked}
 use Rattle.gmp_cli.specs.Staged.{IsManned, SameRun}
 
 -- going round so many, each comes
@@ -36,7 +36,7 @@ all_parked k turn round m within =
     let at = comes turn (machines_of k) m.0 within in
     subst (λ (x : ℕ). parked k x ≡ true) at.2 (round at.0 at.1)
 
-pub deals_on : (w : Want) (s : Stage) (m : MNo) (choice : Choice) (mid s' : Stage) → s'.bodies ≡ mid.bodies → s'.clock ≡ mid.clock → Deals w s m choice mid → Deals w s m choice s'
+pub deals_on : (w : Want) (s : Stage) (m : MNo) (choice : Choice) (mid s' : Stage) → s'.bodies ≡ mid.bodies → s'.clock ≡ mid.clock → IsDealt w s m choice mid → IsDealt w s m choice s'
 deals_on want.Ask s m choice mid s' b c d =
     record { g = d.g; in_hand = d.in_hand; before = d.before; has = d.has; after = d.after; asks = d.asks; bodies = b ∙ d.bodies; clock = c ∙ d.clock }
 deals_on want.Number s m choice mid s' b c d =

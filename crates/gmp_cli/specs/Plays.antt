@@ -99,11 +99,11 @@ pub record ReadsNothing (s s' : Stage) : Type 0 where
   pub clock : s'.clock ≡ s.clock
 
 -- what an act of machine m that wants this is dealt, and what is left of bodies and clock
-abbrev pub Deals : Want → Stage → MNo → Choice → Stage → Type 0
-Deals want.Ask s m choice s' = Asks s m choice.ask s'
-Deals want.Number s m choice s' = Answers s m choice.number s'
-Deals (want.Moment minded) s m choice s' = Reads s minded choice.moment s'
-Deals want.Nothing s m choice s' = ReadsNothing s s'
+abbrev pub IsDealt : Want → Stage → MNo → Choice → Stage → Type 0
+IsDealt want.Ask s m choice s' = Asks s m choice.ask s'
+IsDealt want.Number s m choice s' = Answers s m choice.number s'
+IsDealt (want.Moment minded) s m choice s' = Reads s minded choice.moment s'
+IsDealt want.Nothing s m choice s' = ReadsNothing s s'
 
 -- every word is this, no push is refused, and no steal loses its race
 pub record IsSettled (drawn : ℕ) (choice : Choice) : Type 0 where
@@ -120,7 +120,7 @@ pub record PlaysOne (word : ℕ) (s s' : Stage) : Type 0 where
   pub next : IsNext s m
   pub choice : Choice
   pub settled : IsSettled word choice
-  pub deals : Deals (wanted_by (next_act (machine_at s.system m))) s m choice s'
+  pub deals : IsDealt (wanted_by (next_act (machine_at s.system m))) s m choice s'
   pub acts : Acts s.system m choice s'.system
   -- where the scheduler leaves a choice, it is the one that is fixed, by the word where it is among cases
   pub fixed : TakesFixed s.system m choice.word s'.system

@@ -31,7 +31,7 @@ pub(crate) struct Player {
 
 impl Player {
     ghost use Rattle.gmp_cli.specs.Clock.{unread};
-    ghost use Rattle.gmp_cli.specs.Plays.{Answers, AreParked, Asks, Deals, IsNext, IsOver, IsPlayed, IsSettled, PlaysOne, has_body, opening_stage};
+    ghost use Rattle.gmp_cli.specs.Plays.{Answers, AreParked, Asks, IsDealt, IsNext, IsOver, IsPlayed, IsSettled, PlaysOne, has_body, opening_stage};
     ghost use Rattle.gmp_cli.specs.Staged.{IsManned, SameRun, TriesOne, stage};
 
     /// The core before its first act.
@@ -138,7 +138,7 @@ impl Player {
 
     /// What the machine's next act reads: what its body asks or answers, or what the clock shows.
     fn choose(&mut self, m: MNo, word: u64) -> Choice
-        ensures deals { Deals (wanted_by (next_act (machine_at self.old.core.system m))) (stage self.old) m result (stage self.new) }
+        ensures deals { IsDealt (wanted_by (next_act (machine_at self.old.core.system m))) (stage self.old) m result (stage self.new) }
         ensures settled { IsSettled word result }
         ensures system { self.new.core.system ≡ self.old.core.system }
         ensures machines { self.new.machines ≡ self.old.machines }

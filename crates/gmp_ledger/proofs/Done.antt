@@ -17,7 +17,7 @@ use Rattle.gmp_seq.proofs.Needed.{some_place}
 use Rattle.gmp_seq.specs.Machines.{Declares}
 use Rattle.gmp_seq.specs.Step.{ByRunning, Claims, Deals, Exits, Goparks, OnTable, Parks, Resumes, Selects, Sleeps, Yields}
 use Rattle.gmp_seq.specs.Table.{answer_of_ready, deadline_of, is_astir, is_ready_or_running, is_shelved, least_deadline, least_of, minded, set_status, stored_at}
-use Rattle.gmp_ledger.specs.Laws.{Does}
+use Rattle.gmp_ledger.specs.Laws.{StepsAre}
 
 -- whichever goroutine of the machine's it is, it is this one
 by_this : (limits : Limits) (m : MNo) (g : GNo) (s : State) (P : GNo → Type 0) → IsInOrder limits s → IsRunning s.table g m → ByRunning m s P → P g
@@ -57,21 +57,21 @@ declares limits m p _ old new order holds h = absurd h
 
 -- By call
 
-claim : (r : Readiness) → Does (call.Claim r) (λ m g p answer old new. IsReady old.table r place.Out (stored_at old.table r.g))
+claim : (r : Readiness) → StepsAre (call.Claim r) (λ m g p answer old new. IsReady old.table r place.Out (stored_at old.table r.g))
 claim r limits m g p answer old new order grants (ongoing, (free, equipped, done), counted, ended) = claims m r answer old.table new.table done.0
 
-select : (cases : List Case) (has_default : Bool) (until : Option ℕ) → Does (call.Select cases has_default until) (λ m g p answer old new. Selects g cases has_default until answer old new)
+select : (cases : List Case) (has_default : Bool) (until : Option ℕ) → StepsAre (call.Select cases has_default until) (λ m g p answer old new. Selects g cases has_default until answer old new)
 select cases has_default until limits m g p answer old new order grants (ongoing, (few, done), counted, ended) =
     by_this limits m g old (λ (h : GNo). Selects h cases has_default until answer old new) order grants done
 
-entered : Does call.Enter (λ m g p answer old new. (woken : Option MNo) × (answer ≡ reply.Entered p woken))
+entered : StepsAre call.Enter (λ m g p answer old new. (woken : Option MNo) × (answer ≡ reply.Entered p woken))
 entered limits m g p answer old new order (runs, holds, awake) (ongoing, (h, here, (table, done, same)), counted, ended) = enters limits m p answer old new order holds done
 
-leave : (number : ℕ) → Does (call.Leave number) (λ m g p answer old new. Resumes g m number answer old.table new.table)
+leave : (number : ℕ) → StepsAre (call.Leave number) (λ m g p answer old new. Resumes g m number answer old.table new.table)
 leave number limits m g p answer old new order (calls, free, mode) (ongoing, (h, here, done, returns, same), counted, ended) =
     by_caller limits m g h old (λ (k : GNo). Resumes k m number answer old.table new.table) order calls here done
 
-declare : Does call.Declare (λ m g p answer old new. answer ≡ reply.Idle p)
+declare : StepsAre call.Declare (λ m g p answer old new. answer ≡ reply.Idle p)
 declare limits m g p answer old new order (free, calm, holds) (ongoing, (nothing, done), counted, ended) = declares limits m p answer old new order holds done.0
 
 -- Parks
@@ -128,7 +128,7 @@ minds m _ until old new h is = absurd h
 parks_mind : (m : MNo) (answer : Reply) (until : ℕ) (old new : State) → Parks m answer old new → answer ≡ reply.Mind until ↔ (minded old.table ≡ Some until)
 parks_mind m answer until old new done = (says m answer until old new done, minds m answer until old new done)
 
-park_minds : (until : ℕ) → Does call.Park (λ m g p answer old new. answer ≡ reply.Mind until ↔ (minded old.table ≡ Some until))
+park_minds : (until : ℕ) → StepsAre call.Park (λ m g p answer old new. answer ≡ reply.Mind until ↔ (minded old.table ≡ Some until))
 park_minds until limits m g p answer old new order grants (ongoing, (bare, done), counted, ended) = parks_mind m answer until old new done
 
 -- All calls

@@ -20,7 +20,7 @@ use Rattle.gmp_seq.proofs.Manned.{status_of}
 use Rattle.gmp_seq.proofs.Needed.{some_place}
 use Rattle.gmp_seq.proofs.Runs.{run_join}
 use Rattle.gmp_seq.proofs.Sizes.{legal_sizes}
-use Rattle.gmp_ledger.specs.Kept.{IsKept}
+use Rattle.gmp_ledger.specs.Kept.{IsLedger}
 use Rattle.gmp_ledger.specs.Scene.{IsYoung}
 use Rattle.gmp_goroutines.proofs.Ties.{running_on}
 use Rattle.gmp_ledger.specs.Laws.{NeedsOf}
@@ -28,25 +28,25 @@ use Rattle.gmp_ledger.proofs.Needed.{needs_of, not_false, out_test}
 use Rattle.gmp_seq.specs.State.{opening}
 
 -- all entries since the opening lead to the present state
-pub since_opening : (log : Log) (space : ℕ) → (kept : IsKept log space) → IsLegal log.limits log.bodies log.capacities (kept.before ++ log.history) log.state
+pub since_opening : (log : Log) (space : ℕ) → (kept : IsLedger log space) → IsLegal log.limits log.bodies log.capacities (kept.before ++ log.history) log.state
 since_opening log space kept = run_join log.limits (opening log.limits log.bodies log.capacities) log.start log.state kept.before log.history kept.start kept.legal
 
-pub sizes : (log : Log) (space : ℕ) → IsKept log space → HasSizes log.limits log.bodies log.state
+pub sizes : (log : Log) (space : ℕ) → IsLedger log space → HasSizes log.limits log.bodies log.state
 sizes log space kept = legal_sizes log.limits log.bodies log.capacities (kept.before ++ log.history) log.state kept.within (since_opening log space kept)
 
-pub in_order : (log : Log) (space : ℕ) → IsKept log space → IsInOrder log.limits log.state
+pub in_order : (log : Log) (space : ℕ) → IsLedger log space → IsInOrder log.limits log.state
 in_order log space kept = legal_in_order log.limits log.bodies log.capacities (kept.before ++ log.history) log.state kept.within (since_opening log space kept)
 
 -- while the run lasts another entry fits
-pub ongoing_room : (old now : Log) (space : ℕ) (o : Option Outcome) → old ≡ now → IsKept old space → old.state.outcome ≡ o → IfNone o (entries_made now < now.limits.entries)
+pub ongoing_room : (old now : Log) (space : ℕ) (o : Option Outcome) → old ≡ now → IsLedger old space → old.state.outcome ≡ o → IfNone o (entries_made now < now.limits.entries)
 ongoing_room old now space (Some how) is kept lasts = tt
 ongoing_room old now space None is kept lasts = subst (λ (l : Log). entries_made l < l.limits.entries) is ((in_order old space kept).ongoing lasts)
 
-module _ (log : Log) (space : ℕ) (pass : Pass) (kept : IsKept log space) (current : IsCurrent log pass) where
+module _ (log : Log) (space : ℕ) (pass : Pass) (kept : IsLedger log space) (current : IsCurrent log pass) where
   -- the run is longer by one step
   pub kept_on : (call : Call) (reply : Reply) (between : State) (last : Entry) (now : Log) (space' : ℕ) → Effect log.limits pass.m call reply log.state (counted_one log.limits pass.m reply between) → between.counts ≡ log.state.counts
       → last ≡ record { m = pass.m; k = pass.calls; call = call; reply = reply } → Fits last
-      → now ≡ record log { history = log.history ++ last ∷ []; state = counted_one log.limits pass.m reply between; shelf = now.shelf } → space' ≡ space → IsKept now space'
+      → now ≡ record log { history = log.history ++ last ∷ []; state = counted_one log.limits pass.m reply between; shelf = now.shelf } → space' ≡ space → IsLedger now space'
   kept_on call reply between last now space' done counts is last_fits now_is same =
       let e : Entry = record { m = pass.m; k = slice_index log.state.counts pass.m.0; call = call; reply = reply } in
       let last_is : last ≡ e = rw (← current.turn) is in
@@ -114,7 +114,7 @@ pub record MayGo (log : Log) (space : ℕ) (pass : Pass) (asked : Call) (values 
   pub room : length log.history < space
   pub calls : pass.calls < 2 ^ 63
 
-pub may_go : (old now : Log) (space : ℕ) (pass : Pass) (asked : Call) (values : Handed) → old ≡ now → IsKept old space → Suits asked values → IsAllowed now pass asked values
+pub may_go : (old now : Log) (space : ℕ) (pass : Pass) (asked : Call) (values : Handed) → old ≡ now → IsLedger old space → Suits asked values → IsAllowed now pass asked values
     → MayGo old space pass asked values
 may_go old now space pass asked values is kept suits allowed =
     let may = subst (λ (l : Log). IsAllowed l pass asked values) (sym is) allowed in

@@ -1,6 +1,6 @@
 -- What holds where a call is granted, and what this code chooses where the model leaves a choice.
 use Rattle.std.specs.declared.alloc.Global.{Global}
-use Rattle.std.specs.Prelude.{◌≡◌, ℕ, ◌⊎◌, true, false, Option, Some, IsSome, List, is_none, position, slice_get}
+use Rattle.std.specs.Prelude.{◌≡◌, ℕ, ◌⊎◌, true, false, Option, Some, IsNone, IsSome, List, is_none, position, slice_get}
 use Rattle.gmp_base.specs.declared.number.GNo.{GNo}
 use Rattle.gmp_base.specs.declared.number.MNo.{MNo}
 use Rattle.gmp_base.specs.declared.number.PNo.{PNo}
@@ -38,10 +38,10 @@ Suits (call.Tick moment) values = values ≡ nothing_handed
 -- every other call is of the goroutine that the machine runs
 Suits _ values = (run : ℕ) × (g : GNo) × (values ≡ held_handed run g)
 
--- a make is given memory
+-- a make is given memory, and no other call is
 abbrev pub NeedsMemory : Call → Option Global → Type 0
 NeedsMemory (call.Make capacity) memory = IsSome memory
-NeedsMemory _ memory = Unit {0}
+NeedsMemory _ memory = IsNone memory
 
 -- What holds where no line refuses the call, with a goroutine and a processor of m's
 abbrev pub Grants : MNo → GNo → PNo → Call → State → Type 0

@@ -9,7 +9,7 @@ use Rattle.gmp_ledger.specs.declared.scheduler.Scheduler.{Scheduler}
 
 -- the history is a run from a state of a legal run to the present one, under limits in range, its numbers are within their types, and
 -- there is room for the rest of it
-pub record IsKept (log : Log) (space : ℕ) : Type 0 where
+pub record IsLedger (log : Log) (space : ℕ) : Type 0 where
   pub before : List Entry
   pub start : IsLegal log.limits log.bodies log.capacities before log.start
   pub legal : Run log.limits log.start log.history log.state

@@ -1,8 +1,22 @@
-//! What the values that a call is handed are of.
+//! What a call is handed: memory, and what its values are of.
 ghost use Rattle.std.specs.Prelude.{◌≡◌};
+ghost use Rattle.gmp_ledger.specs.Grants.{NeedsMemory};
 ghost use Rattle.gmp_ledger.specs.Handed.{goroutine_in, names_other, processor_in};
 
 use gmp_base::{GNo, PNo, Readiness};
+use gmp_seq::Call;
+use std::alloc::Global;
+
+/// The memory that a call is handed: a make has some, and no other call any.
+#[inline(always)]
+pub fn memory_for(call: &Call, alloc: Global) -> Option<Global>
+    ensures { NeedsMemory call.now result }
+{
+    match call {
+        Call::Make(_) => Some(alloc),
+        _ => None,
+    }
+}
 
 /// What a call is handed, in plain parts: the run that each value names, and what it is of.
 #[derive(Clone, Copy)]

@@ -6,7 +6,7 @@ ghost use Rattle.gmp_ledger.specs.declared.handed.Handed.{Handed};
 ghost use Rattle.gmp_ledger.specs.Done.{Done};
 ghost use Rattle.gmp_ledger.specs.Grants.{Suits};
 ghost use Rattle.gmp_ledger.specs.Handed.{goroutine_in, names_other, processor_in};
-ghost use Rattle.gmp_ledger.specs.Laws.{Does, NeedsOf};
+ghost use Rattle.gmp_ledger.specs.Laws.{StepsAre, NeedsOf};
 ghost use Rattle.gmp_ledger.specs.Log.{Log};
 ghost use Rattle.gmp_ledger.specs.Refusals.{IsCurrent, refusal_of};
 

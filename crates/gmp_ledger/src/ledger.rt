@@ -39,7 +39,7 @@ pub struct Ledger {
 
 impl Model for Ledger {
     ghost use Rattle.std.specs.Prelude.{vec_capacity};
-    ghost use Rattle.gmp_ledger.specs.Kept.{IsKept, IsSized};
+    ghost use Rattle.gmp_ledger.specs.Kept.{IsLedger, IsSized};
     ghost use Rattle.gmp_ledger.specs.LedgerView.{log_of};
     ghost use Rattle.gmp_ledger.specs.Log.{Log};
 
@@ -47,7 +47,7 @@ impl Model for Ledger {
 
     ghost view = { log_of };
 
-    ghost invariant = { λ l. IsKept (log_of l) (vec_capacity l.entries) × IsSized l.limits l.scheduler };
+    ghost invariant = { λ l. IsLedger (log_of l) (vec_capacity l.entries) × IsSized l.limits l.scheduler };
 }
 
 impl Ledger {

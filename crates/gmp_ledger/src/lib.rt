@@ -7,5 +7,5 @@ pub mod laws;
 mod ledger;
 mod scheduler;
 
-pub use handed::Handed;
+pub use handed::{Handed, memory_for};
 pub use ledger::Ledger;

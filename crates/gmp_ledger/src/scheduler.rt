@@ -13,7 +13,7 @@ ghost use Rattle.gmp_goroutines.specs.Shelf.{Shelves};
 ghost use Rattle.gmp_seq.specs.Needs.{WantsMemory};
 ghost use Rattle.gmp_ledger.specs.Grants.{Chooses, Grants, Leaves, NeedsMemory};
 ghost use Rattle.gmp_ledger.specs.Kept.{IsSized};
-ghost use Rattle.gmp_ledger.specs.Scene.{IsYoung, SameRest, state_of};
+ghost use Rattle.gmp_ledger.specs.Scene.{IsYoung, SameRest, scheduler_state};
 
 mod refusing;
 
@@ -42,7 +42,7 @@ impl Scheduler {
         capacities: &[u32],
     ) -> Result<Self, AllocError>
         requires { AreLimits limits bodies capacities.now }
-        ensures state { IfOk result (λ s. state_of s ≡ opening limits bodies capacities.now) }
+        ensures state { IfOk result (λ s. scheduler_state s ≡ opening limits bodies capacities.now) }
         ensures shelf { IfOk result (λ s. s.goroutines.shelf ≡ record { 0 = 0 } ∷ []) }
         ensures sized { IfOk result (IsSized limits) }
     {
@@ -68,17 +68,17 @@ impl Scheduler {
         word: u64,
     ) -> Result<Reply, AllocError>
         requires memory { NeedsMemory call.now memory }
-        requires grants { Grants m g p call.now (state_of self.old) }
-        requires young { IsYoung (state_of self.old) }
+        requires grants { Grants m g p call.now (scheduler_state self.old) }
+        requires young { IsYoung (scheduler_state self.old) }
         requires there { m.0 < self.old.goroutines.machines }
         requires limit { self.old.goroutines.limit ≡ limits.channels }
         // It doesn't matter how the entry is counted, nor how the run stands afterwards.
-        ensures effect { IfOk result (λ reply. (counts : List ℕ) (outcome : Option Outcome) → Effect limits m call.now reply (state_of self.old) (record (state_of self.new) { counts = counts; outcome = outcome })) }
+        ensures effect { IfOk result (λ reply. (counts : List ℕ) (outcome : Option Outcome) → Effect limits m call.now reply (scheduler_state self.old) (record (scheduler_state self.new) { counts = counts; outcome = outcome })) }
         ensures shelf { IfOk result (λ reply. Shelves call.now reply self.old.goroutines.table self.new.goroutines.table self.old.goroutines.shelf self.new.goroutines.shelf) }
-        ensures choice { IfOk result (λ reply. Chooses call.now word reply (state_of self.old) self.old.goroutines.shelf) }
+        ensures choice { IfOk result (λ reply. Chooses call.now word reply (scheduler_state self.old) self.old.goroutines.shelf) }
         ensures rest { SameRest self.old self.new }
         ensures err { OnErr result (self.new ≡ self.old) }
-        ensures wanted { OnErr result (WantsMemory limits call.now (state_of self.old)) }
+        ensures wanted { OnErr result (WantsMemory limits call.now (scheduler_state self.old)) }
     {
         Ok(match call {
             Call::Acquire => match self.machines.acquire(m) {
@@ -140,7 +140,7 @@ impl Scheduler {
     /// The goroutine g that m runs ends, and with goroutine 0 the run.
     fn exit(&mut self, m: MNo, g: GNo) -> Reply
         requires runs { IsRunning self.old.goroutines.table g m }
-        ensures exits { OnTable (Exits g result) (state_of self.old) (state_of self.new) }
+        ensures exits { OnTable (Exits g result) (scheduler_state self.old) (scheduler_state self.new) }
         ensures shelf { self.new.goroutines.shelf ≡ self.old.goroutines.shelf }
         ensures rest { SameRest self.old self.new }
     {
@@ -155,7 +155,7 @@ impl Scheduler {
     /// m has nothing to do: it parks, unless there is work, or a deadline to mind, or all are asleep.
     fn park(&mut self, m: MNo) -> Reply
         requires { IsBare self.old.machines m }
-        ensures parks { Parks m result (state_of self.old) (state_of self.new) }
+        ensures parks { Parks m result (scheduler_state self.old) (scheduler_state self.new) }
         ensures rest { self.new ≡ record self.old { machines = self.new.machines } }
     {
         if self.goroutines.has_shelved() && self.machines.has_idle() {
@@ -179,9 +179,9 @@ impl Scheduler {
         requires awake { IsAwake self.old.machines m }
         ensures table { self.new.goroutines.table ≡ set_status self.old.goroutines.table g (Status.Calling m) }
         ensures machines { Enters m result self.old.machines self.new.machines }
-        ensures channels { SameChannels (state_of self.old) (state_of self.new) }
+        ensures channels { SameChannels (scheduler_state self.old) (scheduler_state self.new) }
         ensures shelf { self.new.goroutines.shelf ≡ self.old.goroutines.shelf }
-        ensures choice { Chooses Call.Enter 0 result (state_of self.old) self.old.goroutines.shelf }
+        ensures choice { Chooses Call.Enter 0 result (scheduler_state self.old) self.old.goroutines.shelf }
         ensures rest { SameRest self.old self.new }
     {
         self.goroutines.enter(m, g);
@@ -194,11 +194,11 @@ impl Scheduler {
         requires calls { IsCalling self.old.goroutines.table g m }
         requires free { RunsNothing self.old.goroutines.table m }
         requires mode { slice_get self.old.machines.modes m.0 ≡ Some Mode.Calling }
-        requires young { IsYoung (state_of self.old) }
+        requires young { IsYoung (scheduler_state self.old) }
         requires there { m.0 < self.old.goroutines.machines }
-        ensures leaves { Leaves m g number result (state_of self.old) (state_of self.new) }
+        ensures leaves { Leaves m g number result (scheduler_state self.old) (scheduler_state self.new) }
         ensures shelf { Shelves (Call.Leave number) result self.old.goroutines.table self.new.goroutines.table self.old.goroutines.shelf self.new.goroutines.shelf }
-        ensures choice { Chooses (Call.Leave number) 0 result (state_of self.old) self.old.goroutines.shelf }
+        ensures choice { Chooses (Call.Leave number) 0 result (scheduler_state self.old) self.old.goroutines.shelf }
         ensures rest { SameRest self.old self.new }
     {
         match self.machines.leave(m) {
@@ -214,7 +214,7 @@ impl Scheduler {
     pub(crate) fn count_one(&mut self, limits: Limits, m: MNo, reply: Reply)
         requires counted { m.0 < length self.old.counts }
         requires few { sum self.old.counts < 2 ^ 63 }
-        ensures counted { state_of self.new ≡ counted_one limits m reply (state_of self.old) }
+        ensures counted { scheduler_state self.new ≡ counted_one limits m reply (scheduler_state self.old) }
         ensures rest { self.new ≡ record self.old { counts = self.new.counts; outcome = self.new.outcome } }
         ensures made { sum self.new.counts ≡ sum self.old.counts + 1 }
     {

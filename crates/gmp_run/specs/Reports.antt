@@ -9,7 +9,7 @@ use Rattle.gmp_seq.specs.Run.{Run}
 use Rattle.gmp_seq.specs.State.{State, opening}
 use Rattle.gmp_worker.specs.declared.auditing.PassLog.{PassLog}
 use Rattle.gmp_run.specs.declared.ending.Report.{Report}
-use Rattle.gmp_run.specs.Counts.{calls_of}
+use Rattle.gmp_run.specs.Counts.{all_calls}
 
 -- there is one log for each machine, in order
 abbrev pub AreLogs : ℕ → List PassLog → Type 0
@@ -21,7 +21,7 @@ pub record IsReport {T : Type 0} (limits : Limits) (capacities : List ℕ) (bodi
   pub last : State
   pub legal : Run limits (opening limits bodies capacities) r.history.items last
   pub outcome : last.outcome ≡ Some r.outcome
-  pub calls : length r.history.items ≡ calls_of r.logs.items
+  pub calls : length r.history.items ≡ all_calls r.logs.items
   pub logs : AreLogs limits.machines r.logs.items
   pub opened : r.limits ≡ limits
   pub stock : length r.bodies.items ≡ bodies

@@ -1,6 +1,6 @@
 //! What a run comes to.
 ghost use Rattle.std.specs.Prelude.{◌≡◌, IsTrue, length};
-ghost use Rattle.gmp_run.specs.Counts.{calls_of};
+ghost use Rattle.gmp_run.specs.Counts.{all_calls};
 ghost use Rattle.gmp_run.specs.Reports.{AreLogs, IsReport};
 
 use crate::desk::{Desk, RunLedger};
@@ -64,7 +64,7 @@ pub(crate) fn finish<T: Drop, L: RunLedger, R: Wait>(
     count: usize,
 ) -> Report<T>
     requires whole { all.parts ≡ L.parts }
-    requires amount { all.amount ≡ calls_of logs.items }
+    requires amount { all.amount ≡ all_calls logs.items }
     requires logs { AreLogs limits.machines logs.items }
     ensures { IsReport limits capacities.now count result }
 {

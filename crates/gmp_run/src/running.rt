@@ -1,6 +1,6 @@
 //! Runs the machines of a run.
 ghost use Rattle.std.specs.Prelude.{◌≡◌, ◌≤◌, [], All, length, vec_capacity, IfErr, IfOk};
-ghost use Rattle.gmp_run.specs.Counts.{calls_of};
+ghost use Rattle.gmp_run.specs.Counts.{all_calls};
 ghost use Rattle.gmp_run.specs.Reports.{AreLogs, IsReport, WhyUnrun};
 ghost use Rattle.gmp_run.specs.Seats.{IsUnused};
 
@@ -207,7 +207,7 @@ fn gather<L: RunLedger, R: Wait>(
     requires parts { all.old.parts ≡ 0 }
     requires amount { all.old.amount ≡ 0 }
     ensures parts { all.new.parts ≡ machines }
-    ensures amount { all.new.amount ≡ calls_of result.items }
+    ensures amount { all.new.amount ≡ all_calls result.items }
     ensures logs { AreLogs machines result.items }
 {
     let mut logs = room;

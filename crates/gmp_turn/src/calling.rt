@@ -9,6 +9,7 @@ use crate::passing::{is_to_claim, load_back, opened, told_of};
 use gmp_base::{MNo, Refusal};
 use gmp_book::Book;
 use gmp_driver::Driver;
+use gmp_ledger::memory_for;
 use gmp_seq::{Call, Reply};
 use std::alloc::Global;
 
@@ -35,7 +36,8 @@ pub fn turn<T, Q>(
     let to_claim = is_to_claim(&call, &load);
     let (pass, values) = opened(load);
     let mut pass = pass;
-    let (values, result) = book.call(Some(alloc), &mut pass, call, values, word);
+    let memory = memory_for(&call, alloc);
+    let (values, result) = book.call(memory, &mut pass, call, values, word);
     driver.got(load_back(pass, to_claim, values), told_of(result));
     result
 }

@@ -2,7 +2,7 @@
 ghost use Rattle.std.specs.Prelude.{◌≡◌, ◌↔◌, true, IsTrue, IfOk, OnErr};
 ghost use Rattle.gmp_seq.specs.declared.call.Call.TheVariants as call;
 ghost use Rattle.gmp_seq.specs.Step.{Effect, IsFree, Parks, has_work};
-ghost use Rattle.gmp_seq.specs.Table.{IsRunning};
+ghost use Rattle.gmp_seq.specs.Table.{IsCalling, IsRunning};
 ghost use Rattle.gmp_check.specs.Calls.{EntersBy, IsMake, LeavesBy, is_ask};
 ghost use Rattle.gmp_check.specs.Decides.{Decides, Leads};
 ghost use Rattle.gmp_check.specs.Consistent.{IsConsistent, SameRest};
@@ -46,6 +46,8 @@ impl State {
 
     /// g, which m runs, goes into a blocking call.
     fn enter(&mut self, m: MNo, g: GNo, reply: Reply) -> bool
+        requires consistent { IsConsistent self.old }
+        requires runs { IsRunning self.old.table g m }
         ensures decides { Decides (EntersBy m g reply) self.old self.new result }
         ensures rest { SameRest self.old self.new }
     {
@@ -58,7 +60,8 @@ impl State {
 
     /// g comes back from the blocking call that m makes.
     fn leave(&mut self, m: MNo, g: GNo, number: u64, reply: Reply) -> bool
-        requires { IsConsistent self.old }
+        requires consistent { IsConsistent self.old }
+        requires calls { IsCalling self.old.table g m }
         ensures decides { Decides (LeavesBy m g number reply) self.old self.new result }
         ensures rest { SameRest self.old self.new }
     {

@@ -1,7 +1,8 @@
 //! Calls that concern goroutines alone. Each answers whether the reply is one that the definitions allow, and changes the table only where it is.
 ghost use Rattle.std.specs.Prelude.{◌<◌, ◌^◌};
 ghost use Rattle.gmp_seq.specs.Step.{Takes, Puts, Claims, Starts, Yields, Exits, Sleeps, Goparks, Readies};
-ghost use Rattle.gmp_seq.specs.Table.{epoch_at};
+ghost use Rattle.gmp_base.specs.declared.number.GNo.{GNo};
+ghost use Rattle.gmp_seq.specs.Table.{IsHeld, epoch_at};
 ghost use Rattle.gmp_check.specs.Decides.{Decides};
 
 use super::Table;
@@ -38,6 +39,7 @@ impl Table {
     }
 
     pub(crate) fn claim(&mut self, m: MNo, r: Readiness, reply: Reply) -> bool
+        requires { (g : GNo) → IsHeld self.old g m → ⊥ }
         ensures { Decides (Claims m r reply) self.old self.new result }
     {
         match (reply, self.answer(r, Place::Out)) {

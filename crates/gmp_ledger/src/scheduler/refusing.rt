@@ -3,7 +3,7 @@ ghost use Rattle.std.specs.Prelude.{◌≡◌, false};
 ghost use Rattle.std.specs.Option.{option_map_or};
 ghost use Rattle.gmp_seq.specs.Table.{is_calling_on, is_running_on, status_at};
 ghost use Rattle.gmp_ledger.specs.Refusals.{first_refusal, need_lines, is_busy, lacks_processor, is_spent, is_anothers};
-ghost use Rattle.gmp_ledger.specs.Scene.{state_of};
+ghost use Rattle.gmp_ledger.specs.Scene.{scheduler_state};
 
 use crate::handed::Handed;
 use crate::scheduler::Scheduler;
@@ -14,7 +14,7 @@ impl Scheduler {
     /// Does the state allow what the machine asks?
     #[inline(always)]
     pub(crate) fn need_refusal(&self, m: MNo, call: &Call, values: &Handed) -> Option<Refusal>
-        ensures { result ≡ first_refusal (need_lines (state_of self.now) m call.now values.now) }
+        ensures { result ≡ first_refusal (need_lines (scheduler_state self.now) m call.now values.now) }
     {
         if self.is_busy(m, call) {
             return Some(Refusal::Busy);
@@ -33,7 +33,7 @@ impl Scheduler {
 
     /// Whether m's state forbids the call.
     fn is_busy(&self, m: MNo, call: &Call) -> bool
-        ensures { result ≡ is_busy (state_of self.now) m call.now }
+        ensures { result ≡ is_busy (scheduler_state self.now) m call.now }
     {
         match call {
             Call::Acquire => !self.machines.is_awake(m) || self.machines.has_processor(m),
@@ -56,7 +56,7 @@ impl Scheduler {
     }
 
     fn lacks_processor(&self, m: MNo, call: &Call) -> bool
-        ensures { result ≡ lacks_processor (state_of self.now) m call.now }
+        ensures { result ≡ lacks_processor (scheduler_state self.now) m call.now }
     {
         match call {
             Call::Claim(_) => !self.machines.has_processor(m),
@@ -66,7 +66,7 @@ impl Scheduler {
 
     /// Whether a ticket is not outstanding.
     fn is_spent(&self, values: &Handed) -> bool
-        ensures { result ≡ is_spent (state_of self.now) values.now }
+        ensures { result ≡ is_spent (scheduler_state self.now) values.now }
     {
         values
             .ticket
@@ -75,7 +75,7 @@ impl Scheduler {
 
     /// Whether a value, no ticket, is not m's.
     fn is_anothers(&self, m: MNo, values: &Handed) -> bool
-        ensures { result ≡ is_anothers (state_of self.now) m values.now }
+        ensures { result ≡ is_anothers (scheduler_state self.now) m values.now }
     {
         values.held.is_some_and(|(_, g)| !self.runs(m, g))
             || values.called.is_some_and(|(_, g)| !self.calls_for(m, g))

@@ -6,6 +6,7 @@ use crate::short::Short;
 use crate::told::text_of;
 use crate::words::{first, line_of, number};
 use gmp_base::Refusal;
+use gmp_ledger::memory_for;
 use gmp_seq::{Call, Reply};
 use gmp_trace::{put_entry, read_call};
 
@@ -80,7 +81,7 @@ impl Player {
             return Err(Short::EmptyHanded);
         };
         let mut pass = hand.pass();
-        let memory = Some(self.alloc);
+        let memory = memory_for(&call, self.alloc);
         let (values, answer) = book.call(memory, &mut pass, call, values, self.word);
         hand.keeps(pass, values);
         self.put_hand(hand);

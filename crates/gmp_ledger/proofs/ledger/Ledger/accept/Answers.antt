@@ -1,6 +1,6 @@
 use Rattle.gmp_ledger.proofs.Common.{subst, arith, rules, IsInOrder, Grants, goroutine_in, processor_in, log_of, Log}
 use Rattle.gmp_ledger.proofs.Granted.{in_order, kept_on, may_go}
-use Rattle.gmp_ledger.specs.Scene.{state_of}
+use Rattle.gmp_ledger.specs.Scene.{scheduler_state}
 use Rattle.gmp_ledger.proofs.ledger.Ledger.accept.Goals as goal
 
 pub effect-requires-clause-grants : goal.effect-requires-clause-grants
@@ -31,7 +31,7 @@ pub invariant_of-self-2 : goal.invariant_of-self-2
 invariant_of-self-2 c =
     let k = c.in_ok-reply in
     let rest = k.ensures.rest in (
-      kept_on (log_of c.self.inside) _ c.args.pass.now c.self.invariant.0 (may_go _ _ _ c.args.pass.now c.args.call c.args.values.now c.self.view_is c.self.invariant.0 c.requires.suits c.requires.allowed).current c.args.call k.reply (state_of c.effect.new.self) c.new.result _ _ (k.ensures.effect _ _) rest.counts
+      kept_on (log_of c.self.inside) _ c.args.pass.now c.self.invariant.0 (may_go _ _ _ c.args.pass.now c.args.call c.args.values.now c.self.view_is c.self.invariant.0 c.requires.suits c.requires.allowed).current c.args.call k.reply (scheduler_state c.effect.new.self) c.new.result _ _ (k.ensures.effect _ _) rest.counts
           c.new.ensures.value c.new.ensures.fits (search rules) c.push_reserved.ensures.capacity,
       record { channels = rw (c.count_one.ensures.rest, rest.limit) c.self.invariant.1.channels; machines = rw (c.count_one.ensures.rest, rest.machines) c.self.invariant.1.machines },
     )
