@@ -23,6 +23,8 @@ const RUN: u64 = 0;
 pub(crate) struct Player {
     core: Core<ScriptBody>,
     clock: Clock,
+    /// What the last act was dealt. Each act writes what it reads, in place: an ask is large, and most acts read none.
+    choice: Choice,
     /// How many machines there are.
     machines: u8,
     /// The machine whose turn it is; behind the last comes the first.
@@ -52,6 +54,14 @@ impl Player {
             Ok(core) => Ok(Player {
                 core,
                 clock: Clock::of(readings),
+                choice: Choice {
+                    ask: Ask::Exit,
+                    number: 0,
+                    word: 0,
+                    moment: 0,
+                    push_refused: false,
+                    unsure: false,
+                },
                 machines: limits.machines,
                 turn: 0,
             }),
@@ -131,40 +141,35 @@ impl Player {
         ensures plays { PlaysOne word (stage self.old) (stage self.new) }
         ensures same { SameRun self.old self.new }
     {
-        let choice = self.choose(m, word);
-        self.core.act(m, &choice);
+        self.choose(m, word);
+        self.core.act(m, &self.choice);
         self.turn = m.0 + 1;
     }
 
-    /// What the machine's next act reads: what its body asks or answers, or what the clock shows.
-    fn choose(&mut self, m: MNo, word: u64) -> Choice
-        ensures deals { IsDealt (wanted_by (next_act (machine_at self.old.core.system m))) (stage self.old) m result (stage self.new) }
-        ensures settled { IsSettled word result }
+    /// Chooses what the machine's next act reads: what its body asks or answers, or what the clock shows.
+    fn choose(&mut self, m: MNo, word: u64)
+        ensures deals { IsDealt (wanted_by (next_act (machine_at self.old.core.system m))) (stage self.old) m self.new.choice (stage self.new) }
+        ensures settled { IsSettled word self.new.choice }
         ensures system { self.new.core.system ≡ self.old.core.system }
         ensures machines { self.new.machines ≡ self.old.machines }
         ensures turn { self.new.turn ≡ self.old.turn }
     {
-        let mut choice = Choice {
-            ask: Ask::Exit,
-            number: 0,
-            word,
-            moment: 0,
-            push_refused: false,
-            unsure: false,
-        };
+        self.choice.word = word;
+        self.choice.push_refused = false;
+        self.choice.unsure = false;
         match self.core.wants(m) {
-            Want::Ask => choice.ask = self.ask(m),
-            Want::Number => choice.number = self.number(m),
-            Want::Moment(minded) => choice.moment = self.clock.read(minded),
+            Want::Ask => self.choice.ask = self.ask(m),
+            Want::Number => self.choice.number = self.number(m),
+            Want::Moment(minded) => self.choice.moment = self.clock.read(minded),
             Want::Nothing => {}
         }
-        choice
     }
 
     /// What the body in the machine's hand asks, which is resumed.
     fn ask(&mut self, m: MNo) -> Ask
         requires { has_body self.old.core.system m ≡ true }
         ensures asks { Asks (stage self.old) m result (stage self.new) }
+        ensures choice { self.new.choice ≡ self.old.choice }
         ensures system { self.new.core.system ≡ self.old.core.system }
         ensures machines { self.new.machines ≡ self.old.machines }
         ensures turn { self.new.turn ≡ self.old.turn }
@@ -182,6 +187,7 @@ impl Player {
     fn number(&mut self, m: MNo) -> u64
         requires { has_body self.old.core.system m ≡ true }
         ensures answers { Answers (stage self.old) m result (stage self.new) }
+        ensures choice { self.new.choice ≡ self.old.choice }
         ensures system { self.new.core.system ≡ self.old.core.system }
         ensures machines { self.new.machines ≡ self.old.machines }
         ensures turn { self.new.turn ≡ self.old.turn }
@@ -214,6 +220,7 @@ impl Player {
         let Player {
             core,
             clock: _,
+            choice: _,
             machines: _,
             turn: _,
         } = self;

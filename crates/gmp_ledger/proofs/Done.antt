@@ -133,7 +133,7 @@ park_minds until limits m g p answer old new order grants (ongoing, (bare, done)
 
 -- All calls
 
-pub done : (asked : Call) → Does asked (Done asked)
+pub done : (asked : Call) → StepsAre asked (Done asked)
 done (call.Claim r) limits m g p answer old new order grants step = claim r limits m g p answer old new order grants step
 done call.Yield limits m g p answer old new order grants step = (by_this limits m g old (λ (h : GNo). OnTable (Yields h answer) old new) order grants step.1).0
 done call.Exit limits m g p answer old new order grants step =

@@ -22,5 +22,5 @@ pub fn granted_where_needed()
 /// goroutine. A park is answered that all are asleep exactly where they are, and a moment to mind exactly where nobody is ready or running
 /// and it is the least deadline.
 pub fn done_to_what_is_handed()
-    ensures { (asked : Call) → Does asked (Done asked) }
+    ensures { (asked : Call) → StepsAre asked (Done asked) }
 {}
