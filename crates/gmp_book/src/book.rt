@@ -26,7 +26,7 @@ mod machines;
 
 use crate::opening::{Unopened, first_passes, may_open};
 use crate::settling::{settle_body, settle_owner};
-use crate::values::{Values, claimed, handed, is_make, ticket_out, told_by, way_of};
+use crate::values::{Values, claimed, handed, ticket_out, told_by, way_of};
 use gmp_base::{MNo, Pass, Refusal};
 use gmp_ledger::Ledger;
 use gmp_seq::{Call, Entry, Limits, Outcome, Reply};
@@ -180,7 +180,7 @@ impl<T, Q> Book<T, Q> {
         let given = handed(&values);
         let g = claimed(&call);
         let known = self.ledger.known(&call);
-        let makes = is_make(&call);
+        let makes = memory.is_some();
         match self.ledger.call(memory, pass, call, &given, word) {
             Err(why) => (values.refused(makes, why), Err(why)),
             Ok(reply) => {

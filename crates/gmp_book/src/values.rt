@@ -3,7 +3,7 @@ ghost use Rattle.std.specs.Prelude.{◌≡◌, None};
 ghost use Rattle.std.specs.Option.{option_map};
 ghost use Rattle.gmp_seq.specs.Step.{ticket_in};
 ghost use Rattle.gmp_book.specs.Hands as hands;
-ghost use Rattle.gmp_book.specs.Hands.{back_where, claimed, handed_back, handed_of, is_make, way_of};
+ghost use Rattle.gmp_book.specs.Hands.{back_where, claimed, handed_back, handed_of, way_of};
 
 use gmp_base::{Called, GNo, Held, Proc, Refusal, Ticket, Woke};
 use gmp_ledger::Handed;
@@ -134,13 +134,6 @@ pub(crate) fn claimed(call: &Call) -> GNo
         Call::Claim(r) => r.g,
         _ => GNo(0),
     }
-}
-
-/// Whether it makes a channel.
-pub(crate) fn is_make(call: &Call) -> bool
-    ensures { result ≡ is_make call.now }
-{
-    matches!(call, Call::Make(_))
 }
 
 /// What the goroutine is told that goes on by the reply.

@@ -1,13 +1,29 @@
-use Rattle.std.proofs.Common.{subst, None, Some}
+use Rattle.std.specs.declared.alloc.Global.{Global}
+use Rattle.std.proofs.Common.{◌≡◌, is_some, subst, None, Option, Some, refl, sym, ◌∙◌}
+use Rattle.std.proofs.lemmas.Bool.{false≢true}
+use Rattle.gmp_seq.specs.declared.call.Call.{Call}
+use Rattle.gmp_seq.specs.declared.call.Call.TheVariants as call
 use Rattle.gmp_seq.specs.Needs.{WantsMemory}
 use Rattle.gmp_ledger.specs.Done.{Done}
+use Rattle.gmp_ledger.specs.Grants.{NeedsMemory}
 use Rattle.gmp_ledger.specs.Handed.{goroutine_in, processor_in}
 use Rattle.gmp_ledger.specs.Refusals.{Says, refusal_of}
 use Rattle.gmp_ledger.proofs.Done.{done}
 use Rattle.gmp_book.specs.Book.{BookContents}
-use Rattle.gmp_book.specs.Hands.{handed_of}
+use Rattle.gmp_book.specs.Hands.{back_where, handed_of, is_make}
 use Rattle.gmp_book.proofs.Settled.{body_fits, owner_fits, settled}
 use Rattle.gmp_book.proofs.book.Book.call.Goals as goal
+
+-- memory is given exactly to a make
+given : (asked : Call) (memory : Option Global) → NeedsMemory asked memory → is_some memory ≡ is_make asked
+given (call.Make capacity) None is = absurd (false≢true is)
+given (call.Make capacity) (Some memory) is = refl
+given _ None is = refl
+given _ (Some memory) is = absurd (false≢true (sym is))
+
+pub returns-in-Err-clause-back : goal.returns-in-Err-clause-back
+returns-in-Err-clause-back g c =
+    subst (λ makes. c.refused.result ≡ back_where makes c.in-Err.why c.args.values) (c.is_some-makes.ensures ∙ given c.args.call c.args.memory c.requires.memory) c.refused.ensures
 
 pub settle_body-held-requires : goal.settle_body-held-requires
 settle_body-held-requires g c =
