@@ -31,8 +31,8 @@ impl<E: Eprint> Watch for Line<'_, E> {
         }
         // A line that cannot be shown keeps nothing from the check.
         let _ = match work {
-            Work::Reading => eprint!(self.rt; "\r{count} entries read"),
-            Work::Checking => eprint!(self.rt; "\r{count} entries checked"),
+            Work::Reading => eprint!(self.rt; "\r{count} entries read\x1b[K"),
+            Work::Checking => eprint!(self.rt; "\r{count} entries checked\x1b[K"),
         };
     }
 }

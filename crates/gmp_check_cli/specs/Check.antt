@@ -19,6 +19,10 @@ pub record IsRightTrace (x : Content) : Type 0 where
 abbrev pub IsRead : List ℕ → Content → Type 0
 IsRead bytes x = bytes ≡ text x
 
+-- they are the text of a right trace
+abbrev pub HasRightTrace : List ℕ → Type 0
+HasRightTrace bytes = (x : Content) × IsRightTrace x × IsRead bytes x
+
 -- no right trace has these bytes as its text
 abbrev pub HasNoRightTrace : List ℕ → Type 0
 HasNoRightTrace bytes = (x : Content) → IsRightTrace x → IsRead bytes x → ⊥

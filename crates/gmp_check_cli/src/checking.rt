@@ -3,7 +3,7 @@
 ghost use Rattle.std.specs.Prelude.{◌≡◌, ◌≢◌, ◌↔◌, ◌<◌, ◌≤◌, ◌||◌, true, false, length, IfErr, IfOk, IfSome};
 ghost use Rattle.gmp_trace.specs.declared.bad.Bad.{Bad};
 ghost use Rattle.gmp_trace.specs.Text.{content};
-ghost use Rattle.gmp_check_cli.specs.Check.{HasNoRightTrace, IsBadLine, IsRead, IsRightTrace, WritesSummary};
+ghost use Rattle.gmp_check_cli.specs.Check.{HasNoRightTrace, HasRightTrace, IsBadLine, IsRead, IsRightTrace, WritesSummary};
 ghost use Rattle.gmp_words.specs.Said.{is_of_check, is_of_input, is_of_trace};
 ghost use Rattle.gmp_words.specs.declared.said.Said.TheVariants.{BadTrace, InputTooLong, Nothing, OutputFailed};
 
@@ -66,6 +66,8 @@ pub fn check<R: Read, W: Write, P: Progress>(
     // What is wrong is said by one of the program's own texts, and nothing is written but where the output fails.
     ensures kinds { is_of_check result.said ≡ true }
     ensures quiet { result.said ≢ Nothing → result.said ≢ OutputFailed → W.contents writer.new ≡ W.contents writer.old }
+    // The output is tried last: what was read is the text of a right trace.
+    ensures failed { result.said ≡ OutputFailed → IfSome (R.remaining reader.old) HasRightTrace }
 
     ensures first { (bad : Bad) → result.said ≡ BadTrace bad → IfSome (R.remaining reader.old) (λ all. IsBadLine all bad) }
     ensures too_long { result.said ≡ InputTooLong → IfSome (R.remaining reader.old) (λ all. MAX_TRACE < length all) }

@@ -1,12 +1,12 @@
 //! One run of a script.
 
 ghost use Rattle.std.specs.Prelude.{◌≡◌, ◌<◌, ◌≤◌, ℕ, true, false, length, IfSome};
-ghost use Rattle.gmp_words.specs.declared.said.Said.TheVariants.{BadLine, InputTooLong, BadLimits};
+ghost use Rattle.gmp_words.specs.declared.said.Said.TheVariants.{BadLine, InputTooLong, BadLimits, OutputFailed};
 ghost use Rattle.gmp_script.specs.Lines.{lines, IsFirstBad};
 ghost use Rattle.gmp_seq.specs.Fits.{AreLimits};
 ghost use Rattle.gmp_words.specs.Said.{is_before_writing, is_of_input, is_of_run, is_of_step};
 ghost use Rattle.gmp_words.specs.Runs.{limits_of, IsOutOfLimits};
-ghost use Rattle.gmp_cli.specs.Step.{WritesRun, WritesTrace};
+ghost use Rattle.gmp_cli.specs.Step.{IsWithinLimits, WritesRun, WritesTrace};
 
 use crate::playing::Player;
 use gmp_base::Refusal;
@@ -23,6 +23,7 @@ fn run<W: Write>(alloc: Global, settings: &Settings, script: Script, writer: &mu
     ensures kinds { is_of_run result.said ≡ true }
     ensures quiet { is_before_writing result.said ≡ true → W.contents writer.new ≡ W.contents writer.old }
     ensures limits { result.said ≡ BadLimits → ¬ (AreLimits (limits_of settings.now) (length script.bodies.items) script.capacities.items) }
+    ensures failed { result.said ≡ OutputFailed → AreLimits (limits_of settings.now) (length script.bodies.items) script.capacities.items }
 {
     let Script {
         capacities,
@@ -77,6 +78,9 @@ pub fn step<R: Read, W: Write>(
         → IfSome (R.remaining reader.old) (λ all. length all ≤ MAX_SCRIPT) }
     ensures limits { result.said ≡ BadLimits
         → IfSome (R.remaining reader.old) (λ all. IsOutOfLimits (limits_of settings.now) all) }
+    // The output is tried last.
+    ensures failed { result.said ≡ OutputFailed
+        → IfSome (R.remaining reader.old) (λ all. IsWithinLimits (limits_of settings.now) all) }
 {
     match script(alloc, reader) {
         Ok(script) => run(alloc, settings, script, writer),

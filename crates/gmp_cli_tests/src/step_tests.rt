@@ -78,6 +78,9 @@ fn many_machines(rt: HostRuntime) -> Result<(), Fail> {
     // Several machines did so.
     assert!(rt; trace.matches(" 1.0 acquire -> proc 1").count() == 1);
     assert!(rt; trace.matches(" 63.0 acquire -> none").count() == 1);
+    let mut told = Vec::new(alloc);
+    let ended = check(alloc, &mut out.as_slice(), &mut told, &mut ());
+    assert_eq!(rt; ended.status, 0);
     Ok(())
 }
 
@@ -196,11 +199,6 @@ fn output_may_fail(rt: HostRuntime) -> Result<(), Fail> {
         let ended = check(alloc, &mut TRACE.as_bytes(), &mut writer, &mut ());
         assert_eq!(rt; ended.status, status, "{room}");
     }
-    // Bad limits come before a failing output.
-    let settings = settings_of(&rt, alloc, "gmp step --procs 2")?;
-    let mut writer = Counts::with_room(0);
-    let ended = step(alloc, &settings, &mut &script[..], &mut writer);
-    assert!(rt; matches!(ended.said, Said::BadLimits));
     Ok(())
 }
 
