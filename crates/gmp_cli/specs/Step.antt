@@ -3,8 +3,6 @@ use Rattle.std.specs.Prelude.{◌≡◌, ℕ, List, Option, IfSome, length}
 use Rattle.std.specs.Io.KnownBytes.{Appends}
 use Rattle.gmp_script.specs.Lines.{lines, IsScript}
 use Rattle.gmp_script.specs.Script.{Commands}
-use Rattle.gmp_seq.specs.declared.call.Limits.{Limits}
-use Rattle.gmp_seq.specs.Fits.{AreLimits}
 use Rattle.gmp_trace.specs.HasText.{HasText}
 use Rattle.gmp_trace.specs.Text.{Content, text, end_of}
 use Rattle.gmp_words.specs.declared.options.Settings.{Settings}
@@ -36,11 +34,3 @@ pub record WritesTrace (s : Settings) (input : Option (List ℕ)) (status : ℕ)
   pub bodies : List Commands
   pub script : IfSome input (λ all. IsScript (lines all) capacities readings bodies)
   pub writes : WritesRun s capacities readings bodies status old new
-
--- the bytes are a script that is within the limits
-pub record IsWithinLimits (limits : Limits) (bytes : List ℕ) : Type 0 where
-  pub capacities : List ℕ
-  pub readings : List ℕ
-  pub bodies : List Commands
-  pub script : IsScript (lines bytes) capacities readings bodies
-  pub within : AreLimits limits (length bodies) capacities

@@ -5,8 +5,8 @@ ghost use Rattle.gmp_words.specs.declared.said.Said.TheVariants.{BadLine, InputT
 ghost use Rattle.gmp_script.specs.Lines.{lines, IsFirstBad};
 ghost use Rattle.gmp_seq.specs.Fits.{AreLimits};
 ghost use Rattle.gmp_words.specs.Said.{is_before_writing, is_of_input, is_of_run, is_of_step};
-ghost use Rattle.gmp_words.specs.Runs.{limits_of, IsOutOfLimits};
-ghost use Rattle.gmp_cli.specs.Step.{IsWithinLimits, WritesRun, WritesTrace};
+ghost use Rattle.gmp_words.specs.Runs.{limits_of, IsOutOfLimits, IsWithinLimits};
+ghost use Rattle.gmp_cli.specs.Step.{WritesRun, WritesTrace};
 
 use crate::playing::Player;
 use gmp_base::Refusal;

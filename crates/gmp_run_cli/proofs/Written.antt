@@ -15,7 +15,7 @@ use Rattle.gmp_run.specs.declared.ending.Unrun.{Unrun}
 use Rattle.gmp_run.specs.Reports.{IsReport, WhyUnrun}
 use Rattle.gmp_words.specs.declared.options.Settings.{Settings}
 use Rattle.gmp_words.specs.declared.said.Said.{Said}
-use Rattle.gmp_words.specs.declared.said.Said.TheVariants.{BadLimits, Nothing, OutOfMemory}
+use Rattle.gmp_words.specs.declared.said.Said.TheVariants.{BadLimits, Nothing, OutOfMemory, OutputFailed}
 use Rattle.gmp_words.specs.Runs.{IsTraceOf, limits_of, status_of}
 use Rattle.gmp_run_cli.specs.Runs.{WritesRun}
 use Rattle.gmp_run_cli.specs.Told.{Tells, said_of_unrun, trace_of}
@@ -75,6 +75,18 @@ not_within : (limits : Limits) (bodies : ℕ) (capacities : List ℕ) (why : Ref
     → (why ≡ refusal.BadLimits) ⊎ (why ≡ refusal.OutOfMemory) → said_of_unrun why ≡ BadLimits → AreLimits limits bodies capacities → ⊥
 not_within limits bodies capacities why h (inl e) n are = subst (WhyUnrun limits bodies capacities) e h are
 not_within limits bodies capacities why h (inr e) n are = let told : OutOfMemory ≡ BadLimits = ap said_of_unrun (sym e) ∙ n in cc
+
+not_failed : (why : Refusal) → (why ≡ refusal.BadLimits) ⊎ (why ≡ refusal.OutOfMemory) → said_of_unrun why ≡ OutputFailed → ⊥
+not_failed why (inl e) n = let told : BadLimits ≡ OutputFailed = ap said_of_unrun (sym e) ∙ n in cc
+not_failed why (inr e) n = let told : OutOfMemory ≡ OutputFailed = ap said_of_unrun (sym e) ∙ n in cc
+
+-- where the output failed, the run was begun, within the limits
+pub tried_last : {T : Type 0} (s : Settings) (capacities : List ℕ) (boxes bodies : ℕ) (said : Said) (ran : Result (Report T) (Unrun T)) → boxes ≡ bodies
+    → IfOk ran (IsReport (limits_of s) capacities boxes) → IfErr ran (λ (u : Unrun T). WhyUnrun (limits_of s) boxes capacities u.why)
+    → IfErr ran (λ (u : Unrun T). said ≡ said_of_unrun u.why) → said ≡ OutputFailed → AreLimits (limits_of s) bodies capacities
+tried_last s capacities boxes bodies said (Ok r) counted report why unrun failed = subst (λ (n : ℕ). AreLimits (limits_of s) n capacities) counted report.within
+tried_last s capacities boxes bodies said (Err u) counted report why unrun failed =
+    absurd (not_failed u.why (two_ways (limits_of s) boxes capacities u.why why) (sym unrun ∙ failed))
 
 pub wrote : {T : Type 0} (s : Settings) (capacities : List ℕ) (boxes bodies : ℕ) (said : Said) (ran : Result (Report T) (Unrun T)) → boxes ≡ bodies
     → IfOk ran (IsReport (limits_of s) capacities boxes) → IfErr ran (λ (u : Unrun T). WhyUnrun (limits_of s) boxes capacities u.why)

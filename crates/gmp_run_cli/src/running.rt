@@ -2,9 +2,9 @@
 
 ghost use Rattle.std.specs.Prelude.{◌≡◌, ◌<◌, ◌≤◌, ℕ, true, false, length, IfSome};
 ghost use Rattle.gmp_script.specs.Lines.{lines, IsFirstBad};
-ghost use Rattle.gmp_words.specs.declared.said.Said.TheVariants.{BadLine, BadLimits, InputTooLong, Nothing};
+ghost use Rattle.gmp_words.specs.declared.said.Said.TheVariants.{BadLine, BadLimits, InputTooLong, Nothing, OutputFailed};
 ghost use Rattle.gmp_words.specs.Said.{is_before_writing, is_of_input};
-ghost use Rattle.gmp_words.specs.Runs.{IsOutOfLimits, limits_of};
+ghost use Rattle.gmp_words.specs.Runs.{IsOutOfLimits, IsWithinLimits, limits_of};
 ghost use Rattle.gmp_run_cli.specs.Runs.{WritesReport, WritesRun, is_of_threads};
 ghost use Rattle.gmp_run_cli.specs.Told.{is_of_report};
 ghost use Rattle.gmp_seq.specs.Fits.{AreLimits};
@@ -36,6 +36,7 @@ fn threaded<H: Threads + Wait + Sync, W: Write, C: Clock + Sync>(
     ensures kinds { is_of_report result.said ≡ true }
     ensures quiet { is_before_writing result.said ≡ true → W.contents writer.new ≡ W.contents writer.old }
     ensures limits { result.said ≡ BadLimits → ¬ (AreLimits (limits_of settings.now) (length script.bodies.items) script.capacities.items) }
+    ensures failed { result.said ≡ OutputFailed → AreLimits (limits_of settings.now) (length script.bodies.items) script.capacities.items }
 {
     let Script {
         capacities,
@@ -95,6 +96,9 @@ pub fn run<H: Threads + Wait + Sync, R: Read, W: Write, C: Clock + Sync>(
         → IfSome (R.remaining reader.old) (λ all. length all ≤ MAX_SCRIPT) }
     ensures limits { result.said ≡ BadLimits
         → IfSome (R.remaining reader.old) (λ all. IsOutOfLimits (limits_of settings.now) all) }
+    // The output is tried last.
+    ensures failed { result.said ≡ OutputFailed
+        → IfSome (R.remaining reader.old) (λ all. IsWithinLimits (limits_of settings.now) all) }
 {
     match script(alloc, reader) {
         Ok(script) => threaded(rt, alloc, settings, script, writer, clock),

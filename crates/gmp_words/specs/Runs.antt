@@ -31,6 +31,14 @@ pub record IsTraceOf (limits : Limits) (x : Content) : Type 0 where
   pub legal : IsLegal x.limits x.bodies x.capacities x.entries last
   pub ended : x.end ≡ end_of last.outcome
 
+-- the script that was read is within the limits
+pub record IsWithinLimits (limits : Limits) (all : List ℕ) : Type 0 where
+  pub capacities : List ℕ
+  pub readings : List ℕ
+  pub bodies : List Commands
+  pub script : IsScript (lines all) capacities readings bodies
+  pub within : AreLimits limits (length bodies) capacities
+
 -- the script that was read is out of the limits
 pub record IsOutOfLimits (limits : Limits) (all : List ℕ) : Type 0 where
   pub capacities : List ℕ

@@ -2,7 +2,7 @@ use Rattle.std.proofs.lemmas.Grind.{common_steps}
 use Rattle.std.proofs.Common.{rules, ◌≡◌, ◌∙◌, length, arith}
 use Rattle.std.proofs.lemmas.Iterator.Consumers.{YieldsList-end}
 use Rattle.std.proofs.lemmas.Iterator.Adapters.{YieldsList-from_vec}
-use Rattle.gmp_run_cli.proofs.Written.{out, wrote}
+use Rattle.gmp_run_cli.proofs.Written.{out, tried_last, wrote}
 use Rattle.gmp_run_cli.proofs.running.threaded.Given.{Over}
 use Rattle.gmp_run_cli.proofs.running.threaded.Goals as goal
 
@@ -23,6 +23,10 @@ pub returns-clause-limits : goal.returns-clause-limits
 returns-clause-limits g c =
     out c.args.settings.now c.args.script.capacities.items _ _ c.told.result.said c.run-ran.result (counted g c) (search rules) (search rules) c.told.ensures.unrun
     c.told.ensures.limits
+
+pub returns-clause-failed : goal.returns-clause-failed
+returns-clause-failed g c =
+    tried_last c.args.settings.now c.args.script.capacities.items _ _ c.told.result.said c.run-ran.result (counted g c) (search rules) (search rules) c.told.ensures.unrun
 
 pub loop-body-preserved : goal.loop-body-preserved
 loop-body-preserved g c = grind (arith, common_steps)
