@@ -68,9 +68,9 @@ owner_stays c m old new _ run given back owners owners' in_ out h hands = hands
 own_way : (w : Way) (c : Call) (m : MNo) (old new : Table) → is_own c ≡ true → BodyMoves w c m old new → (w ≡ way.Stays) ⊎ (w ≡ way.Home)
 own_way way.Stays c m old new is moves = inl refl
 own_way way.Home c m old new is moves = inr refl
-own_way way.Out c m old new is moves = absurd (clash (hands_held c) (and_parts (hands_held c) (not (hands_proc c)) is).0 moves.1)
-own_way way.Calls c m old new is moves = absurd (clash (hands_proc c) moves.0 (off (hands_proc c) (and_parts (hands_held c) (not (hands_proc c)) is).1))
-own_way way.Returns c m old new is moves = absurd (clash (hands_held c) (and_parts (hands_held c) (not (hands_proc c)) is).0 moves.1)
+own_way way.OutOfPlace c m old new is moves = absurd (clash (hands_held c) (and_parts (hands_held c) (not (hands_proc c)) is).0 moves.1)
+own_way way.IntoCall c m old new is moves = absurd (clash (hands_proc c) moves.0 (off (hands_proc c) (and_parts (hands_held c) (not (hands_proc c)) is).1))
+own_way way.OutOfCall c m old new is moves = absurd (clash (hands_held c) (and_parts (hands_held c) (not (hands_proc c)) is).0 moves.1)
 
 own_known : (c : Call) (t : Table) → is_own c ≡ true → known_by c t ≡ None
 own_known (call.Claim r) t is = absurd (false≢true is)

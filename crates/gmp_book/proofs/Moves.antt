@@ -57,10 +57,10 @@ Still old new = (ins new.table ≡ ins old.table) × (idles new.machines ≡ idl
 abbrev pub BodyMoves : Way → Call → MNo → Table → Table → Type 0
 BodyMoves way.Stays c m old new = ins new ≡ ins old
 BodyMoves way.Home c m old new = (goes_on c ≡ false) × (hands_called c ≡ not (hands_held c)) × (g : GNo) × IsHeld old g m × (ins new ≡ set (ins old) g.0 true)
-BodyMoves way.Out c m old new =
+BodyMoves way.OutOfPlace c m old new =
     (gives_body c ≡ true) × (hands_held c ≡ false) × (x : Goroutine) × (slice_get old.goroutines (claimed c).0 ≡ Some x) × (is_in x ≡ true) × (ins new ≡ set (ins old) (claimed c).0 false)
-BodyMoves way.Calls c m old new = (hands_proc c ≡ true) × (hands_called c ≡ false) × (ins new ≡ ins old)
-BodyMoves way.Returns c m old new = (hands_called c ≡ true) × (hands_held c ≡ false) × (ins new ≡ ins old)
+BodyMoves way.IntoCall c m old new = (hands_proc c ≡ true) × (hands_called c ≡ false) × (ins new ≡ ins old)
+BodyMoves way.OutOfCall c m old new = (hands_called c ≡ true) × (hands_held c ≡ false) × (ins new ≡ ins old)
 
 -- the owner of p comes out
 abbrev pub GivesOwner : PNo → Call → Machines → Machines → Type 0

@@ -94,20 +94,20 @@ module _ {T : Type 0} (limits : Limits) (old : State) (m : MNo) (order : IsInOrd
     pub fits_body : (w : Way) → BodyMoves w asked m old.table new → FitsBody w (claimed asked) v.held v.called bodies
     fits_body way.Stays moves = tt
     fits_body way.Home moves = home_fits (hands_held asked) (hands_called asked) v.held v.called moves.1 by.held_by by.called_by
-    fits_body way.Out moves =
+    fits_body way.OutOfPlace moves =
         (no_held (hands_held asked) m old.table v.held moves.1 by.held_by, filled_at is_in bodies old.table.goroutines (claimed asked).0 moves.2 kept moves.3 moves.4)
-    fits_body way.Calls moves = no_called (hands_called asked) m old.table v.called moves.1 by.called_by
-    fits_body way.Returns moves = no_held (hands_held asked) m old.table v.held moves.1 by.held_by
+    fits_body way.IntoCall moves = no_called (hands_called asked) m old.table v.called moves.1 by.called_by
+    fits_body way.OutOfCall moves = no_held (hands_held asked) m old.table v.held moves.1 by.held_by
 
     pub bodies_in : (w : Way) (run : ℕ) (told : Woke) (held' : Option (Held T)) (called' : Option (Called T)) (bodies' : List (Option T)) → BodyMoves w asked m old.table new
         → HandsBody w run (claimed asked) told v.held v.called held' called' bodies bodies' → BodiesIn new bodies' × (length bodies' ≡ length bodies)
     bodies_in way.Stays run told held' called' bodies' moves hands = rw hands.2 (kept ∙ sym moves, refl)
     bodies_in way.Home run told held' called' bodies' moves hands =
         rw hands.2 (home_in (hands_held asked) (hands_called asked) v.held v.called new moves.2 moves.1 by.held_by by.called_by moves.3 moves.4)
-    bodies_in way.Out run told held' called' bodies' moves hands =
+    bodies_in way.OutOfPlace run told held' called' bodies' moves hands =
         rw hands.4 (place_set bodies (ins old.table) (ins new) (claimed asked).0 (claimed asked).0 None kept refl moves.5, length-set bodies (claimed asked).0 None)
-    bodies_in way.Calls run told held' called' bodies' moves hands = rw hands.2 (kept ∙ sym moves.2, refl)
-    bodies_in way.Returns run told held' called' bodies' moves hands = rw hands.2 (kept ∙ sym moves.2, refl)
+    bodies_in way.IntoCall run told held' called' bodies' moves hands = rw hands.2 (kept ∙ sym moves.2, refl)
+    bodies_in way.OutOfCall run told held' called' bodies' moves hands = rw hands.2 (kept ∙ sym moves.2, refl)
 
 -- Owners
 

@@ -23,7 +23,7 @@ use Rattle.gmp_ledger.specs.declared.handed.Handed.{Handed}
 use Rattle.gmp_ledger.specs.Known.{known_by}
 use Rattle.gmp_book.specs.declared.values.Values.{Values}
 use Rattle.gmp_book.specs.declared.values.Way.{Way}
-use Rattle.gmp_book.specs.declared.values.Way.TheVariants.{Stays, Home, Out, Calls, Returns}
+use Rattle.gmp_book.specs.declared.values.Way.TheVariants.{Stays, Home, OutOfPlace, IntoCall, OutOfCall}
 use Rattle.gmp_book.specs.Book.{BookContents}
 
 -- What the values are of
@@ -45,13 +45,13 @@ ticket_by run r = record { run = run; g = r.g; epoch = r.epoch }
 
 -- where the body goes by a reply
 abbrev pub way_of : Reply → Way
-way_of reply.Held = Out
+way_of reply.Held = OutOfPlace
 way_of (reply.Shelved r) = Home
 way_of reply.Waits = Home
 way_of reply.Dead = Home
 way_of reply.MainEnded = Home
-way_of (reply.Entered p woken) = Calls
-way_of (reply.Runs p) = Returns
+way_of (reply.Entered p woken) = IntoCall
+way_of (reply.Runs p) = OutOfCall
 way_of _ = Stays
 
 -- the goroutine that a claim is of
@@ -73,11 +73,11 @@ with_home None None bodies = bodies
 abbrev pub HandsBody : {T : Type 0} → Way → ℕ → GNo → Woke → Option (Held T) → Option (Called T) → Option (Held T) → Option (Called T) → List (Option T) → List (Option T) → Type 0
 HandsBody {T} Stays run g told held called held' called' old new = (held' ≡ option_map (λ (h : Held T). record h { woke = told }) held) × (called' ≡ called) × (new ≡ old)
 HandsBody {T} Home run g told held called held' called' old new = (held' ≡ None) × (called' ≡ None) × (new ≡ with_home held called old)
-HandsBody {T} Out run g told held called held' called' old new =
+HandsBody {T} OutOfPlace run g told held called held' called' old new =
     (body : T) × (held' ≡ Some (record { run = run; g = g; woke = told; body = body })) × (called' ≡ called) × (slice_get old g.0 ≡ Some (Some body)) × (new ≡ slice_set old g.0 None)
-HandsBody {T} Calls run g told held called held' called' old new =
+HandsBody {T} IntoCall run g told held called held' called' old new =
     (held' ≡ None) × (called' ≡ option_map (λ (h : Held T). let c : Called T = record { run = h.run; g = h.g; body = h.body } in c) held) × (new ≡ old)
-HandsBody {T} Returns run g told held called held' called' old new =
+HandsBody {T} OutOfCall run g told held called held' called' old new =
     (held' ≡ option_map (λ (c : Called T). let h : Held T = record { run = c.run; g = c.g; woke = told; body = c.body } in h) called) × (called' ≡ None) × (new ≡ old)
 
 -- its place is vacant
@@ -91,9 +91,9 @@ FitsHome None None bodies = Unit {0}
 abbrev pub FitsBody : {T : Type 0} → Way → GNo → Option (Held T) → Option (Called T) → List (Option T) → Type 0
 FitsBody Stays g held called bodies = Unit {0}
 FitsBody Home g held called bodies = FitsHome held called bodies
-FitsBody Out g held called bodies = (held ≡ None) × (is_filled bodies g.0 ≡ true)
-FitsBody Calls g held called bodies = called ≡ None
-FitsBody Returns g held called bodies = held ≡ None
+FitsBody OutOfPlace g held called bodies = (held ≡ None) × (is_filled bodies g.0 ≡ true)
+FitsBody IntoCall g held called bodies = called ≡ None
+FitsBody OutOfCall g held called bodies = held ≡ None
 
 -- Owners
 
@@ -139,9 +139,9 @@ is_make (call.Make capacity) = true
 is_make _ = false
 
 -- the goroutine of such a call
-abbrev pub back_of : {T : Type 0} → Call → Refusal → Held T → Held T
-back_of (call.Make capacity) why held = handed_back why held
-back_of _ why held = held
+abbrev pub held_back : {T : Type 0} → Call → Refusal → Held T → Held T
+held_back (call.Make capacity) why held = handed_back why held
+held_back _ why held = held
 
 abbrev pub back_where : {T Q : Type 0} → Bool → Refusal → Values T Q → Values T Q
 back_where true why v = record v { held = option_map (handed_back why) v.held }

@@ -14,9 +14,9 @@ use Rattle.gmp_book.specs.Book.{BookContents, HandsOutOwner}
 -- What a caller is answered
 
 -- the reply, of the goroutine g
-abbrev pub returned : {T Q : Type 0} → Table → GNo → Returned T Q → Reply
-returned t g (Runs held proc) = reply.Runs proc.p
-returned t g Shelved = reply.Shelved (next_of t g)
+abbrev pub leave_reply : {T Q : Type 0} → Table → GNo → Returned T Q → Reply
+leave_reply t g (Runs held proc) = reply.Runs proc.p
+leave_reply t g Shelved = reply.Shelved (next_of t g)
 
 -- the body of called is back in its place
 pub record TakesBackCalled {T Q : Type 0} (old now : BookContents T Q) (called : Called T) : Type 0 where

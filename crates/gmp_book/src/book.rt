@@ -12,7 +12,7 @@ ghost use Rattle.gmp_table.specs.Kept.{IsListing};
 ghost use Rattle.std.specs.Option.{option_map_or};
 ghost use Rattle.gmp_seq.specs.Needs.{WantsMemory};
 ghost use Rattle.gmp_ledger.specs.Grants.{Chooses, Grants, NeedsMemory, Suits};
-ghost use Rattle.gmp_ledger.specs.Done.{Done};
+ghost use Rattle.gmp_ledger.specs.Done.{IsDoneTo};
 ghost use Rattle.gmp_ledger.specs.Handed.{goroutine_in, names_other, processor_in};
 ghost use Rattle.gmp_ledger.specs.Log.{Records, entries_made};
 ghost use Rattle.gmp_ledger.specs.Refusals.{Says, refusal_in, refusal_of};
@@ -175,7 +175,7 @@ impl<T, Q> Book<T, Q> {
         ensures grants { OnOk result.1 (Grants pass.old.m (goroutine_in (handed_of values)) (processor_in (handed_of values)) call self.old.log.state) }
         ensures order { OnOk result.1 (IsInOrder self.old.log.limits self.old.log.state) }
         ensures ours { OnOk result.1 (names_other self.old.log.run (handed_of values) ≡ false) }
-        ensures done { IfOk result.1 (λ reply. Done call pass.old.m (goroutine_in (handed_of values)) (processor_in (handed_of values)) reply self.old.log.state self.new.log.state) }
+        ensures done { IfOk result.1 (λ reply. IsDoneTo call pass.old.m (goroutine_in (handed_of values)) (processor_in (handed_of values)) reply self.old.log.state self.new.log.state) }
     {
         let given = handed(&values);
         let g = claimed(&call);

@@ -16,7 +16,7 @@ fn called_of<T>(held: Held<T>) -> Called<T>
 }
 
 /// The goroutine that runs on after its blocking call, and is told this.
-fn returned<T>(called: Called<T>, told: Woke) -> Held<T>
+fn running_on<T>(called: Called<T>, told: Woke) -> Held<T>
     ensures { result ≡ record { run = called.run; g = called.g; woke = told; body = called.body } }
 {
     let (run, g, body) = called.open();
@@ -63,18 +63,18 @@ pub(crate) fn settle_body<T>(
             put_home(bodies, held, called);
             (None, None)
         }
-        Way::Out => {
+        Way::OutOfPlace => {
             spent(held);
             let body = bodies.take(g.0 as usize);
             (Some(Held::of(run, g, told, body)), called)
         }
-        Way::Calls => {
+        Way::IntoCall => {
             spent(called);
             (None, held.map(|held| called_of(held)))
         }
-        Way::Returns => {
+        Way::OutOfCall => {
             spent(held);
-            (called.map(|called| returned(called, told)), None)
+            (called.map(|called| running_on(called, told)), None)
         }
     }
 }

@@ -107,21 +107,21 @@ pub enum Way {
     /// Into its place in the book.
     Home,
     /// Out of its place.
-    Out,
+    OutOfPlace,
     /// Into a blocking call.
-    Calls,
+    IntoCall,
     /// Back from a blocking call.
-    Returns,
+    OutOfCall,
 }
 
 pub(crate) fn way_of(reply: Reply) -> Way
     ensures { result ≡ way_of reply }
 {
     match reply {
-        Reply::Held => Way::Out,
+        Reply::Held => Way::OutOfPlace,
         Reply::Shelved(_) | Reply::Waits | Reply::Dead | Reply::MainEnded => Way::Home,
-        Reply::Entered(_, _) => Way::Calls,
-        Reply::Runs(_) => Way::Returns,
+        Reply::Entered(_, _) => Way::IntoCall,
+        Reply::Runs(_) => Way::OutOfCall,
         _ => Way::Stays,
     }
 }

@@ -9,7 +9,7 @@ use Rattle.gmp_seq.specs.Waits.{direction_of, is_on, same_direction}
 use Rattle.gmp_chan.specs.Kept.{AreApart, AreRings, IsKept, mark_at, mark_in, key_in, end_of, queue_of}
 use Rattle.gmp_chan.specs.Rings.{IsLinkedAt}
 use Rattle.gmp_chan.specs.Order.{is_at}
-use Rattle.gmp_chan.specs.Slots.{IsFirst, IsNowhere, earlier_of, in_order, rank}
+use Rattle.gmp_chan.specs.Slots.{IsFirstSlot, IsNowhere, earlier_of, in_order, rank}
 use Rattle.gmp_chan.proofs.Kept.{end_small}
 use Rattle.gmp_chan.proofs.Linked.{mark_end, mark_record}
 use Rattle.gmp_chan.proofs.Ordered.{first_is, none_is}
@@ -65,7 +65,7 @@ module _ (ring : Waiter → ℕ) (base ends : ℕ) (slots : List (Option Waiter)
       high low = omega (arith, mark_record ring base ends i (get_or slots i None) low, ap (mark_in ring base) none, at_e.onward, mark_e)
 
 module _ (slots : List (Option Waiter)) (base : ℕ) (next prev own_next own_prev : List ℕ) (bodies channels : ℕ) (kept : IsKept slots base next prev own_next own_prev bodies channels) (c : CNo) (direction : Direction) where
-  pub first_there : c.0 < channels → (w : Waiter) → get_or slots (get_or next (base + end_of c direction) 0) None ≡ Some w → IsFirst (is_on c direction) slots w
+  pub first_there : c.0 < channels → (w : Waiter) → get_or slots (get_or next (base + end_of c direction) 0) None ≡ Some w → IsFirstSlot (is_on c direction) slots w
   first_there made w is =
       let small = end_small c direction channels made in
       let within : (k : ℕ) (x : Waiter) → get_or slots k None ≡ Some x → k < base = λ k x at. (kept.placed k x at).slot in
@@ -86,7 +86,7 @@ module _ (slots : List (Option Waiter)) (base : ℕ) (next prev own_next own_pre
           absurd (none_on_ring queue_of base (2 * channels) slots next prev kept.queues (λ k x at. (kept.placed k x at).slot) (end_of c direction) (end_small c direction channels made) none k x at
           (end_same x.offer.channel.0 c.0 (direction_of x.offer.deal) direction on))
 
-  pub queue_some : c.0 < channels → (o : Option Waiter) → o ≡ get_or slots (get_or next (base + end_of c direction) 0) None → IfSome o (IsFirst (is_on c direction) slots)
+  pub queue_some : c.0 < channels → (o : Option Waiter) → o ≡ get_or slots (get_or next (base + end_of c direction) 0) None → IfSome o (IsFirstSlot (is_on c direction) slots)
   queue_some made None is = tt
   queue_some made (Some w) is = first_there made w (sym is)
 
@@ -111,7 +111,7 @@ on_at c d x h = by (x.offer.channel.0 == c.0) h
     by false h = h
 
 module _ (slots : List (Option Waiter)) (apart : AreApart slots) (cases : (k : ℕ) (x : Waiter) → get_or slots k None ≡ Some x → x.offer.case < 256) where
-  pub first_is_it : (p : Waiter → Bool) (w : Waiter) → IsFirst p slots w → slice_get (filter p (in_order slots)) 0 ≡ Some w
+  pub first_is_it : (p : Waiter → Bool) (w : Waiter) → IsFirstSlot p slots w → slice_get (filter p (in_order slots)) 0 ≡ Some w
   first_is_it p w f = first_is p slots f.key w f.there f.passes (λ k x at on. (
     f.least k x at on,
     λ sooner. elim (order (rank w) (rank x)) [
@@ -120,7 +120,7 @@ module _ (slots : List (Option Waiter)) (apart : AreApart slots) (cases : (k : �
     ],
   ))
 
-  pub first_result : (p : Waiter → Bool) (o : Option Waiter) → IfSome o (IsFirst p slots) → IfNone o (IsNowhere p slots) → o ≡ slice_get (filter p (in_order slots)) 0
+  pub first_result : (p : Waiter → Bool) (o : Option Waiter) → IfSome o (IsFirstSlot p slots) → IfNone o (IsNowhere p slots) → o ≡ slice_get (filter p (in_order slots)) 0
   first_result p None _ none = sym (none_is p slots none)
   first_result p (Some w) some _ = sym (first_is_it p w some)
 
@@ -133,7 +133,7 @@ module _ (slots : List (Option Waiter)) (apart : AreApart slots) (cases : (k : �
         by true h = elim (at_either c x h) [ inl on ↦ absurd (let no = s k x at in cc) | inr on ↦ absurd (let no = r k x at in cc) ]
 
     -- of two directions, w is first in one, and not later than any in the other
-    first_both : (d d' : Direction) → ((x : Waiter) → is_at c x ≡ true → (is_on c d x ≡ true) ⊎ (is_on c d' x ≡ true)) → (w : Waiter) → IsFirst (is_on c d) slots w
+    first_both : (d d' : Direction) → ((x : Waiter) → is_at c x ≡ true → (is_on c d x ≡ true) ⊎ (is_on c d' x ≡ true)) → (w : Waiter) → IsFirstSlot (is_on c d) slots w
         → ((k : ℕ) (x : Waiter) → get_or slots k None ≡ Some x → is_on c d' x ≡ true → rank w ≤ rank x) → Some w ≡ slice_get (filter (is_at c) (in_order slots)) 0
     first_both d d' either w first others = sym (first_is_it (is_at c) w (record {
       key = first.key;
@@ -146,8 +146,8 @@ module _ (slots : List (Option Waiter)) (apart : AreApart slots) (cases : (k : �
     flip x h = elim (at_either c x h) [ inl on ↦ inr on | inr on ↦ inl on ]
 
     pub earlier_first : (a b : Option Waiter)
-        → IfSome a (IsFirst (is_on c Sending) slots) → IfNone a (IsNowhere (is_on c Sending) slots)
-        → IfSome b (IsFirst (is_on c Receiving) slots) → IfNone b (IsNowhere (is_on c Receiving) slots)
+        → IfSome a (IsFirstSlot (is_on c Sending) slots) → IfNone a (IsNowhere (is_on c Sending) slots)
+        → IfSome b (IsFirstSlot (is_on c Receiving) slots) → IfNone b (IsNowhere (is_on c Receiving) slots)
         → earlier_of a b ≡ slice_get (filter (is_at c) (in_order slots)) 0
     earlier_first None None _ s _ r = sym (none_is (is_at c) slots (nowhere_both s r))
     earlier_first (Some v) None s _ _ r = first_both Sending Receiving (at_either c) v s (λ k x at on. absurd (let no = r k x at in cc))

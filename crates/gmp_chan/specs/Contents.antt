@@ -13,6 +13,12 @@ pub record ChannelContents : Type 0 where
   pub waiters : List Waiter
   pub bodies : ℕ
 
+-- those who wait, in order, and how many goroutines and channels there may be
+pub record WaiterContents : Type 0 where
+  pub list : List Waiter
+  pub bodies : ℕ
+  pub channels : ℕ
+
 -- it is an offer of goroutine g
 abbrev pub is_of : GNo → Waiter → Bool
 is_of g w = w.g.0 == g.0

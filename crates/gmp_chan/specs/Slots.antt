@@ -22,7 +22,7 @@ abbrev pub IsLast : List (Option Waiter) → Waiter → Type 0
 IsLast slots w = (k : ℕ) (x : Waiter) → get_or slots k None ≡ Some x → rank x < rank w
 
 -- w is the first of those in the slots that pass
-pub record IsFirst (p : Waiter → Bool) (slots : List (Option Waiter)) (w : Waiter) : Type 0 where
+pub record IsFirstSlot (p : Waiter → Bool) (slots : List (Option Waiter)) (w : Waiter) : Type 0 where
   pub key : ℕ
   pub there : get_or slots key None ≡ Some w
   pub passes : p w ≡ true

@@ -2,12 +2,11 @@
 ghost use Rattle.std.specs.Prelude.{◌≡◌, ◌≤◌, ◌<◌, ◌+◌, ◌*◌, ◌++◌, [], ◌∷◌, true, None, Some, IsSome, count_by, find, nat_lt, set, get_or, IfSome, IfNone, IfOk};
 ghost use Rattle.gmp_seq.specs.declared.status.Waiter.{Waiter};
 ghost use Rattle.gmp_seq.specs.Waits.{as_waiters, first_on, is_on};
-ghost use Rattle.gmp_chan.specs.Contents.{is_of, without};
+ghost use Rattle.gmp_chan.specs.Contents.{WaiterContents, is_of, without};
 ghost use Rattle.gmp_chan.specs.Kept.{AreBelow, end_of};
 ghost use Rattle.gmp_chan.specs.Order.{is_at, is_later, rise};
-ghost use Rattle.gmp_chan.specs.Slots.{IsFirst, IsLast, IsNowhere, IsThere, earlier_of, in_order};
+ghost use Rattle.gmp_chan.specs.Slots.{IsFirstSlot, IsLast, IsNowhere, IsThere, earlier_of, in_order};
 ghost use Rattle.gmp_chan.specs.Stored.{IsStored};
-ghost use Rattle.gmp_chan.specs.Waiting.{Waiting};
 ghost use Rattle.slab.specs.Slab.{slab_len};
 
 use crate::rings::Rings;
@@ -80,7 +79,7 @@ impl Store {
     /// Who is first in the queue of the channel in this direction.
     fn first_in_queue(&self, c: CNo, direction: Direction) -> Option<Waiter>
         requires { IsStored self.now }
-        ensures some { IfSome result (λ w. IsFirst (is_on c direction) self.now.records.slots w) }
+        ensures some { IfSome result (λ w. IsFirstSlot (is_on c direction) self.now.records.slots w) }
         ensures none { IfNone result (IsNowhere (is_on c direction) self.now.records.slots) }
     {
         if c.0 >= self.channels {
@@ -136,9 +135,9 @@ pub(crate) struct Waiters {
 impl Model for Waiters {
     ghost use Rattle.gmp_chan.specs.Slots.{in_order};
     ghost use Rattle.gmp_chan.specs.Stored.{IsStored};
-    ghost use Rattle.gmp_chan.specs.Waiting.{Waiting};
+    ghost use Rattle.gmp_chan.specs.Contents.{WaiterContents};
 
-    ghost Value = { Waiting };
+    ghost Value = { WaiterContents };
 
     ghost view = { λ w. record { list = in_order w.store.records.slots; bodies = w.store.bodies; channels = w.store.channels } };
 

@@ -18,9 +18,9 @@ pub(crate) struct Machines {
 }
 
 impl Model for Machines {
-    ghost use Rattle.gmp_seq.specs.Machines.{Machines as Contents};
+    ghost use Rattle.gmp_seq.specs.Machines.{Machines as MachinesValue};
 
-    ghost Value = { Contents };
+    ghost Value = { MachinesValue };
 
     ghost view = { λ w. record { holders = w.holders.items; modes = w.modes.items; spinning = w.spinning.items } };
 }

@@ -31,9 +31,9 @@ pub(crate) struct State {
 }
 
 impl Model for State {
-    ghost use Rattle.gmp_seq.specs.State.{State as Contents};
+    ghost use Rattle.gmp_seq.specs.State.{State as StateValue};
 
-    ghost Value = { Contents };
+    ghost Value = { StateValue };
 
     ghost view = { λ s. record { table = s.table; channels = s.channels; machines = s.machines; counts = s.counts.items; outcome = s.outcome } };
 }

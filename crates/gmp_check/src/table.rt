@@ -24,16 +24,16 @@ pub(crate) struct Table {
     goroutines: Vec<Goroutine>,
     arrivals: u64,
     clock: u64,
-    // By machine, who runs there or is in its blocking call, where somebody is: nobody need be looked for.
+    // By machine, who runs there or is in its blocking call, so that nobody is looked for. Where nobody is, it may be one that has left.
     last: [GNo; 256],
 }
 
 impl Model for Table {
     ghost use Rattle.std.specs.Prelude.{◌<◌, ◌^◌, length};
     ghost use Rattle.gmp_check.specs.Last.{AreLast};
-    ghost use Rattle.gmp_seq.specs.Table.{Table as Contents};
+    ghost use Rattle.gmp_seq.specs.Table.{Table as TableValue};
 
-    ghost Value = { Contents };
+    ghost Value = { TableValue };
 
     ghost view = { λ t. record { goroutines = t.goroutines.items; arrivals = t.arrivals; clock = t.clock } };
 

@@ -54,14 +54,7 @@ impl Player {
             Ok(core) => Ok(Player {
                 core,
                 clock: Clock::of(readings),
-                choice: Choice {
-                    ask: Ask::Exit,
-                    number: 0,
-                    word: 0,
-                    moment: 0,
-                    push_refused: false,
-                    unsure: false,
-                },
+                choice: Choice::default(),
                 machines: limits.machines,
                 turn: 0,
             }),

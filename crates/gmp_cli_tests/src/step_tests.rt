@@ -1,7 +1,8 @@
 //! Large runs, and readers and writers that fail.
 use crate::tests::settings_of;
-use gmp_check_cli::check;
+use gmp_check_cli::{Progress, check};
 use gmp_cli::step;
+use gmp_trace::{Watch, Work};
 use gmp_words::{MAX_SCRIPT, Said};
 use std::alloc::Global;
 use std::io;
@@ -211,5 +212,64 @@ fn a_million_entries(rt: HostRuntime) -> Result<(), Fail> {
     let ended = step(alloc, &settings, &mut &script[..], &mut writer);
     assert_eq!(rt; ended.status, 3);
     assert_eq!(rt; writer.lines, 1_000_004);
+    Ok(())
+}
+
+/// What is told of a check.
+#[derive(Drop)]
+struct Notes {
+    begun: usize,
+    told: Vec<(Work, u64)>,
+    ended: bool,
+}
+
+impl Watch for Notes {
+    fn entries(&mut self, work: Work, count: u64) {
+        let _ = self.told.push((work, count));
+    }
+}
+
+impl Progress for Notes {
+    fn begin(&mut self, bytes: usize) {
+        self.begun = bytes;
+    }
+
+    fn end(&mut self) {
+        self.ended = true;
+    }
+}
+
+#[test]
+fn a_check_tells_how_far_it_is(rt: HostRuntime) -> Result<(), Fail> {
+    let alloc = rt.alloc();
+    let settings = settings_of(&rt, alloc, "gmp step --entries 140000")?;
+    let mut trace = Vec::new(alloc);
+    let ended = step(
+        alloc,
+        &settings,
+        &mut "body\nyield\nagain".as_bytes(),
+        &mut trace,
+    );
+    assert_eq!(rt; ended.status, 3);
+    let mut notes = Notes {
+        begun: 0,
+        told: Vec::new(alloc),
+        ended: false,
+    };
+    let mut summary = Counts::with_room(u64::MAX);
+    let ended = check(alloc, &mut trace.as_slice(), &mut summary, &mut notes);
+    assert_eq!(rt; ended.status, 0);
+    assert_eq!(rt; notes.begun, trace.len());
+    let told = notes.told.as_slice();
+    let want = [
+        (Work::Reading, 0),
+        (Work::Reading, 65_536),
+        (Work::Reading, 131_072),
+        (Work::Checking, 0),
+        (Work::Checking, 65_536),
+        (Work::Checking, 131_072),
+    ];
+    assert_eq!(rt; told, &want[..]);
+    assert!(rt; notes.ended);
     Ok(())
 }

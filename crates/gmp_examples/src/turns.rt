@@ -59,14 +59,7 @@ impl<T: Body> Table<T> {
         if self.core.parked(m) {
             return;
         }
-        let mut choice = Choice {
-            ask: Ask::Exit,
-            number: 0,
-            word: 0,
-            moment: 0,
-            push_refused: false,
-            unsure: false,
-        };
+        let mut choice = Choice::default();
         match self.core.wants(m) {
             Want::Ask => choice.ask = self.ask(m),
             Want::Number => choice.number = self.number(m),

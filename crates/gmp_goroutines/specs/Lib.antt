@@ -1,6 +1,5 @@
 pub mod Present
 pub mod Tied
 pub mod Served
-pub mod Replies
 pub mod Choice
 pub mod Shelf

@@ -13,7 +13,7 @@ ghost use Rattle.gmp_table.specs.declared.wake.Wake.{Wake};
 ghost use Rattle.gmp_table.specs.Waking.{IsFirst, answer_of};
 ghost use Rattle.gmp_table.specs.Kept.{IsListing};
 ghost use Rattle.gmp_chan.specs.Order.{are_made, rise};
-ghost use Rattle.gmp_goroutines.specs.Shelf.{Shelves, Wakes};
+ghost use Rattle.gmp_goroutines.specs.Shelf.{Shelves, WokenLast};
 ghost use Rattle.gmp_goroutines.specs.Present.{opening_present};
 ghost use Rattle.gmp_goroutines.specs.Tied.{IsEarly};
 
@@ -323,7 +323,7 @@ impl Goroutines {
         requires young { (g : GNo) → epoch_at self.old.table g < 2 ^ 63 }
         ensures table { self.new.table ≡ all_woken (answer_of wake) self.old.table }
         ensures count { result ≡ how_many_woken (answer_of wake) self.old.table }
-        ensures order { Wakes wake self.old.table self.old.shelf self.new.shelf }
+        ensures order { WokenLast wake self.old.table self.old.shelf self.new.shelf }
         ensures rest { self.new ≡ record self.old { table = self.new.table; shelf = self.new.shelf } }
     {
         let bodies = u64::from(self.table.len());
@@ -342,7 +342,7 @@ impl Goroutines {
     pub fn tick(&mut self, moment: u64) -> u64
         requires young { (g : GNo) → epoch_at self.old.table g < 2 ^ 63 }
         ensures ticks { Ticks moment (Reply.Woke result) self.old.table self.new.table }
-        ensures order { Wakes (Wake.Due self.new.table.clock) self.old.table self.old.shelf self.new.shelf }
+        ensures order { WokenLast (Wake.Due self.new.table.clock) self.old.table self.old.shelf self.new.shelf }
         ensures rest { self.new ≡ record self.old { table = self.new.table; shelf = self.new.shelf } }
     {
         let now = self.table.advance_clock(moment);

@@ -14,7 +14,7 @@ use Rattle.gmp_seq.specs.declared.status.Mode.{Mode}
 use Rattle.gmp_seq.specs.declared.status.Mode.TheVariants.{Awake, Parked, Calling}
 use Rattle.gmp_seq.specs.Machines.{Machines, Enters, Holds, IsAwake, IsParked, Pokes, how_many_spin, is_held_by, is_parked, set_holder, set_mode, some_idle, some_parked, wants_poke}
 use Rattle.gmp_idle.specs.Kept.{IsKept, flag_of}
-use Rattle.gmp_idle.specs.Replies.{poked}
+use Rattle.gmp_idle.specs.Replies.{poke_reply}
 use Rattle.gmp_idle.specs.Tables.{WakesLeast}
 use Rattle.gmp_idle.proofs.Holding.{flag-set_same, flag_told, given_up, holder_within, list_any-count_by, number_of, taken, turned}
 use Rattle.gmp_idle.proofs.Marking.{not-not}
@@ -127,7 +127,7 @@ wants w may some e parked =
     both (how_many_spin w == 0) (some_idle w) (some_parked w) ∙ (ap (λ (a : Bool). a && some_parked w) e ∙ ap (λ (a : Bool). may && a) parked)
 
 pub pokes : (old value : Machines) (m : MNo) (r : Option MNo) (woken : List Mode) → old ≡ value → IsAwake value m → may_wake old ≡ true → WakesLeast r old.modes woken
-    → Pokes m (poked r) value (record { holders = old.holders; modes = woken; spinning = old.spinning })
+    → Pokes m (poke_reply r) value (record { holders = old.holders; modes = woken; spinning = old.spinning })
 pokes old value m None woken is awake may wakes = (
   awake,
   ap wants_poke (sym is) ∙ wants old true false may wakes.0,

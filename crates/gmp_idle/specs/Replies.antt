@@ -7,13 +7,13 @@ use Rattle.gmp_seq.specs.declared.call.Reply.TheVariants as reply
 use Rattle.gmp_seq.specs.declared.status.Mode.{Mode}
 use Rattle.gmp_seq.specs.declared.status.Mode.TheVariants as mode
 
-abbrev pub acquired : Option PNo → Reply
-acquired (Some p) = reply.Proc p
-acquired None = reply.Nothing
+abbrev pub acquire_reply : Option PNo → Reply
+acquire_reply (Some p) = reply.Proc p
+acquire_reply None = reply.Nothing
 
-abbrev pub poked : Option MNo → Reply
-poked (Some m) = reply.Wakes m
-poked None = reply.Nothing
+abbrev pub poke_reply : Option MNo → Reply
+poke_reply (Some m) = reply.Wakes m
+poke_reply None = reply.Nothing
 
 abbrev pub is_awake_mode : Mode → Bool
 is_awake_mode mode.Awake = true

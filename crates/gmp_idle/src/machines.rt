@@ -5,7 +5,7 @@ ghost use Rattle.gmp_base.specs.declared.number.Readiness.{Readiness};
 ghost use Rattle.gmp_seq.specs.declared.call.Reply.{Reply};
 ghost use Rattle.gmp_seq.specs.declared.status.Mode.{Mode};
 ghost use Rattle.gmp_seq.specs.Machines.{Acquires, Declares, Enters, Holds, IsAwake, IsParked, Looks, Pokes, Returns, Spins, Unspins, has_processor, how_many_spin, is_held_by, is_parked, may_spin, set_holder, set_mode, some_idle, spins};
-ghost use Rattle.gmp_idle.specs.Replies.{acquired, is_awake_mode, is_calling_mode, poked};
+ghost use Rattle.gmp_idle.specs.Replies.{acquire_reply, is_awake_mode, is_calling_mode, poke_reply};
 
 use crate::modes::Modes;
 use crate::processors::Processors;
@@ -28,10 +28,10 @@ pub struct Machines {
 }
 
 impl Model for Machines {
-    ghost use Rattle.gmp_seq.specs.Machines.{Machines as Contents};
+    ghost use Rattle.gmp_seq.specs.Machines.{Machines as MachinesValue};
     ghost use Rattle.gmp_idle.specs.Kept.{IsKept};
 
-    ghost Value = { Contents };
+    ghost Value = { MachinesValue };
 
     ghost view = { λ w. record { holders = w.processors; modes = w.modes; spinning = w.spinning } };
 
@@ -107,7 +107,7 @@ impl Machines {
     pub fn acquire(&mut self, m: MNo) -> Option<PNo>
         requires awake { IsAwake self.old m }
         requires bare { has_processor self.old m ≡ false }
-        ensures acquires { Acquires m (acquired result) self.old self.new }
+        ensures acquires { Acquires m (acquire_reply result) self.old self.new }
         ensures least { IfSome result (λ p. position is_none self.old.holders ≡ Some p.0) }
     {
         let p = self.processors.take(m)?;
@@ -203,7 +203,7 @@ impl Machines {
     /// m wakes the least parked machine, where nobody spins and a processor is idle.
     pub fn poke(&mut self, m: MNo) -> Option<MNo>
         requires { IsAwake self.old m }
-        ensures pokes { Pokes m (poked result) self.old self.new }
+        ensures pokes { Pokes m (poke_reply result) self.old self.new }
         ensures least { IfSome result (λ n. position is_parked self.old.modes ≡ Some n.0) }
     {
         if !self.may_wake() {

@@ -7,7 +7,7 @@ use Rattle.gmp_base.specs.declared.ask.Woke.TheVariants as woke
 use Rattle.gmp_base.specs.declared.cases.Case.TheVariants as case
 use Rattle.gmp_seq.specs.State.{SameChannels}
 use Rattle.gmp_seq.proofs.Counts.{asleep_where_said}
-use Rattle.gmp_ledger.specs.Done.{Done}
+use Rattle.gmp_ledger.specs.Done.{IsDoneTo}
 use Rattle.gmp_seq.specs.declared.call.Call.TheVariants as call
 use Rattle.gmp_seq.specs.declared.call.Reply.TheVariants as reply
 use Rattle.gmp_seq.specs.declared.status.Place.TheVariants as place
@@ -133,7 +133,7 @@ park_minds until limits m g p answer old new order grants (ongoing, (bare, done)
 
 -- All calls
 
-pub done : (asked : Call) → StepsAre asked (Done asked)
+pub done : (asked : Call) → StepsAre asked (IsDoneTo asked)
 done (call.Claim r) limits m g p answer old new order grants step = claim r limits m g p answer old new order grants step
 done call.Yield limits m g p answer old new order grants step = (by_this limits m g old (λ (h : GNo). OnTable (Yields h answer) old new) order grants step.1).0
 done call.Exit limits m g p answer old new order grants step =

@@ -17,19 +17,19 @@ use Rattle.gmp_ledger.specs.Grants.{Leaves}
 
 -- A call of m that was handed the goroutine g or the processor p, and was answered so: who yields is ready, who exits is dead, who waits does
 -- so until the moment and for the offers that the call names, and whose blocking call begins or ends is that goroutine.
-abbrev pub Done : Call → MNo → GNo → PNo → Reply → State → State → Type 0
+abbrev pub IsDoneTo : Call → MNo → GNo → PNo → Reply → State → State → Type 0
 -- a claim stores nothing new: its goroutine is told what was stored for it
-Done (call.Claim r) m g p answer old new = IsReady old.table r Out (stored_at old.table r.g)
-Done call.Yield m g p answer old new = Yields g answer old.table new.table
-Done call.Exit m g p answer old new = Exits g answer old.table new.table × (answer ≡ reply.MainEnded ↔ (g.0 ≡ 0))
-Done (call.Send c v) m g p answer old new = Deals g (case.Send c v) answer old new
-Done (call.Recv c) m g p answer old new = Deals g (case.Recv c) answer old new
-Done (call.Select cases has_default until) m g p answer old new = Selects g cases has_default until answer old new
-Done (call.Sleep until) m g p answer old new = Sleeps g until answer old.table new.table
-Done call.Gopark m g p answer old new = Goparks g answer old.table new.table
-Done call.Enter m g p answer old new = (new.table ≡ set_status old.table g (Calling m)) × (woken : Option MNo) × (answer ≡ reply.Entered p woken)
-Done (call.Leave number) m g p answer old new = Leaves m g number answer old new
-Done call.Declare m g p answer old new = answer ≡ reply.Idle p
+IsDoneTo (call.Claim r) m g p answer old new = IsReady old.table r Out (stored_at old.table r.g)
+IsDoneTo call.Yield m g p answer old new = Yields g answer old.table new.table
+IsDoneTo call.Exit m g p answer old new = Exits g answer old.table new.table × (answer ≡ reply.MainEnded ↔ (g.0 ≡ 0))
+IsDoneTo (call.Send c v) m g p answer old new = Deals g (case.Send c v) answer old new
+IsDoneTo (call.Recv c) m g p answer old new = Deals g (case.Recv c) answer old new
+IsDoneTo (call.Select cases has_default until) m g p answer old new = Selects g cases has_default until answer old new
+IsDoneTo (call.Sleep until) m g p answer old new = Sleeps g until answer old.table new.table
+IsDoneTo call.Gopark m g p answer old new = Goparks g answer old.table new.table
+IsDoneTo call.Enter m g p answer old new = (new.table ≡ set_status old.table g (Calling m)) × (woken : Option MNo) × (answer ≡ reply.Entered p woken)
+IsDoneTo (call.Leave number) m g p answer old new = Leaves m g number answer old new
+IsDoneTo call.Declare m g p answer old new = answer ≡ reply.Idle p
 -- all are asleep exactly where a park says so, and it tells a moment exactly where nobody is ready or running and that is the least deadline
-Done call.Park m g p answer old new = (answer ≡ reply.AllAsleep ↔ IsAsleep old.table) × ((until : ℕ) → answer ≡ reply.Mind until ↔ (minded old.table ≡ Some until))
-Done _ m g p answer old new = Unit {0}
+IsDoneTo call.Park m g p answer old new = (answer ≡ reply.AllAsleep ↔ IsAsleep old.table) × ((until : ℕ) → answer ≡ reply.Mind until ↔ (minded old.table ≡ Some until))
+IsDoneTo _ m g p answer old new = Unit {0}

@@ -38,6 +38,6 @@ NeedsOf m g p _ s = IsRunning s.table g m
 
 -- Where the call is granted with this goroutine and this processor, a step that it makes is so.
 abbrev pub StepsAre : Call → (MNo → GNo → PNo → Reply → State → State → Type 0) → Type 0
-StepsAre asked Done =
+StepsAre asked P =
     (limits : Limits) (m : MNo) (g : GNo) (p : PNo) (answer : Reply) (old new : State) → IsInOrder limits old → Grants m g p asked old → Step limits m asked answer old new
-    → Done m g p answer old new
+    → P m g p answer old new

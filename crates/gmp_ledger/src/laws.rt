@@ -3,7 +3,7 @@ ghost use Rattle.std.specs.Prelude.{◌≡◌, false, None, ◌↔◌};
 ghost use Rattle.gmp_base.specs.declared.pass.Pass.{Pass};
 ghost use Rattle.gmp_seq.specs.declared.call.Call.{Call};
 ghost use Rattle.gmp_ledger.specs.declared.handed.Handed.{Handed};
-ghost use Rattle.gmp_ledger.specs.Done.{Done};
+ghost use Rattle.gmp_ledger.specs.Done.{IsDoneTo};
 ghost use Rattle.gmp_ledger.specs.Grants.{Suits};
 ghost use Rattle.gmp_ledger.specs.Handed.{goroutine_in, names_other, processor_in};
 ghost use Rattle.gmp_ledger.specs.Laws.{StepsAre, NeedsOf};
@@ -22,5 +22,5 @@ pub fn granted_where_needed()
 /// goroutine. A park is answered that all are asleep exactly where they are, and a moment to mind exactly where nobody is ready or running
 /// and it is the least deadline.
 pub fn done_to_what_is_handed()
-    ensures { (asked : Call) → StepsAre asked (Done asked) }
+    ensures { (asked : Call) → StepsAre asked (IsDoneTo asked) }
 {}

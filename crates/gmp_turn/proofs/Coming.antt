@@ -20,7 +20,7 @@ use Rattle.gmp_seq.specs.Step.{ticket_in}
 use Rattle.gmp_ledger.specs.Log.{Log, Records}
 use Rattle.gmp_book.specs.declared.values.Values.{Values}
 use Rattle.gmp_book.specs.declared.values.Way.{Way}
-use Rattle.gmp_book.specs.declared.values.Way.TheVariants.{Stays, Home, Out, Calls, Returns}
+use Rattle.gmp_book.specs.declared.values.Way.TheVariants.{Stays, Home, OutOfPlace, IntoCall, OutOfCall}
 use Rattle.gmp_book.specs.Book.{BookContents}
 use Rattle.gmp_book.specs.Hands.{Hands, HandsBody, HandsOwner, back_where, handed_back, is_make, ticket_by, values_back, way_of}
 use Rattle.gmp_driver.specs.declared.act.Act.TheVariants as act
@@ -94,11 +94,11 @@ body_of : {T : Type 0} (w : Way) (run n : ℕ) (g : GNo) (told : Woke) (held : O
 body_of Stays run n g told (Some h) called held' called' old new e r s k = (rw k.0 r, rw k.1 s)
 body_of Stays run n g told None called held' called' old new e r s k = (rw k.0 tt, rw k.1 s)
 body_of Home run n g told held called held' called' old new e r s k = (rw k.0 tt, rw k.1 tt)
-body_of Out run n g told held called held' called' old new e r s k = (rw k.1 e, rw k.2 s)
-body_of Calls run n g told (Some h) called held' called' old new e r s k = (rw k.0 tt, rw k.1 r)
-body_of Calls run n g told None called held' called' old new e r s k = (rw k.0 tt, rw k.1 tt)
-body_of Returns run n g told held (Some c) held' called' old new e r s k = (rw k.0 s, rw k.1 tt)
-body_of Returns run n g told held None held' called' old new e r s k = (rw k.0 tt, rw k.1 tt)
+body_of OutOfPlace run n g told held called held' called' old new e r s k = (rw k.1 e, rw k.2 s)
+body_of IntoCall run n g told (Some h) called held' called' old new e r s k = (rw k.0 tt, rw k.1 r)
+body_of IntoCall run n g told None called held' called' old new e r s k = (rw k.0 tt, rw k.1 tt)
+body_of OutOfCall run n g told held (Some c) held' called' old new e r s k = (rw k.0 s, rw k.1 tt)
+body_of OutOfCall run n g told held None held' called' old new e r s k = (rw k.0 tt, rw k.1 tt)
 
 owner_of : {Q : Type 0} (answer : Reply) (run n : ℕ) (given back : Option (Proc Q)) (old new : List (Option Q)) → n ≡ run → IfSome given (λ x. x.run ≡ run)
     → HandsOwner answer n given back old new → IfSome back (λ x. x.run ≡ run)

@@ -11,7 +11,7 @@ use Rattle.gmp_base.specs.declared.value.Proc.{Proc}
 use Rattle.gmp_seq.specs.declared.call.Reply.{Reply}
 use Rattle.gmp_seq.specs.declared.call.Reply.TheVariants as reply
 use Rattle.gmp_book.specs.declared.values.Way.{Way}
-use Rattle.gmp_book.specs.declared.values.Way.TheVariants.{Stays, Home, Out, Calls, Returns}
+use Rattle.gmp_book.specs.declared.values.Way.TheVariants.{Stays, Home, OutOfPlace, IntoCall, OutOfCall}
 use Rattle.gmp_book.specs.Hands.{HandsBody, HandsOwner, handed_back, with_home, with_owner}
 use Rattle.gmp_driver.specs.declared.registers.CalledParts.{CalledParts}
 use Rattle.gmp_driver.specs.declared.registers.HeldParts.{HeldParts}
@@ -34,9 +34,9 @@ module _ {T : Type 0} where
   abbrev pub MayGo : Way → Option (HeldParts T) → Option (CalledParts T) → Option (HeldParts T) → Option (CalledParts T) → Type 0
   MayGo Stays used used_called left left_called = Unit {0}
   MayGo Home used used_called left left_called = (left ≡ None) × (left_called ≡ None) × (IsNone used ⊎ IsNone used_called)
-  MayGo Out used used_called left left_called = (used ≡ None) × (used_called ≡ None) × (left ≡ None) × (left_called ≡ None)
-  MayGo Calls used used_called left left_called = (used_called ≡ None) × (left ≡ None) × (left_called ≡ None)
-  MayGo Returns used used_called left left_called = (used ≡ None) × (left ≡ None) × (left_called ≡ None)
+  MayGo OutOfPlace used used_called left left_called = (used ≡ None) × (used_called ≡ None) × (left ≡ None) × (left_called ≡ None)
+  MayGo IntoCall used used_called left left_called = (used_called ≡ None) × (left ≡ None) × (left_called ≡ None)
+  MayGo OutOfCall used used_called left left_called = (used ≡ None) × (left ≡ None) × (left_called ≡ None)
 
   module _ (run : ℕ) (old : List (Option T)) where
     pub give_held : (h : Option (HeldParts T)) (c : Option (CalledParts T)) → IsNone h ⊎ IsNone c → AreOut (body_of h c) old → KeepsValues (body_of h c) (body_of None c) old (with_home (option_map (held_of run) h) None old)
@@ -66,11 +66,11 @@ module _ {T : Type 0} where
     body_kept Home None (Some c) f k out = rw (k.0, k.1, k.2, f.0, f.1) (give_called run old None (Some c) (inl refl) (rw f.0 at out))
     body_kept Home (Some h) None f k out = rw (k.0, k.1, k.2, f.0, f.1) (give_held run old (Some h) None (inr refl) (rw f.1 at out))
     body_kept Home (Some h) (Some c) f k out = absurd (elim f.2 [ inl e ↦ true≢false e | inr e ↦ true≢false e ])
-    body_kept Out h c f k out = rw (k.1, k.2, k.4, f.0, f.1, f.2, f.3) (come_out _ _ old g.0 k.0 (λ i. refl) (λ i. alone _) k.3)
-    body_kept Calls None c f k out = rw (k.0, k.1, k.2, f.0, f.1, f.2) (stay _ _ old (λ i. refl) (rw (f.0, f.1, f.2) at out))
-    body_kept Calls (Some h) c f k out = rw (k.0, k.1, k.2, f.0, f.1, f.2) (stay _ _ old (λ i. sym (alone _)) (rw (f.0, f.2) at out))
-    body_kept Returns h None f k out = rw (k.0, k.1, k.2, f.0, f.1, f.2) (stay _ _ old (λ i. refl) (rw (f.0, f.1, f.2) at out))
-    body_kept Returns h (Some c) f k out = rw (k.0, k.1, k.2, f.0, f.1, f.2) (stay _ _ old (λ i. alone _) (rw (f.0, f.1) at out))
+    body_kept OutOfPlace h c f k out = rw (k.1, k.2, k.4, f.0, f.1, f.2, f.3) (come_out _ _ old g.0 k.0 (λ i. refl) (λ i. alone _) k.3)
+    body_kept IntoCall None c f k out = rw (k.0, k.1, k.2, f.0, f.1, f.2) (stay _ _ old (λ i. refl) (rw (f.0, f.1, f.2) at out))
+    body_kept IntoCall (Some h) c f k out = rw (k.0, k.1, k.2, f.0, f.1, f.2) (stay _ _ old (λ i. sym (alone _)) (rw (f.0, f.2) at out))
+    body_kept OutOfCall h None f k out = rw (k.0, k.1, k.2, f.0, f.1, f.2) (stay _ _ old (λ i. refl) (rw (f.0, f.1, f.2) at out))
+    body_kept OutOfCall h (Some c) f k out = rw (k.0, k.1, k.2, f.0, f.1, f.2) (stay _ _ old (λ i. alone _) (rw (f.0, f.1) at out))
 
   -- a goroutine that is handed back has its body
   pub held_again : (run : ℕ) (why : Refusal) (h l : Option (HeldParts T)) (i : ℕ) → held_body (first_of (option_map held_parts (option_map (handed_back why) (option_map (held_of run) h))) l) i ≡ held_body (first_of h l) i

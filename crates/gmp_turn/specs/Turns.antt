@@ -7,7 +7,7 @@ use Rattle.gmp_seq.specs.declared.call.Call.{Call}
 use Rattle.gmp_seq.specs.declared.call.Call.TheVariants as call
 use Rattle.gmp_seq.specs.declared.call.Reply.{Reply}
 use Rattle.gmp_seq.specs.declared.call.Reply.TheVariants as reply
-use Rattle.gmp_ledger.specs.Done.{Done}
+use Rattle.gmp_ledger.specs.Done.{IsDoneTo}
 use Rattle.gmp_seq.specs.Needs.{WantsMemory}
 use Rattle.gmp_ledger.specs.Grants.{Chooses}
 use Rattle.gmp_ledger.specs.Handed.{goroutine_in, processor_in}
@@ -69,7 +69,7 @@ pub record Turns {T Q : Type 0} (x : Machine T Q) (book : BookContents T Q) (ask
   -- where a word is drawn it is this one
   pub choice : IfOk result (λ answer. Chooses asked word answer book.log.state book.log.shelf)
   pub hands : IfOk result (λ answer. Hands asked answer (values_in (handed_out x before asked)) back book book')
-  pub done : IfOk result (λ answer. let v = handed_of (values_in (handed_out x before asked)) in Done asked before.m (goroutine_in v) (processor_in v) answer book.log.state book'.log.state)
+  pub done : IfOk result (λ answer. let v = handed_of (values_in (handed_out x before asked)) in IsDoneTo asked before.m (goroutine_in v) (processor_in v) answer book.log.state book'.log.state)
   pub machine : x' ≡ after (record x { pass = Some behind; hand = hand_with asked x.hand (load_back behind (is_to_claim asked (handed_out x before asked)) back) }) (told_of result)
 
 -- the machine that a reply names to wake

@@ -2,7 +2,7 @@
 ghost use Rattle.std.specs.Prelude.{◌≡◌, true, None, IfErr, IfOk, OnErr, OnOk};
 ghost use Rattle.gmp_seq.specs.Step.{ticket_in};
 ghost use Rattle.std.specs.Option.{option_map};
-ghost use Rattle.gmp_ledger.specs.Done.{Done};
+ghost use Rattle.gmp_ledger.specs.Done.{IsDoneTo};
 ghost use Rattle.gmp_seq.specs.Needs.{WantsMemory};
 ghost use Rattle.gmp_ledger.specs.Grants.{Chooses, NeedsMemory, Suits};
 ghost use Rattle.gmp_ledger.specs.Handed.{by_held, goroutine_in, nothing_handed, processor_in};
@@ -18,7 +18,7 @@ use std::alloc::Global;
 
 impl<T, Q> Book<T, Q> {
     ghost use Rattle.gmp_book.specs.Book.{SameValues};
-    ghost use Rattle.gmp_book.specs.Hands.{back_of, ticket_by};
+    ghost use Rattle.gmp_book.specs.Hands.{held_back, ticket_by};
     ghost use Rattle.gmp_book.specs.Kinds.{goes_on, is_own, may_wait, moves_nothing};
     ghost use Rattle.gmp_book.specs.Went.{GoesBy, IsOn, Moves, MovesBody};
 
@@ -36,7 +36,7 @@ impl<T, Q> Book<T, Q> {
         ensures err { OnErr result ((self.new ≡ self.old) × (pass.new ≡ pass.old)) }
         ensures records { IfOk result (λ x. Records self.old.log pass.old call x.1 self.new.log pass.new) }
         ensures choice { IfOk result (λ x. Chooses call 0 x.1 self.old.log.state self.old.log.shelf) }
-        ensures done { IfOk result (λ x. Done call pass.old.m (goroutine_in nothing_handed) (processor_in nothing_handed) x.1 self.old.log.state self.new.log.state) }
+        ensures done { IfOk result (λ x. IsDoneTo call pass.old.m (goroutine_in nothing_handed) (processor_in nothing_handed) x.1 self.old.log.state self.new.log.state) }
         ensures ticket { IfOk result (λ x. x.0 ≡ option_map (ticket_by self.old.log.run) (ticket_in x.1)) }
         ensures values { OnOk result (SameValues self.old self.new) }
     {
@@ -75,11 +75,11 @@ impl<T, Q> Book<T, Q> {
         requires memory { NeedsMemory call memory }
         ensures plain { NeedsMemory call None → why_refused result ≡ refusal_of self.old.log pass.old call (by_held held) }
         ensures refused { Says (WantsMemory self.old.log.limits call self.old.log.state) (refusal_of self.old.log pass.old call (by_held held)) (why_refused result) }
-        ensures back { IfErr result (λ r. r.back ≡ back_of call r.why held) }
+        ensures back { IfErr result (λ r. r.back ≡ held_back call r.why held) }
         ensures err { OnErr result ((self.new ≡ self.old) × (pass.new ≡ pass.old)) }
         ensures records { IfOk result (λ x. Records self.old.log pass.old call x.1 self.new.log pass.new) }
         ensures choice { IfOk result (λ x. Chooses call word x.1 self.old.log.state self.old.log.shelf) }
-        ensures done { IfOk result (λ x. Done call pass.old.m held.g (processor_in (by_held held)) x.1 self.old.log.state self.new.log.state) }
+        ensures done { IfOk result (λ x. IsDoneTo call pass.old.m held.g (processor_in (by_held held)) x.1 self.old.log.state self.new.log.state) }
         ensures goes { IfOk result (λ x. GoesBy x.1 held x.0) }
         ensures on { IfOk result (λ x. goes_on call ≡ true → IsOn x.0) }
         ensures moves { IfOk result (λ x. may_wait call ≡ true → Moves x.1 held x.0) }

@@ -10,7 +10,7 @@ ghost use Rattle.gmp_seq.specs.Table.{IsReady, made_ready, made_wait, next_of, s
 ghost use Rattle.gmp_ledger.specs.Handed.{by_held, by_ticket, nothing_handed};
 ghost use Rattle.gmp_ledger.specs.Log.{Records};
 ghost use Rattle.gmp_ledger.specs.Refusals.{refusal_in, refusal_of, why_refused};
-ghost use Rattle.gmp_book.specs.Replies.{left, taken};
+ghost use Rattle.gmp_book.specs.Replies.{exit_reply, take_reply};
 
 use crate::answers::Exited;
 use crate::book::Book;
@@ -27,7 +27,7 @@ impl<T, Q> Book<T, Q> {
     pub fn take(&mut self, pass: &mut Pass) -> Result<Option<Ticket>, Refusal>
         ensures refused { refusal_in result ≡ refusal_of self.old.log pass.old Call.Take nothing_handed }
         ensures err { OnErr result ((self.new ≡ self.old) × (pass.new ≡ pass.old)) }
-        ensures entry { IfOk result (λ ticket. Records self.old.log pass.old Call.Take (taken (option_map readiness_of ticket)) self.new.log pass.new) }
+        ensures entry { IfOk result (λ ticket. Records self.old.log pass.old Call.Take (take_reply (option_map readiness_of ticket)) self.new.log pass.new) }
         ensures run { IfOk result (λ ticket. IfSome ticket (λ t. t.run ≡ self.old.log.run)) }
         ensures values { OnOk result (SameValues self.old self.new) }
     {
@@ -115,7 +115,7 @@ impl<T, Q> Book<T, Q> {
         ensures refused { why_refused result ≡ refusal_of self.old.log pass.old Call.Exit (by_held held) }
         ensures back { IfErr result (λ r. r.back ≡ held) }
         ensures err { OnErr result ((self.new ≡ self.old) × (pass.new ≡ pass.old)) }
-        ensures entry { IfOk result (λ e. Records self.old.log pass.old Call.Exit (left e) self.new.log pass.new) }
+        ensures entry { IfOk result (λ e. Records self.old.log pass.old Call.Exit (exit_reply e) self.new.log pass.new) }
         ensures main { IfOk result (λ e. e ≡ Exited.MainEnded ↔ (held.g.0 ≡ 0)) }
         ensures dead { OnOk result (self.new.log.state.table ≡ set_status self.old.log.state.table held.g Status.Dead) }
         ensures body { OnOk result (TakesBack self.old self.new held) }

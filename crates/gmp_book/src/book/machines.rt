@@ -1,6 +1,6 @@
 //! Machines, their processors and blocking calls, and the clock.
 ghost use Rattle.std.specs.Prelude.{◌≡◌, ◌↔◌, ℕ, Some, is_none, position, option_map, OnOk, OnErr, IfOk, IfErr, IfSome, MatchOption};
-ghost use Rattle.gmp_idle.specs.Replies.{acquired, poked};
+ghost use Rattle.gmp_idle.specs.Replies.{acquire_reply, poke_reply};
 ghost use Rattle.gmp_seq.specs.declared.status.Status.{Status};
 ghost use Rattle.gmp_seq.specs.Machines.{is_parked};
 ghost use Rattle.gmp_seq.specs.Step.{Resumes};
@@ -8,7 +8,7 @@ ghost use Rattle.gmp_seq.specs.Table.{IsAsleep, minded, set_status};
 ghost use Rattle.gmp_ledger.specs.Handed.{by_called, by_held_and_proc, by_proc, nothing_handed};
 ghost use Rattle.gmp_ledger.specs.Log.{Records};
 ghost use Rattle.gmp_ledger.specs.Refusals.{refusal_in, refusal_of, why_refused};
-ghost use Rattle.gmp_book.specs.Replies.{parking};
+ghost use Rattle.gmp_book.specs.Replies.{park_reply};
 
 use crate::answers::Parking;
 use crate::book::Book;
@@ -19,13 +19,13 @@ use gmp_seq::{Call, Reply};
 
 impl<T, Q> Book<T, Q> {
     ghost use Rattle.gmp_book.specs.Book.{HandsOutOwner, SameValues, TakesBackOwner};
-    ghost use Rattle.gmp_book.specs.Returns.{ByLeast, ComesBack, returned};
+    ghost use Rattle.gmp_book.specs.Returns.{ByLeast, ComesBack, leave_reply};
 
     /// Lets the machine hold the least idle processor, if one is idle.
     pub fn acquire(&mut self, pass: &mut Pass) -> Result<Option<Proc<Q>>, Refusal>
         ensures refused { refusal_in result ≡ refusal_of self.old.log pass.old Call.Acquire nothing_handed }
         ensures err { OnErr result ((self.new ≡ self.old) × (pass.new ≡ pass.old)) }
-        ensures entry { IfOk result (λ proc. Records self.old.log pass.old Call.Acquire (acquired (option_map (λ x. x.p) proc)) self.new.log pass.new) }
+        ensures entry { IfOk result (λ proc. Records self.old.log pass.old Call.Acquire (acquire_reply (option_map (λ x. x.p) proc)) self.new.log pass.new) }
         ensures proc { IfOk result (λ proc. MatchOption proc (SameValues self.old self.new) (HandsOutOwner self.old self.new)) }
         ensures least { IfOk result (λ proc. IfSome proc (λ x. position is_none self.old.log.state.machines.holders ≡ Some x.p.0)) }
     {
@@ -61,7 +61,7 @@ impl<T, Q> Book<T, Q> {
     pub fn poke(&mut self, pass: &mut Pass) -> Result<Option<MNo>, Refusal>
         ensures refused { refusal_in result ≡ refusal_of self.old.log pass.old Call.Poke nothing_handed }
         ensures err { OnErr result ((self.new ≡ self.old) × (pass.new ≡ pass.old)) }
-        ensures entry { IfOk result (λ m. Records self.old.log pass.old Call.Poke (poked m) self.new.log pass.new) }
+        ensures entry { IfOk result (λ m. Records self.old.log pass.old Call.Poke (poke_reply m) self.new.log pass.new) }
         ensures least { IfOk result (λ m. IfSome m (λ n. position is_parked self.old.log.state.machines.modes ≡ Some n.0)) }
         ensures values { OnOk result (SameValues self.old self.new) }
     {
@@ -77,7 +77,7 @@ impl<T, Q> Book<T, Q> {
     pub fn park(&mut self, pass: &mut Pass) -> Result<Parking, Refusal>
         ensures refused { refusal_in result ≡ refusal_of self.old.log pass.old Call.Park nothing_handed }
         ensures err { OnErr result ((self.new ≡ self.old) × (pass.new ≡ pass.old)) }
-        ensures entry { IfOk result (λ answer. Records self.old.log pass.old Call.Park (parking answer) self.new.log pass.new) }
+        ensures entry { IfOk result (λ answer. Records self.old.log pass.old Call.Park (park_reply answer) self.new.log pass.new) }
         ensures asleep { IfOk result (λ answer. answer ≡ Parking.AllAsleep ↔ IsAsleep self.old.log.state.table) }
         // It minds the least deadline exactly where one stands and nobody is ready or running.
         ensures minds { IfOk result (λ answer. (until : ℕ) → answer ≡ Parking.Mind until ↔ (minded self.old.log.state.table ≡ Some until)) }
@@ -200,8 +200,8 @@ impl<T, Q> Book<T, Q> {
         ensures refused { why_refused result ≡ refusal_of self.old.log pass.old (Call.Leave number) (by_called called) }
         ensures back { IfErr result (λ r. r.back ≡ called) }
         ensures err { OnErr result ((self.new ≡ self.old) × (pass.new ≡ pass.old)) }
-        ensures entry { IfOk result (λ x. Records self.old.log pass.old (Call.Leave number) (returned self.old.log.state.table called.g x) self.new.log pass.new) }
-        ensures table { IfOk result (λ x. Resumes called.g pass.old.m number (returned self.old.log.state.table called.g x) self.old.log.state.table self.new.log.state.table) }
+        ensures entry { IfOk result (λ x. Records self.old.log pass.old (Call.Leave number) (leave_reply self.old.log.state.table called.g x) self.new.log pass.new) }
+        ensures table { IfOk result (λ x. Resumes called.g pass.old.m number (leave_reply self.old.log.state.table called.g x) self.old.log.state.table self.new.log.state.table) }
         ensures resumes { IfOk result (ComesBack self.old self.new called number) }
         ensures least { IfOk result (ByLeast self.old.log.state.machines) }
     {

@@ -4,7 +4,7 @@ use Rattle.std.proofs.lemmas.Bool.{false≢true}
 use Rattle.gmp_seq.specs.declared.call.Call.{Call}
 use Rattle.gmp_seq.specs.declared.call.Call.TheVariants as call
 use Rattle.gmp_seq.specs.Needs.{WantsMemory}
-use Rattle.gmp_ledger.specs.Done.{Done}
+use Rattle.gmp_ledger.specs.Done.{IsDoneTo}
 use Rattle.gmp_ledger.specs.Grants.{NeedsMemory}
 use Rattle.gmp_ledger.specs.Handed.{goroutine_in, processor_in}
 use Rattle.gmp_ledger.specs.Refusals.{Says, refusal_of}
@@ -62,7 +62,7 @@ returns-after-ticket-clause-done g c =
     let grants = rw c.handed-given.ensures at k.ensures.grants in
     let g = goroutine_in (handed_of a.values) in
     let p = processor_in (handed_of a.values) in
-    subst (λ (b : BookContents _ _). Done a.call a.pass.now.m g p k.reply b.log.state c.call.new.self.state) c.self.view_is
+    subst (λ (b : BookContents _ _). IsDoneTo a.call a.pass.now.m g p k.reply b.log.state c.call.new.self.state) c.self.view_is
     (done a.call i.ledger.limits a.pass.now.m g p k.reply i.ledger.state c.call.new.self.state k.ensures.order grants k.ensures.records.step)
 
 pub returns-in-Err-clause-refused : goal.returns-in-Err-clause-refused
