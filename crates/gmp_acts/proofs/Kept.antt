@@ -221,8 +221,8 @@ module _ (k : System) (m : MNo) (c : Call) (answer : Reply) (inside : m.0 < leng
   standing =
       let few : m.0 < length k.book.state.machines.spinning = (let e = sizes.spinning in let w = within_limits in omega (arith, e, w)) in
       record {
-        runner = λ g runs. (order.runner g m runs).0;
-        caller = λ g calls. (order.caller m).0 (g, calls);
+        runner = λ g runs. (order.together.runner g m runs).0;
+        caller = λ g calls. (order.together.caller m).0 (g, calls);
         spins_row = get_or k.book.state.machines.spinning m.0 false;
         spins_at = slice_get-get_or k.book.state.machines.spinning m.0 false few;
       }

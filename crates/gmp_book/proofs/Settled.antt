@@ -80,12 +80,12 @@ module _ {T : Type 0} (limits : Limits) (old : State) (m : MNo) (order : IsInOrd
   pub home_in : (hb cb : Bool) (h : Option (Held T)) (c : Option (Called T)) (new : Table) (g : GNo) → cb ≡ not hb → HeldBy hb m old.table h → CalledBy cb m old.table c → IsHeld old.table g m
       → ins new ≡ set (ins old.table) g.0 true → (BodiesIn new (with_home h c bodies)) × (length (with_home h c bodies) ≡ length bodies)
   home_in true false (Some h) None new g e held called its is =
-      (place_set bodies (ins old.table) (ins new) h.g.0 g.0 (Some h.body) kept (ap (λ (k : GNo). k.0) (order.one_goroutine m h.g g (inl held) its)) is, length-set bodies h.g.0 (Some h.body))
+      (place_set bodies (ins old.table) (ins new) h.g.0 g.0 (Some h.body) kept (ap (λ (k : GNo). k.0) (order.together.one_goroutine m h.g g (inl held) its)) is, length-set bodies h.g.0 (Some h.body))
   home_in true false (Some h) (Some c) new g e held called its is = absurd called
   home_in true false None c new g e held called its is = absurd held
   home_in true true h c new g e held called its is = absurd cc
   home_in false true None (Some c) new g e held called its is =
-      (place_set bodies (ins old.table) (ins new) c.g.0 g.0 (Some c.body) kept (ap (λ (k : GNo). k.0) (order.one_goroutine m c.g g (inr called) its)) is, length-set bodies c.g.0 (Some c.body))
+      (place_set bodies (ins old.table) (ins new) c.g.0 g.0 (Some c.body) kept (ap (λ (k : GNo). k.0) (order.together.one_goroutine m c.g g (inr called) its)) is, length-set bodies c.g.0 (Some c.body))
   home_in false true None None new g e held called its is = absurd called
   home_in false true (Some h) c new g e held called its is = absurd held
   home_in false false h c new g e held called its is = absurd cc
@@ -120,7 +120,7 @@ module _ {Q : Type 0} (limits : Limits) (old : State) (m : MNo) (order : IsInOrd
   place_in : (b : Bool) (x : Option (Proc Q)) (new : Machines) (p : PNo) → b ≡ true → ProcBy b m old.machines x → Holds old.machines m p → idles new ≡ set (idles old.machines) p.0 true
       → OwnersIn new (with_owner x owners) × (length (with_owner x owners) ≡ length owners)
   place_in true (Some x) new p e by holds is =
-      (place_set owners (idles old.machines) (idles new) x.p.0 p.0 (Some x.owner) kept (ap (λ (k : PNo). k.0) (order.one_processor m x.p p by holds)) is, length-set owners x.p.0 (Some x.owner))
+      (place_set owners (idles old.machines) (idles new) x.p.0 p.0 (Some x.owner) kept (ap (λ (k : PNo). k.0) (order.together.one_processor m x.p p by holds)) is, length-set owners x.p.0 (Some x.owner))
   place_in true None new p e by holds is = absurd by
   place_in false x new p e by holds is = absurd cc
 

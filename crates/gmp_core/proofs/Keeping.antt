@@ -66,7 +66,7 @@ one_in_hand {T = T} k m x s mine = by x.hand.held x.hand.called mine.has.runs mi
       let order : IsInOrder k.book.limits k.book.state = legal_in_order k.book.limits k.book.bodies k.book.capacities k.book.history k.book.state s.within s.legal in
       let run = runs h.g refl in
       let call = calls c.g refl in
-      let same : h.g ≡ c.g = order.one_goroutine m h.g c.g (inl run) (inr call) in
+      let same : h.g ≡ c.g = order.together.one_goroutine m h.g c.g (inl run) (inr call) in
       absurd (no_both m _ (subst (λ (g : GNo). IsRunning k.book.state.table g m) same run) call)
 
 -- Two machines
@@ -201,7 +201,7 @@ module _ {T : Type 0} (c : Parts T) (core : IsCore c) where
       let order : IsInOrder k.book.limits k.book.state = legal_in_order k.book.limits k.book.bodies k.book.capacities k.book.history k.book.state core.sound.within core.sound.legal in
       let total = legal_total k.book.limits k.book.bodies k.book.capacities k.book.history k.book.state core.sound.legal in
       let made = ap (λ (l : List Made). length l) (sym core.sound.own) ∙ length-map k.book.history made_of in
-      let few = order.ongoing goes in
+      let few = order.together.ongoing goes in
       let room = core.calls_room in
       omega (arith, total, made, few, room)
 

@@ -21,10 +21,10 @@ use Rattle.gmp_ledger.specs.Laws.{StepsAre}
 
 -- whichever goroutine of the machine's it is, it is this one
 by_this : (limits : Limits) (m : MNo) (g : GNo) (s : State) (P : GNo → Type 0) → IsInOrder limits s → IsRunning s.table g m → ByRunning m s P → P g
-by_this limits m g s P order runs (h, here, done) = subst P (order.one_goroutine m h g (inl here) (inl runs)) done
+by_this limits m g s P order runs (h, here, done) = subst P (order.together.one_goroutine m h g (inl here) (inl runs)) done
 
 by_caller : (limits : Limits) (m : MNo) (g h : GNo) (s : State) (P : GNo → Type 0) → IsInOrder limits s → IsCalling s.table g m → IsCalling s.table h m → P h → P g
-by_caller limits m g h s P order calls here done = subst P (order.one_goroutine m h g (inr here) (inr calls)) done
+by_caller limits m g h s P order calls here done = subst P (order.together.one_goroutine m h g (inr here) (inr calls)) done
 
 -- what is stored for one that is ready is what it is to be told
 stored : (t : Table) (r : Readiness) (answer : Woke) → IsReady t r place.Out answer → IsReady t r place.Out (stored_at t r.g)
@@ -45,14 +45,14 @@ main_ends g _ old new h = absurd h
 enters : (limits : Limits) (m : MNo) (p : PNo) (answer : Reply) (old new : State) → IsInOrder limits old → Holds old.machines m p
     → Enters m answer old.machines new.machines → (woken : Option MNo) × (answer ≡ reply.Entered p woken)
 enters limits m p (reply.Entered q None) old new order holds (here, rest, is) =
-    (None, ap (λ (x : PNo). reply.Entered x None) (order.one_processor m q p here holds))
+    (None, ap (λ (x : PNo). reply.Entered x None) (order.together.one_processor m q p here holds))
 enters limits m p (reply.Entered q (Some n)) old new order holds (here, rest, is) =
-    (Some n, ap (λ (x : PNo). reply.Entered x (Some n)) (order.one_processor m q p here holds))
+    (Some n, ap (λ (x : PNo). reply.Entered x (Some n)) (order.together.one_processor m q p here holds))
 enters limits m p _ old new order holds h = absurd h
 
 declares : (limits : Limits) (m : MNo) (p : PNo) (answer : Reply) (old new : State) → IsInOrder limits old → Holds old.machines m p
     → Declares m answer old.machines new.machines → answer ≡ reply.Idle p
-declares limits m p (reply.Idle q) old new order holds (calm, here, is) = ap reply.Idle (order.one_processor m q p here holds)
+declares limits m p (reply.Idle q) old new order holds (calm, here, is) = ap reply.Idle (order.together.one_processor m q p here holds)
 declares limits m p _ old new order holds h = absurd h
 
 -- By call

@@ -40,7 +40,7 @@ in_order log space kept = legal_in_order log.limits log.bodies log.capacities (k
 -- while the run lasts another entry fits
 pub ongoing_room : (old now : Log) (space : ℕ) (o : Option Outcome) → old ≡ now → IsLedger old space → old.state.outcome ≡ o → IfNone o (entries_made now < now.limits.entries)
 ongoing_room old now space (Some how) is kept lasts = tt
-ongoing_room old now space None is kept lasts = subst (λ (l : Log). entries_made l < l.limits.entries) is ((in_order old space kept).ongoing lasts)
+ongoing_room old now space None is kept lasts = subst (λ (l : Log). entries_made l < l.limits.entries) is ((in_order old space kept).together.ongoing lasts)
 
 module _ (log : Log) (space : ℕ) (pass : Pass) (kept : IsLedger log space) (current : IsCurrent log pass) where
   -- the run is longer by one step
@@ -86,7 +86,7 @@ module _ (log : Log) (space : ℕ) (pass : Pass) (kept : IsLedger log space) (cu
         let place = some_place (λ (x : Goroutine). is_running_on pass.m x.status) log.state.table.goroutines h in
         let k : GNo = record { 0 = place.0 } in
         let runs : IsRunning log.state.table k pass.m = ap status_of place.2 ∙ ap Some (running_on pass.m place.1.status place.3) in
-        let same : k ≡ g = (in_order log space kept).one_goroutine pass.m k g (inl runs) (inr calls) in
+        let same : k ≡ g = (in_order log space kept).together.one_goroutine pass.m k g (inl runs) (inr calls) in
         let both : Some (status.Running pass.m) ≡ Some (status.Calling pass.m) = sym runs ∙ subst (λ (h : GNo). status_at log.state.table h ≡ Some (status.Calling pass.m)) (sym same) calls in
         absurd cc
 
@@ -94,8 +94,8 @@ module _ (log : Log) (space : ℕ) (pass : Pass) (kept : IsLedger log space) (cu
   met : (g : GNo) (p : PNo) (asked : Call) → NeedsOf pass.m g p asked log.state → Grants pass.m g p asked log.state
   met g p (call.Put r) (awake, out) = (awake, not_false _ (out_test log.state.table r out))
   met g p (call.Claim r) (free, holds, out) = (free, holds, not_false _ (out_test log.state.table r out))
-  met g p call.Enter (runs, holds) = (runs, holds, ((in_order log space kept).runner g pass.m runs).0)
-  met g p (call.Leave number) calls = (calls, caller_free g calls, ((in_order log space kept).caller pass.m).0 (g, calls))
+  met g p call.Enter (runs, holds) = (runs, holds, ((in_order log space kept).together.runner g pass.m runs).0)
+  met g p (call.Leave number) calls = (calls, caller_free g calls, ((in_order log space kept).together.caller pass.m).0 (g, calls))
   met g p call.Woken free = here free
   met g p _ needs = needs
 
@@ -119,7 +119,7 @@ pub may_go : (old now : Log) (space : ℕ) (pass : Pass) (asked : Call) (values 
 may_go old now space pass asked values is kept suits allowed =
     let may = subst (λ (l : Log). IsAllowed l pass asked values) (sym is) allowed in
     let order = in_order old space kept in
-    let more : entries_made old < old.limits.entries = order.ongoing may.current.lasts in
+    let more : entries_made old < old.limits.entries = order.together.ongoing may.current.lasts in
     let few : entries_made old < 2 ^ 63 = omega (arith, more, kept.within.entries.1) in
     let counted : pass.m.0 < length old.state.counts = omega (arith, may.current.machine, (sizes old space kept).counts) in
     let most : slice_index old.state.counts pass.m.0 ≤ sum old.state.counts = get_or-le-sum_by (λ (n : ℕ). n) old.state.counts pass.m.0 0 counted in
@@ -127,8 +127,8 @@ may_go old now space pass asked values is kept suits allowed =
       current = may.current;
       grants = granted old space pass kept may.current asked values suits may;
       young = record {
-        epochs = λ g. omega (arith, order.epochs g, order.entries, kept.within.entries.1);
-        arrivals = omega (arith, order.arrivals, order.entries, kept.within.entries.1);
+        epochs = λ g. omega (arith, order.together.epochs g, order.together.entries, kept.within.entries.1);
+        arrivals = omega (arith, order.together.arrivals, order.together.entries, kept.within.entries.1);
       };
       counted = counted;
       few = few;

@@ -305,7 +305,7 @@ module _ (limits : Limits) (bodies : ℕ) (capacities : List ℕ) (are : AreLimi
       let order = legal_in_order limits bodies capacities h s are run in
       let sizes = legal_sizes limits bodies capacities h s are run in
       let sound = legal_sound limits bodies capacities h s run in
-      let most : sum s.counts ≤ limits.entries = order.entries in
+      let most : sum s.counts ≤ limits.entries = order.together.entries in
       let entries : limits.entries ≤ 1000000 = are.entries.1 in
       let procs : limits.procs ≤ 32 = are.procs.1 in
       let machines : limits.machines ≤ 64 = are.machines.1 in
@@ -316,7 +316,7 @@ module _ (limits : Limits) (bodies : ℕ) (capacities : List ℕ) (are : AreLimi
       record {
         wordy = wordy;
         goroutines = omega arith;
-        epochs = λ g. let low : epoch_at s.table g ≤ sum s.counts + 1 = order.epochs g in omega arith;
+        epochs = λ g. let low : epoch_at s.table g ≤ sum s.counts + 1 = order.together.epochs g in omega arith;
         holders = omega arith;
         modes = omega arith;
         room = sound.within;
@@ -328,7 +328,7 @@ module _ (limits : Limits) (bodies : ℕ) (capacities : List ℕ) (are : AreLimi
   entry_fits h e old new run wordy fits (number, (ongoing, effect, counted, ended)) =
       let order = legal_in_order limits bodies capacities h old are run in
       let sizes = legal_sizes limits bodies capacities h old are run in
-      let most : sum old.counts ≤ limits.entries = order.entries in
+      let most : sum old.counts ≤ limits.entries = order.together.entries in
       let entries : limits.entries ≤ 1000000 = are.entries.1 in
       let machines : limits.machines ≤ 64 = are.machines.1 in
       let rows : length old.counts ≡ limits.machines = sizes.counts in
