@@ -24,7 +24,7 @@ use Rattle.gmp_check.specs.Replayed.{EndsWith, IsNoStep}
 legal_few : (limits : Limits) (bodies : ℕ) (capacities : List ℕ) (h : List Entry) (s : State) → AreLimits limits bodies capacities → IsLegal limits bodies capacities h s
     → length h ≤ 1000000
 legal_few limits bodies capacities h s range legal =
-    omega (arith, legal_total limits bodies capacities h s legal, (legal_in_order limits bodies capacities h s range legal).entries, range.entries.1)
+    omega (arith, legal_total limits bodies capacities h s legal, (legal_in_order limits bodies capacities h s range legal).together.entries, range.entries.1)
 
 pub few_entries : (limits : Limits) (bodies : ℕ) (capacities : List ℕ) (h : List Entry) (outcome : Option Outcome) → AreLimits limits bodies capacities
     → EndsWith limits bodies capacities h outcome → length h ≤ 1000000

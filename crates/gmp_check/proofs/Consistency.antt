@@ -4,7 +4,7 @@ use Rattle.std.specs.List.{slice_get, filter}
 use Rattle.gmp_base.specs.declared.number.CNo.{CNo}
 use Rattle.gmp_base.specs.declared.number.GNo.{GNo}
 use Rattle.gmp_base.specs.declared.number.MNo.{MNo}
-use Rattle.gmp_seq.proofs.Arranged.{contains_in}
+use Rattle.gmp_seq.proofs.Arranged.{Sorted, contains_in, first_sorted, pairs_rise}
 use Rattle.gmp_seq.proofs.Manned.{free_runs_none}
 use Rattle.gmp_seq.proofs.Proceed.{offer_waits}
 use Rattle.gmp_seq.proofs.Waiting.{In, in_filter, waiter_in, waiter_waits}
@@ -16,7 +16,6 @@ use Rattle.gmp_seq.specs.State.{State}
 use Rattle.gmp_seq.specs.Step.{IsFree}
 use Rattle.gmp_seq.specs.Table.{IsHeld, epoch_at}
 use Rattle.gmp_seq.specs.Waits.{first_on, is_on, waiters, waits}
-use Rattle.gmp_check.proofs.Ordered.{Sorted, first_sorted, pairs_rise}
 use Rattle.gmp_check.specs.Consistent.{IsConsistent, IsConsistentUnder}
 use Rattle.gmp_check.specs.First.{IsFirstOf, IsOfferOn}
 
@@ -25,28 +24,28 @@ use Rattle.gmp_check.specs.First.{IsFirstOf, IsOfferOn}
 -- epochs, arrivals and counts can rise
 pub consistent_young : (s t : State) → t ≡ s → IsConsistent s → (g : GNo) → epoch_at t.table g < 2 ^ 63
 consistent_young s t same (limits, is) g =
-    let young : epoch_at s.table g < 2 ^ 63 = omega (arith, is.epochs g, is.entries, is.limit) in
+    let young : epoch_at s.table g < 2 ^ 63 = omega (arith, is.together.epochs g, is.together.entries, is.limit) in
     subst (λ (x : State). epoch_at x.table g < 2 ^ 63) (sym same) young
 
 pub consistent_arrivals : (s t : State) → t ≡ s → IsConsistent s → t.table.arrivals < 2 ^ 63
 consistent_arrivals s t same (limits, is) =
-    let few : s.table.arrivals < 2 ^ 63 = omega (arith, is.arrivals, is.entries, is.limit) in
+    let few : s.table.arrivals < 2 ^ 63 = omega (arith, is.together.arrivals, is.together.entries, is.limit) in
     subst (λ (x : State). x.table.arrivals < 2 ^ 63) (sym same) few
 
 pub consistent_few : (limits : Limits) (s : State) (counts : List ℕ) → IsConsistentUnder limits s → counts ≡ s.counts → sum counts < 2 ^ 63
-consistent_few limits s counts is are = subst (λ l. sum l < 2 ^ 63) (sym are) (omega (arith, is.entries, is.limit))
+consistent_few limits s counts is are = subst (λ l. sum l < 2 ^ 63) (sym are) (omega (arith, is.together.entries, is.limit))
 
 -- nobody else is at the machine of one that is held
 pub alone_held : (s t : State) → t ≡ s → IsConsistent s → (m : MNo) (g : GNo) → IsHeld s.table g m → (n : MNo) (h : GNo) → m ≡ n → IsHeld t.table h n → h ≡ g
 alone_held s t same consistent m g held n h is there =
-    consistent.1.one_goroutine m h g (subst (λ (k : MNo). IsHeld s.table h k) (sym is) (subst (λ (x : State). IsHeld x.table h n) same there)) held
+    consistent.1.together.one_goroutine m h g (subst (λ (k : MNo). IsHeld s.table h k) (sym is) (subst (λ (x : State). IsHeld x.table h n) same there)) held
 
 -- nobody at all is at a machine that is free
 pub free_alone : (s t : State) → t ≡ s → IsConsistent s → (m : MNo) → IsFree s m → (g : GNo) → IsHeld t.table g m → ⊥
 free_alone s t same consistent m (awake, runs_none, still) g there = here (subst (λ (x : State). IsHeld x.table g m) same there) where
   here : IsHeld s.table g m → ⊥
   here (inl runs) = free_runs_none s.table m m g.0 runs_none runs refl
-  here (inr calls) = let calling = consistent.1.caller g m calls in cc
+  here (inr calls) = let calling = (consistent.1.together.caller m).0 (g, calls) in cc
 
 -- The first that waits
 
@@ -68,15 +67,13 @@ none_of (x ∷ xs) none = absurd (none x (inl refl))
 module _ (s : State) (consistent : IsConsistent s) where
   sorted : Sorted (waiters s.table)
   sorted =
-      first_sorted s.table.arrivals s.table.goroutines (record {
-        differ = λ i j x y at_i at_j same.
-            ap (λ (g : GNo). g.0) (consistent.1.arrivals_differ (record { 0 = i }) (record { 0 = j }) x y at_i at_j same);
-        rising = λ i x at. pairs_rise x.offers (consistent.1.cases_rise (record { 0 = i }) x at);
-      })
+      first_sorted s.table.arrivals s.table.goroutines
+      (λ i j x y at_i at_j same. ap (λ (g : GNo). g.0) (consistent.1.together.arrivals_differ (record { 0 = i }) (record { 0 = j }) x y at_i at_j same))
+      (λ i x at. pairs_rise x.offers (consistent.1.together.cases_rise (record { 0 = i }) x at))
 
   every : (w : Waiter) → IsOffer s.table w → In w (waiters s.table)
   every w is =
-      let early : w.arrival < s.table.arrivals = subst (λ (n : ℕ). n < s.table.arrivals) is.2 (consistent.1.arrived w.g is.0 is.1) in
+      let early : w.arrival < s.table.arrivals = subst (λ (n : ℕ). n < s.table.arrivals) is.2 (consistent.1.together.arrived w.g is.0 is.1) in
       waiter_in s.table w (offer_waits s.table w is) early
 
   only : (w : Waiter) → In w (waiters s.table) → IsOffer s.table w

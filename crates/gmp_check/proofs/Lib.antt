@@ -2,7 +2,6 @@ pub mod Firsts
 pub mod Listed
 pub mod Last
 pub mod Young
-pub mod Ordered
 pub mod Consistency
 pub mod Keeping
 pub mod Going

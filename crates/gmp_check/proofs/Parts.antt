@@ -40,7 +40,7 @@ pub by_running : (P : GNo → State → State → Type 0) (m : MNo) (g : GNo) (s
 by_running P m g s new b consistent runs =
     decides_as (P g) (λ old other. ByRunning m old (λ h. P h old other)) s new b
     (λ other p. (g, runs, p))
-    (λ other (h, runs_too, p). subst (λ k. P k s other) (consistent.1.one_goroutine m h g (inl runs_too) (inl runs)) p)
+    (λ other (h, runs_too, p). subst (λ k. P k s other) (consistent.1.together.one_goroutine m h g (inl runs_too) (inl runs)) p)
 
 -- and the call that g makes is made by the one for which m calls
 pub by_calling : (limits : Limits) (m : MNo) (g : GNo) (number : ℕ) (reply : Reply) (s new : State) (b : Bool) → IsConsistent s → IsCalling s.table g m
@@ -49,7 +49,7 @@ by_calling limits m g number reply s new b consistent calls =
     decides_as (LeavesBy m g number reply) (Effect limits m (call.Leave number) reply) s new b
     (λ other (table, machines, channels). (g, calls, table, machines, channels))
     (λ other (h, calls_too, table, machines, channels).
-    subst (λ k. LeavesBy m k number reply s other) (consistent.1.one_goroutine m h g (inr calls_too) (inr calls)) (table, machines, channels))
+    subst (λ k. LeavesBy m k number reply s other) (consistent.1.together.one_goroutine m h g (inr calls_too) (inr calls)) (table, machines, channels))
 
 -- a select has at most 8 cases
 pub by_selecting : (limits : Limits) (m : MNo) (g : GNo) (cases : List Case) (has_default : Bool) (until : Option ℕ) (reply : Reply) (s new : State) (b : Bool)
