@@ -15,7 +15,7 @@ use Rattle.gmp_trace.specs.declared.trace.End.{End}
 use Rattle.gmp_trace.specs.declared.trace.End.TheVariants.{MainEnded, AllAsleep, BookFull, Running}
 use Rattle.gmp_trace.specs.Text.{fields, entry_pieces, entry_text, entries_text, end_text}
 use Rattle.gmp_trace.specs.HasText.{AreNumbered, answers, turns}
-use Rattle.gmp_trace.specs.Reading.{IsEntry, IsNext, IsBody, Starts}
+use Rattle.gmp_trace.specs.Reading.{AreEntries, IsEntry, IsNext, IsBody, Starts}
 use Rattle.gmp_trace.proofs.Numbers.{IsDigit, decimal_digits}
 use Rattle.gmp_trace.proofs.Lines.{regroup}
 
@@ -73,7 +73,7 @@ digit_first : (ds rest more : List ℕ) → AllByRecursion IsDigit ds → 0 < le
 digit_first [] rest more h some e = omega arith
 digit_first (d ∷ ds) rest more h some e = let same : d ≡ 101 = cc in omega (arith, h.0)
 
-end_first : (end : End) (more : List ℕ) → (others : List ℕ) × (end_text end ++ more ≡ 101 ∷ others)
+pub end_first : (end : End) (more : List ℕ) → (others : List ℕ) × (end_text end ++ more ≡ 101 ∷ others)
 unfolding end_text
 end_first MainEnded more = (_, refl)
 end_first AllAsleep more = (_, refl)
@@ -114,12 +114,12 @@ pub record Next (machines : ℕ) (es : List Entry) (rest : List ℕ) (xs : List 
   pub next : IsNext machines es e
   pub left : Left (es ++ e ∷ []) more xs end
 
-first_of_left : (machines : ℕ) (text : List ℕ) (es ys : List Entry) (y : Entry) (xs : List Entry) (end : End)
-    → IsBody machines text xs end → xs ≡ es ++ y ∷ ys → length es < 2 ^ 64 → IsEntry (length es) y × IsNext machines es y
-first_of_left machines text es ys y xs end h whole small =
-    let fits = fits-behind es (y ∷ ys) (subst (λ (l : List Entry). All Fits l) whole h.entries.fits) in
-    let replies = answers-behind es (y ∷ ys) (subst (λ (l : List Entry). AllByRecursion IsAnswered l) whole h.entries.answered) in
-    let numbered = numbered-append machines es [] (y ∷ ys) (subst (λ (l : List Entry). AreNumbered machines [] l) whole h.entries.numbered) in
+pub first_of_left : (machines : ℕ) (es ys : List Entry) (y : Entry) (xs : List Entry) → AreEntries machines xs → xs ≡ es ++ y ∷ ys → length es < 2 ^ 64
+    → IsEntry (length es) y × IsNext machines es y
+first_of_left machines es ys y xs h whole small =
+    let fits = fits-behind es (y ∷ ys) (subst (λ (l : List Entry). All Fits l) whole h.fits) in
+    let replies = answers-behind es (y ∷ ys) (subst (λ (l : List Entry). AllByRecursion IsAnswered l) whole h.answered) in
+    let numbered = numbered-append machines es [] (y ∷ ys) (subst (λ (l : List Entry). AreNumbered machines [] l) whole h.numbered) in
     (record { number = small; fits = All-head Fits y ys fits; answered = replies.0 }, numbered-next machines es ys y numbered)
 
 next_by : (machines : ℕ) (text : List ℕ) (es others : List Entry) (rest : List ℕ) (xs : List Entry) (end : End) (n : ℕ) (e : Entry) (more : List ℕ)
@@ -128,7 +128,7 @@ next_by : (machines : ℕ) (text : List ℕ) (es others : List Entry) (rest : Li
 next_by machines text es [] rest xs end n e more h whole left few small is only =
     absurd (entry_is_no_end n e more end [] small (sym is ∙ left ∙ sym (append-nil (end_text end))))
 next_by machines text es (y ∷ ys) rest xs end n e more h whole left few small is only =
-    let first = first_of_left machines text es ys y xs end h whole few in
+    let first = first_of_left machines es ys y xs h.entries whole few in
     let same = only (length es) y (entries_text (length es + 1) ys ++ end_text end) first.0 (left ∙ append_assoc (entry_text (length es) y) (entries_text (length es + 1) ys) (end_text end)) in
     let size : length es + 1 ≡ length (es ++ e ∷ []) = omega (arith, length-append es (e ∷ [])) in
     record {
@@ -151,7 +151,7 @@ none_by : (machines : ℕ) (text : List ℕ) (es others : List Entry) (rest : Li
     → NoEntry rest → (es ≡ xs) × (rest ≡ end_text end)
 none_by machines text es [] rest xs end h whole left few none = (sym (whole ∙ append-nil es), left)
 none_by machines text es (y ∷ ys) rest xs end h whole left few none =
-    let first = first_of_left machines text es ys y xs end h whole few in
+    let first = first_of_left machines es ys y xs h.entries whole few in
     absurd (none (length es) y (entries_text (length es + 1) ys ++ end_text end) first.0 (left ∙ append_assoc (entry_text (length es) y) (entries_text (length es + 1) ys) (end_text end)))
 
 -- no entry is left

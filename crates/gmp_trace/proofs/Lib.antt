@@ -12,4 +12,5 @@ pub mod Lines
 pub mod Opening
 pub mod Body
 pub mod Parts
+pub mod OneFault
 pub mod Counting

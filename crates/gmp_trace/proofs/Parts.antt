@@ -35,6 +35,10 @@ regroup_whole h l c e f = simp append_assoc
 regroup_opening : (h l c rest : List ℕ) → h ++ (l ++ (c ++ rest)) ≡ h ++ l ++ c ++ rest
 regroup_opening h l c rest = simp append_assoc
 
+pub opening_parts : (l : Limits) (bodies : ℕ) (caps rest : List ℕ) → opening_text l bodies caps ++ rest ≡ header ++ (limits_text l bodies ++ (capacities_text caps ++ rest))
+unfolding opening_text
+opening_parts l bodies caps rest = sym (regroup_opening header (limits_text l bodies) (capacities_text caps) rest)
+
 abbrev pub behind_caps : Content → List ℕ
 behind_caps x = entries_text 0 x.entries ++ end_text x.end
 
