@@ -73,7 +73,7 @@ digit_first : (ds rest more : List ℕ) → AllByRecursion IsDigit ds → 0 < le
 digit_first [] rest more h some e = omega arith
 digit_first (d ∷ ds) rest more h some e = let same : d ≡ 101 = cc in omega (arith, h.0)
 
-pub end_first : (end : End) (more : List ℕ) → (others : List ℕ) × (end_text end ++ more ≡ 101 ∷ others)
+end_first : (end : End) (more : List ℕ) → (others : List ℕ) × (end_text end ++ more ≡ 101 ∷ others)
 unfolding end_text
 end_first MainEnded more = (_, refl)
 end_first AllAsleep more = (_, refl)
@@ -89,12 +89,11 @@ entry_is_no_end n e more end behind small is =
     let first = end_first end behind in
     digit_first (decimal n) _ first.0 (decimal_digits n small) (decimal_nonempty n small) (sym (rest_of_line n e more) ∙ is ∙ first.1)
 
-end_is_some : (end : End) → end_text end ≡ [] → ⊥
-unfolding end_text
-end_is_some MainEnded is = cc
-end_is_some AllAsleep is = cc
-end_is_some BookFull is = cc
-end_is_some Running is = cc
+pub end_is_some : (end : End) (more : List ℕ) → [] ≡ end_text end ++ more → ⊥
+end_is_some end more is =
+    let first = end_first end more in
+    let never : [] ≡ 101 ∷ first.0 = is ∙ first.1 in
+    cc
 
 -- ---- the loop
 
@@ -164,7 +163,8 @@ append_empty [] ys e = sym e
 append_empty (x ∷ xs) ys e = absurd cc
 
 pub some_left : (es xs : List Entry) (end : End) → Left es [] xs end → ⊥
-some_left es xs end left = end_is_some end (append_empty (entries_text (length es) left.others) (end_text end) left.text)
+some_left es xs end left =
+    end_is_some end [] (sym (append_empty (entries_text (length es) left.others) (end_text end) left.text) ∙ sym (append-nil (end_text end)))
 
 -- nothing was read
 pub starts_none : (machines : ℕ) (text : List ℕ) → Starts machines text [] text

@@ -11,7 +11,7 @@ use Rattle.gmp_trace.specs.Guess.{bodies_of, capacity_of, end_in, entry_of, limi
 use Rattle.gmp_trace.specs.HasText.{HasText}
 use Rattle.gmp_trace.specs.Reading.{header, AreEntries, FitLimits, IsBody, IsCapsFault, IsEntry, IsFault, IsFaultBehind, IsLaterFault, IsLimitsFault, IsMisnumbered, IsNext, IsRestFault, Starts}
 use Rattle.gmp_trace.specs.Text.{Content, capacities_text, end_text, entries_text, entry_text, limits_text, opening_text, text}
-use Rattle.gmp_trace.proofs.Body.{end_first, entry_is_no_end, first_of_left, shorter}
+use Rattle.gmp_trace.proofs.Body.{end_is_some, entry_is_no_end, first_of_left, shorter}
 use Rattle.gmp_trace.proofs.Lines.{guessed_end, guessed_entry, same_rest}
 use Rattle.gmp_trace.proofs.Opening.{are_of_types, guessed_capacities, guessed_limits}
 use Rattle.gmp_trace.proofs.Parts.{behind_caps, body_of, few_capacities, of_line_2, opening_parts, same_limits, small_capacities}
@@ -136,12 +136,6 @@ fault_stops machines es rest line _ f = absurd f
 end_stops : (machines : ℕ) (es : List Entry) (end : End) → Stops machines es (end_text end)
 end_stops machines es end e more entry next is = entry_is_no_end (length es) e more end [] entry.number (sym is ∙ sym (append-nil (end_text end)))
 
-some_end : (end : End) (more : List ℕ) → [] ≡ end_text end ++ more → ⊥
-some_end end more is =
-    let first = end_first end more in
-    let never : [] ≡ 101 ∷ first.0 = is ∙ first.1 in
-    cc
-
 -- one thing is wrong behind these entries
 rest_once : (machines : ℕ) (es : List Entry) (rest : List ℕ) (m n : ℕ) (v w : Why) → IsRestFault machines es rest m v → IsRestFault machines es rest n w → (m ≡ n) × (v ≡ w)
 rest_once machines es rest m n why.Grammar why.Grammar a b = (a.0 ∙ sym b.0, refl)
@@ -158,8 +152,8 @@ rest_once machines es rest m n why.Number why.End a b = absurd (entry_is_some a.
 rest_once machines es rest m n why.End why.Number a b = absurd (entry_is_some b.1.n b.1.e b.1.more (sym a.1 ∙ b.1.whole))
 rest_once machines es rest m n why.Number why.Extra a b = absurd (entry_is_no_end a.1.n a.1.e a.1.more b.1.end b.1.more a.1.entry.number (sym a.1.whole ∙ b.1.whole))
 rest_once machines es rest m n why.Extra why.Number a b = absurd (entry_is_no_end b.1.n b.1.e b.1.more a.1.end a.1.more b.1.entry.number (sym b.1.whole ∙ a.1.whole))
-rest_once machines es rest m n why.End why.Extra a b = absurd (some_end b.1.end b.1.more (sym a.1 ∙ b.1.whole))
-rest_once machines es rest m n why.Extra why.End a b = absurd (some_end a.1.end a.1.more (sym b.1 ∙ a.1.whole))
+rest_once machines es rest m n why.End why.Extra a b = absurd (end_is_some b.1.end b.1.more (sym a.1 ∙ b.1.whole))
+rest_once machines es rest m n why.Extra why.End a b = absurd (end_is_some a.1.end a.1.more (sym b.1 ∙ a.1.whole))
 rest_once machines es rest m n why.Grammar _ a b = absurd b
 rest_once machines es rest m n why.Number _ a b = absurd b
 rest_once machines es rest m n why.End _ a b = absurd b
@@ -170,7 +164,7 @@ rest_once machines es rest m n _ w a b = absurd a
 end_is_right : (machines : ℕ) (es : List Entry) (end : End) (line : ℕ) (what : Why) → IsRestFault machines es (end_text end) line what → ⊥
 end_is_right machines es end line why.Grammar f = f.1.no_end end [] (sym (append-nil (end_text end)))
 end_is_right machines es end line why.Number f = entry_is_no_end f.1.n f.1.e f.1.more end [] f.1.entry.number (sym f.1.whole ∙ sym (append-nil (end_text end)))
-end_is_right machines es end line why.End f = some_end end [] (sym f.1 ∙ sym (append-nil (end_text end)))
+end_is_right machines es end line why.End f = end_is_some end [] (sym f.1 ∙ sym (append-nil (end_text end)))
 end_is_right machines es end line why.Extra f = f.1.some (sym (end_once end f.1.end [] f.1.more (append-nil (end_text end) ∙ f.1.whole)))
 end_is_right machines es end line _ f = f
 
