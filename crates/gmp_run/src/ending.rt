@@ -1,10 +1,13 @@
 //! What a run comes to.
 ghost use Rattle.std.specs.Prelude.{◌≡◌, IsTrue, length};
+ghost use Rattle.gmp_book.specs.Book.{IsReport as GivesBack};
 ghost use Rattle.gmp_run.specs.Counts.{all_calls};
 ghost use Rattle.gmp_run.specs.Reports.{AreLogs, IsReport};
 
 use crate::desk::{Desk, RunLedger};
 use gmp_base::Refusal;
+use gmp_book::Book;
+use gmp_queue::Owner;
 use gmp_seq::{Entry, Limits, Outcome};
 use gmp_worker::PassLog;
 use std::sync::Wait;
@@ -52,6 +55,19 @@ fn is_of<T, Q>(
         && report.bodies.len() == count
 }
 
+/// What the book gives back, once it is over and all its values are in.
+fn given_back<T: Drop, R: Wait>(rt: &R, book: Book<T, Owner>) -> gmp_book::Report<T, Owner>
+    ensures { GivesBack book result }
+{
+    match book.into_report() {
+        Ok(report) => report,
+        Err(refused) => {
+            let _ = refused.open();
+            hang(rt)
+        }
+    }
+}
+
 /// The report, if what the book gives back is of this run.
 pub(crate) fn finish<T: Drop, L: RunLedger, R: Wait>(
     rt: &R,
@@ -71,13 +87,7 @@ pub(crate) fn finish<T: Drop, L: RunLedger, R: Wait>(
     let Desk { book, mut tally } = desk;
     let mut all = all;
     tally.audit(&mut all);
-    let report = match book.into_report() {
-        Ok(report) => report,
-        Err(refused) => {
-            let _ = refused.open();
-            hang(rt)
-        }
-    };
+    let report = given_back(rt, book);
     if !is_of(&report, limits, capacities, count) {
         hang(rt);
     }
