@@ -2,6 +2,7 @@
 use gmp_base::Pass;
 use gmp_book::Book;
 use gmp_seq::Limits;
+use std::alloc::Global;
 use std::process::Abort;
 
 mod auditing;
@@ -23,6 +24,13 @@ const LONE: Limits = Limits {
     channels: 16,
     entries: 10000,
 };
+
+/// These bodies and one owner, if there is memory.
+fn stock(alloc: Global, bodies: &[u32]) -> Option<(Vec<u32>, Vec<u32>)> {
+    let bodies = bodies.to_vec(alloc).ok()?;
+    let owners = vec![in alloc; 80u32].ok()?;
+    Some((bodies, owners))
+}
 
 /// The pass of the one machine.
 fn only_pass(rt: &impl Abort, passes: Vec<Pass>) -> Pass {

@@ -22,21 +22,14 @@ fn mismatch(said: u64) -> Result<(), Mismatch> {
 
 #[test]
 fn one_log_says_how_many_entries_there_are(rt: HostRuntime) {
-    let history = [
-        entry(0),
-        entry(1),
-        entry(2),
-        entry(3),
-        entry(4),
-        entry(5),
-        entry(6),
-    ];
-    assert_eq!(rt; audit(&history, &[log(7)]), Ok(()));
-    assert_eq!(rt; audit(&history, &[log(6)]), mismatch(6));
-    assert_eq!(rt; audit(&history, &[]), mismatch(0));
-    assert_eq!(rt; audit(&history, &[log(7), log(7)]), mismatch(14));
-    assert_eq!(rt;
-        audit(&history, &[log(u64::MAX), log(7)]),
-        mismatch(u64::MAX)
-    );
+    let history = [0, 1, 2, 3, 4, 5, 6].map(entry);
+    for (logs, want) in [
+        (&[log(7)][..], Ok(())),
+        (&[log(6)][..], mismatch(6)),
+        (&[][..], mismatch(0)),
+        (&[log(7), log(7)][..], mismatch(14)),
+        (&[log(u64::MAX), log(7)][..], mismatch(u64::MAX)),
+    ] {
+        assert_eq!(rt; audit(&history, logs), want, "{logs:?}");
+    }
 }

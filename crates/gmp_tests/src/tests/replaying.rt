@@ -2,6 +2,7 @@
 use gmp_base::{CNo, Fault, GNo, MNo, PNo, Readiness};
 use gmp_check::{OpenError, OutOfMemory, Replay, ReplayError, outcome_of};
 use gmp_seq::{Call, Entry, Limits, Outcome, Reply};
+use std::process::Abort;
 
 const LIMITS: Limits = Limits {
     procs: 1,
@@ -41,26 +42,31 @@ fn makes() -> [Entry; 11] {
     ]
 }
 
-#[test]
-fn a_make_that_is_refused_memory_can_be_made_again(rt: HostRuntime) {
-    let mut replay = match Replay::open(rt.alloc(), LIMITS, 1, &[]) {
-        Ok(replay) => replay,
-        Err(error) => {
-            assert_eq!(rt; error, OpenError::OutOfMemory);
-            return;
-        }
-    };
-    for entry in makes() {
-        let last = replay.step(&entry);
-        if last == Err(OutOfMemory) {
-            assert!(rt; matches!(entry.call, Call::Make(_)));
-            assert_eq!(rt; replay.outcome(), None);
-            assert_eq!(rt; replay.step(&entry), Ok(true), "{entry:?}");
-        } else {
-            assert_eq!(rt; last, Ok(true), "{entry:?}");
-        }
+/// The entry is a step, at once or, of a make that is refused memory, at the second time.
+fn steps_or_again(rt: &impl Abort, replay: &mut Replay, entry: &Entry) {
+    let mut last = replay.step(entry);
+    if last == Err(OutOfMemory) {
+        assert!(rt; matches!(entry.call, Call::Make(_)));
+        assert_eq!(rt; replay.outcome(), None);
+        last = replay.step(entry);
+    }
+    assert_eq!(rt; last, Ok(true), "{entry:?}");
+}
+
+/// That these entries are steps.
+fn replays(rt: &impl Abort, replay: &mut Replay, entries: &[Entry]) {
+    for entry in entries {
+        steps_or_again(rt, replay, entry);
     }
     assert_eq!(rt; replay.outcome(), Some(Outcome::MainEnded));
+}
+
+#[test]
+fn a_make_that_is_refused_memory_can_be_made_again(rt: HostRuntime) {
+    match Replay::open(rt.alloc(), LIMITS, 1, &[]) {
+        Ok(mut replay) => replays(&rt, &mut replay, &makes()),
+        Err(error) => assert_eq!(rt; error, OpenError::OutOfMemory),
+    }
 }
 
 #[test]
@@ -95,11 +101,16 @@ fn replies_that_are_spelled_alike_are_told_apart(rt: HostRuntime) {
     let Ok(mut replay) = Replay::open(rt.alloc(), LIMITS, 1, &[]) else {
         return;
     };
+    assert_eq!(rt; steps(&mut replay, &idles()), 7);
+}
+
+/// How many of these entries are steps.
+fn steps(replay: &mut Replay, entries: &[Entry]) -> u8 {
     let mut steps = 0u8;
-    for entry in idles() {
-        if replay.step(&entry) == Ok(true) {
+    for entry in entries {
+        if replay.step(entry) == Ok(true) {
             steps = steps.wrapping_add(1);
         }
     }
-    assert_eq!(rt; steps, 7);
+    steps
 }

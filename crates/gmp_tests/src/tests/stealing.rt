@@ -1,5 +1,5 @@
 //! Two machines, one of which steals.
-use gmp_acts::Choice;
+use gmp_acts::{Choice, Made};
 use gmp_base::{Ask, GNo, MNo, PNo, Readiness};
 use gmp_core::{Core, Want};
 use gmp_seq::{Call, Limits, Reply};
@@ -39,26 +39,26 @@ fn nth_move(i: u16) -> (MNo, Choice) {
     (MNo(second as u8), choice)
 }
 
-#[test]
-fn a_machine_steals_and_its_push_is_refused(rt: HostRuntime) {
-    let alloc = rt.alloc();
-    let mut core = opened(&rt, alloc);
-    let moves: Vec<(MNo, Choice)> = (0..27).map(nth_move).collect(alloc).expect(&rt, "memory");
-    core.run(&moves);
+/// Machine 0 has a body in hand, which can be changed, and machine 1 the one that it stole.
+fn have_bodies(rt: &impl Abort, core: &mut Core<u32>) {
     assert_eq!(rt; core.wants(MNo(0)), Want::Ask);
-    let body = core.body(MNo(0)).expect(&rt, "a body");
+    let body = core.body(MNo(0)).expect(rt, "a body");
     assert_eq!(rt; *body, 70);
     *body = 80;
     assert_eq!(rt; core.body(MNo(0)).map(|body| *body), Some(80));
     assert_eq!(rt; core.body(MNo(1)).map(|body| *body), Some(71));
-    let first = Readiness {
-        g: GNo(1),
+}
+
+/// The first readiness of a goroutine.
+fn first_of(g: u16) -> Readiness {
+    Readiness {
+        g: GNo(g),
         epoch: 1,
-    };
-    let second = Readiness {
-        g: GNo(2),
-        epoch: 1,
-    };
+    }
+}
+
+/// Machine 1 claims goroutine 1, of those that it stole, and puts goroutine 2, whose push is refused, on the shelf.
+fn steals(rt: &impl Abort, calls: &[Made]) {
     let replies = [
         Reply::Proc(PNo(1)),
         Reply::Nothing,
@@ -69,18 +69,28 @@ fn a_machine_steals_and_its_push_is_refused(rt: HostRuntime) {
         Reply::Held,
     ];
     let mut at = 0;
-    for made in core.own() {
+    for made in calls {
         if made.m == MNo(1) {
             assert_eq!(rt; replies.get(at).copied(), Some(made.reply));
             at += 1;
         }
         match &made.call {
-            Call::Put(r) => assert_eq!(rt; *r, second),
-            Call::Claim(r) => assert!(rt; made.m == MNo(0) || *r == first),
+            Call::Put(r) => assert_eq!(rt; *r, first_of(2)),
+            Call::Claim(r) => assert!(rt; made.m == MNo(0) || *r == first_of(1)),
             _ => {}
         }
     }
     assert_eq!(rt; at, 7);
+}
+
+#[test]
+fn a_machine_steals_and_its_push_is_refused(rt: HostRuntime) {
+    let alloc = rt.alloc();
+    let mut core = opened(&rt, alloc);
+    let moves: Vec<(MNo, Choice)> = (0..27).map(nth_move).collect(alloc).expect(&rt, "memory");
+    core.run(&moves);
+    have_bodies(&rt, &mut core);
+    steals(&rt, core.own());
     assert_eq!(rt; core.history().len(), core.own().len());
     assert_eq!(rt; core.close(), None);
 }
