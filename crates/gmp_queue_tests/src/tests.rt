@@ -38,12 +38,21 @@ fn queue_of_two(alloc: Global) -> Option<(Owner, Thief, Thief)>
     Some((owner, one, two))
 }
 
+/// The owner takes each ticket in its turn, and then none.
+fn pop_all(rt: &impl Abort, owner: &mut Owner) {
+    for g in 0..TICKETS {
+        assert_eq!(rt; owner.pop().map(spend), Some(g));
+    }
+    assert_eq!(rt; owner.pop().map(spend), None);
+}
+
 /// The thief takes this ticket.
 fn steals(rt: &impl Abort, thief: &mut Thief, g: u16)
     ensures { KeepsThief thief.old thief.new }
 {
-    match thief.steal() {
-        Stole::Got(ticket) => assert_eq!(rt; spend(ticket), g),
-        Stole::Empty | Stole::Unsure => assert!(rt; false),
-    }
+    let got = match thief.steal() {
+        Stole::Got(ticket) => Some(spend(ticket)),
+        Stole::Empty | Stole::Unsure => None,
+    };
+    assert_eq!(rt; got, Some(g));
 }

@@ -2,7 +2,7 @@
 ghost use Rattle.std.specs.Prelude.{◌≡◌, ◌≤◌, [], ◌∷◌, IfOk, IfSome, vec_capacity};
 ghost use Rattle.gmp_queue.specs.Ends.{AreTheEnds, KeepsOwner, KeepsThief};
 
-use super::{TICKETS, queue_of_two, spend, steals, ticket};
+use super::{TICKETS, pop_all, queue_of_two, spend, steals, ticket};
 use gmp_base::GNo;
 use gmp_queue::{Owner, Thief, close};
 use std::alloc::{AllocError, Global};
@@ -40,16 +40,17 @@ fn put(rt: &impl Abort, owner: &mut Owner, g: u16)
     }
 }
 
+fn put_all(rt: &impl Abort, owner: &mut Owner) {
+    for g in 0..TICKETS {
+        put(rt, owner, g);
+    }
+}
+
 #[test]
 fn a_refused_push_gives_the_ticket_back(rt: HostRuntime) -> Result<(), Fail> {
     let (mut owner, _, _) = queue_or_again(rt.alloc()).ok_or("no queue")?;
-    for g in 0..TICKETS {
-        put(&rt, &mut owner, g);
-    }
-    for g in 0..TICKETS {
-        assert_eq!(rt; owner.pop().map(spend), Some(g));
-    }
-    assert_eq!(rt; owner.pop().map(spend), None);
+    put_all(&rt, &mut owner);
+    pop_all(&rt, &mut owner);
     Ok(())
 }
 
@@ -78,6 +79,12 @@ fn close_or_again(rt: &impl Abort, owner: Owner, thieves: Vec<Thief>, out: &mut 
     }
 }
 
+/// Those that nobody took.
+fn are_left(rt: &impl Abort, out: &[(GNo, u64)]) {
+    let left = (5..20).map(|g| (GNo(g), 1));
+    assert!(rt; out.iter().copied().eq(left));
+}
+
 #[test]
 fn a_refused_close_gives_the_ends_back(rt: HostRuntime) -> Result<(), Fail> {
     let alloc = rt.alloc();
@@ -90,9 +97,6 @@ fn a_refused_close_gives_the_ends_back(rt: HostRuntime) -> Result<(), Fail> {
     thieves.push_reserved(second);
     let mut out = Vec::new(alloc);
     close_or_again(&rt, owner, thieves, &mut out);
-    assert_eq!(rt; out.len(), 15);
-    for (left, g) in out.iter().zip(5..20) {
-        assert_eq!(rt; *left, (GNo(g), 1));
-    }
+    are_left(&rt, &out);
     Ok(())
 }

@@ -82,34 +82,29 @@ fn exchange<R: Threads + Sync>(
     Some((one, two, rest))
 }
 
-/// Adds the numbers to those of the list, and sorts it.
-fn gather(
+/// Each thief got its numbers in order, and with the rest they are those of all tickets, each once.
+fn are_all(
     rt: &impl Abort,
-    all: &mut Vec<u16>,
+    one: &mut Vec<u16>,
     two: &[u16],
     rest: &[(GNo, u64)],
 ) -> Result<(), AllocError> {
-    for g in two {
-        all.push(*g)?;
-    }
+    assert!(rt; one.is_sorted() && two.is_sorted());
+    one.extend_from_slice(two)?;
     for (g, epoch) in rest {
         assert_eq!(rt; *epoch, 1);
-        all.push(g.0)?;
+        one.push(g.0)?;
     }
-    all.sort()
+    one.sort()?;
+    assert!(rt; one.iter().copied().eq(0..TICKETS));
+    Ok(())
 }
 
 #[test]
 fn steals_once(rt: HostRuntime) -> Result<(), Fail> {
     let alloc = rt.alloc();
     let (owner, first, second) = queue_of_two(alloc).ok_or("no queue")?;
-    let (one, two, rest) = exchange(&rt, alloc, owner, first, second).ok_or("not closed")?;
-    assert!(rt; one.is_sorted() && two.is_sorted());
-    let mut all = one;
-    gather(&rt, &mut all, &two, &rest)?;
-    assert_eq!(rt; all.len(), usize::from(TICKETS));
-    for (at, g) in all.iter().enumerate() {
-        assert_eq!(rt; usize::from(*g), at);
-    }
+    let (mut one, two, rest) = exchange(&rt, alloc, owner, first, second).ok_or("not closed")?;
+    are_all(&rt, &mut one, &two, &rest)?;
     Ok(())
 }

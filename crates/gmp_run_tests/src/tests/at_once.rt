@@ -105,34 +105,46 @@ fn flag(alloc: Global) -> Result<Flag, Fail> {
     Ok(Arc::new(alloc, AtomicBool::new(false))?)
 }
 
-/// Runs main, which sets `a` and starts the other once `starts` is set, and the other, by two machines; each has to see the other's flag.
-fn meet<R: Threads + Wait + Abort + Sync, G: Gate + Sync>(
+/// A body whose flags are these.
+fn body(
+    alloc: Global,
+    starts: Option<Flag>,
+    own: &Flag,
+    other: &Flag,
+    met: &Flag,
+) -> Result<Boxed, Fail> {
+    let meets = Meets {
+        starts,
+        ends: false,
+        own: Arc::try_clone(own)?,
+        other: Arc::try_clone(other)?,
+        met: Arc::try_clone(met)?,
+    };
+    Ok(Box::new(alloc, meets)?)
+}
+
+/// Main, which sets `a` and starts the other once `starts` is set, and the other.
+fn both(
+    alloc: Global,
+    starts: &Flag,
+    a: &Flag,
+    main_met: &Flag,
+    other_met: &Flag,
+) -> Result<Vec<Boxed>, Fail> {
+    let b = flag(alloc)?;
+    let mut bodies = Vec::new(alloc);
+    bodies.push(body(alloc, Some(Arc::try_clone(starts)?), a, &b, main_met)?)?;
+    bodies.push(body(alloc, None, &b, a, other_met)?)?;
+    Ok(bodies)
+}
+
+/// Two machines run the bodies to the end of main.
+fn run_both<R: Threads + Wait + Abort + Sync, G: Gate + Sync>(
     rt: &R,
     alloc: Global,
-    starts: Flag,
-    a: Flag,
+    bodies: Vec<Boxed>,
     gate: &G,
 ) -> Result<(), Fail> {
-    let b = flag(alloc)?;
-    let main_met = flag(alloc)?;
-    let other_met = flag(alloc)?;
-    let main = Meets {
-        starts: Some(starts),
-        ends: false,
-        own: Arc::try_clone(&a)?,
-        other: Arc::try_clone(&b)?,
-        met: Arc::try_clone(&main_met)?,
-    };
-    let other = Meets {
-        starts: None,
-        ends: false,
-        own: b,
-        other: a,
-        met: Arc::try_clone(&other_met)?,
-    };
-    let mut bodies: Vec<Boxed> = Vec::new(alloc);
-    bodies.push(Box::new(alloc, main)?)?;
-    bodies.push(Box::new(alloc, other)?)?;
     let limits = Limits {
         procs: 2,
         machines: 2,
@@ -141,11 +153,25 @@ fn meet<R: Threads + Wait + Abort + Sync, G: Gate + Sync>(
     };
     let ran = run(rt, alloc, 0, limits, &[], bodies, &Stopped, gate, 0);
     let report = ran.ok().ok_or("not run")?;
-    assert_eq!(rt; report.started, 2);
-    assert!(rt; main_met.load(Ordering::SeqCst));
-    assert!(rt; other_met.load(Ordering::SeqCst));
-    assert!(rt; audit(&report.history, &report.logs).is_ok());
+    let audited = audit(&report.history, &report.logs);
+    assert_eq!(rt; (report.started, audited), (2, Ok(())));
     assert!(rt; report.outcome == Outcome::MainEnded);
+    Ok(())
+}
+
+/// Main, which sets `a` and starts the other once `starts` is set, and the other run on two machines; each has to see the other's flag.
+fn meet<R: Threads + Wait + Abort + Sync, G: Gate + Sync>(
+    rt: &R,
+    alloc: Global,
+    starts: &Flag,
+    a: &Flag,
+    gate: &G,
+) -> Result<(), Fail> {
+    let main_met = flag(alloc)?;
+    let other_met = flag(alloc)?;
+    let bodies = both(alloc, starts, a, &main_met, &other_met)?;
+    run_both(rt, alloc, bodies, gate)?;
+    assert!(rt; main_met.load(Ordering::SeqCst) && other_met.load(Ordering::SeqCst));
     Ok(())
 }
 
@@ -157,15 +183,16 @@ fn two_at_once(rt: HostRuntime) -> Result<(), Fail> {
     let gate = Hold {
         flag: Arc::try_clone(&a)?,
     };
-    meet(&rt, rt.alloc(), at_once, a, &gate)
+    meet(&rt, rt.alloc(), &at_once, &a, &gate)
 }
 
 /// The other body runs only where machine 1 is woken, since main holds machine 0.
 #[test]
 fn a_parked_machine_is_woken(rt: HostRuntime) -> Result<(), Fail> {
     let parked = flag(rt.alloc())?;
+    let a = flag(rt.alloc())?;
     let gate = Parked {
         flag: Arc::try_clone(&parked)?,
     };
-    meet(&rt, rt.alloc(), parked, flag(rt.alloc())?, &gate)
+    meet(&rt, rt.alloc(), &parked, &a, &gate)
 }

@@ -3,12 +3,16 @@
 use crate::tests::at_once::Stopped;
 use gmp_base::MNo;
 use gmp_check_cli::check;
-use gmp_run::Open;
+use gmp_run::{Open, Report};
 use gmp_run_cli::{run, told};
-use gmp_words::{Settings, script, settings};
+use gmp_seq::Limits;
+use gmp_words::{Ended, Said, Settings, script, settings};
 use gmp_worker::{Boxed, Mismatch, PassLog, audit};
 use std::alloc::Global;
+use std::process::Abort;
+use std::sync::Wait;
 use std::test::*;
+use std::thread::Threads;
 
 /// A command line, a script whose lines are parted by `/`, and the status that both lead to. Where a run is the same each time, also what
 /// goes to standard output and then to standard error, its lines parted by `/`; else it is a trace that passes.
@@ -101,35 +105,51 @@ fn lines(alloc: Global, text: &str) -> Result<Vec<u8>, Fail> {
     Ok(lines)
 }
 
+/// How the command ends on the script; what it writes goes to `output`.
+fn ended<R: Threads + Wait + Sync>(
+    rt: &R,
+    alloc: Global,
+    line: &str,
+    script: &str,
+    output: &mut Vec<u8>,
+) -> Result<Ended, Fail> {
+    let settings = settings_of(alloc, line)?;
+    let input = lines(alloc, script)?;
+    let mut input = input.as_slice();
+    Ok(run(rt, alloc, &settings, &mut input, output, &Stopped))
+}
+
+/// What was written, with what is said behind it, is as wanted.
+fn is_written(
+    rt: &impl Abort,
+    alloc: Global,
+    output: &mut Vec<u8>,
+    said: &Said,
+    (line, wanted): (&str, &str),
+) -> Result<(), Fail> {
+    output.extend_from_slice(format!(in alloc; "{said}")?.as_str().as_bytes())?;
+    let wanted = lines(alloc, wanted)?;
+    assert_eq!(rt; output.as_slice(), wanted.as_slice(), "{line}");
+    Ok(())
+}
+
+/// What `gmp check` says of the trace.
+fn checked(alloc: Global, mut trace: &[u8]) -> Ended {
+    let mut summary = Vec::new(alloc);
+    check(alloc, &mut trace, &mut summary, &mut ())
+}
+
 #[test]
 fn what_run_writes_is_right(rt: HostRuntime) -> Result<(), Fail> {
     let alloc = rt.alloc();
     for (line, script, status, wanted) in ROWS {
-        let settings = settings_of(alloc, line)?;
-        let input = lines(alloc, script)?;
         let mut output = Vec::new(alloc);
-        let ended = run(
-            &rt,
-            alloc,
-            &settings,
-            &mut input.as_slice(),
-            &mut output,
-            &Stopped,
-        );
+        let ended = ended(&rt, alloc, line, script, &mut output)?;
         assert_eq!(rt; ended.status, status, "{line}");
         match wanted {
-            Some(wanted) => {
-                let said = ended.said;
-                output.extend_from_slice(format!(in alloc; "{said}")?.as_str().as_bytes())?;
-                assert_eq!(rt;
-                    output.as_slice(),
-                    lines(alloc, wanted)?.as_slice(),
-                    "{line}"
-                );
-            }
+            Some(wanted) => is_written(&rt, alloc, &mut output, &ended.said, (line, wanted))?,
             None => {
-                let mut summary = Vec::new(alloc);
-                let checked = check(alloc, &mut output.as_slice(), &mut summary, &mut ());
+                let checked = checked(alloc, &output);
                 assert_eq!(rt; checked.status, 0, "{line}: {checked:?}");
             }
         }
@@ -137,41 +157,71 @@ fn what_run_writes_is_right(rt: HostRuntime) -> Result<(), Fail> {
     Ok(())
 }
 
+/// The bodies of the script.
+fn bodies_of(alloc: Global, text: &str) -> Result<Vec<Boxed>, Fail> {
+    let input = lines(alloc, text)?;
+    let script = script(alloc, &mut input.as_slice())
+        .ok()
+        .ok_or("the script")?;
+    let mut bodies: Vec<Boxed> = Vec::new(alloc);
+    for body in script.bodies {
+        bodies.push(Box::new(alloc, body)?)?;
+    }
+    Ok(bodies)
+}
+
+/// The report of a run of machine 0 alone with 7 entries, where each log says so many calls.
+fn report_of<R: Threads + Wait + Sync>(
+    rt: &R,
+    alloc: Global,
+    limits: Limits,
+    calls: &[u64],
+) -> Result<Report<Boxed>, Fail> {
+    let bodies = bodies_of(alloc, YIELDS)?;
+    let ran = gmp_run::run(rt, alloc, 0, limits, &[], bodies, &Stopped, &Open, 0);
+    let mut report = ran.ok().ok_or("not run")?;
+    report.logs.clear();
+    for calls in calls {
+        let m = MNo(0);
+        report.logs.push(PassLog { m, calls: *calls })?;
+    }
+    Ok(report)
+}
+
+/// The command ended with machine 0 named, and wrote nothing.
+fn is_named(rt: &impl Abort, alloc: Global, ended: &Ended, output: &[u8]) -> Result<(), Fail> {
+    let said = format!(in alloc; "{}", ended.said)?;
+    assert_eq!(rt;
+        (ended.status, said.as_str(), output.len()),
+        (6, "gmp: audit: machine 0\n", 0)
+    );
+    Ok(())
+}
+
 /// How many calls each log says, of a run of machine 0 alone with 7 entries, and what the audit finds.
 const LOGS: [(&[u64], u64); 3] = [(&[6], 6), (&[], 0), (&[7, 7], 14)];
 
+/// The audit finds what the logs say, and so does the command.
+fn is_found<R: Threads + Wait + Abort + Sync>(
+    rt: &R,
+    alloc: Global,
+    settings: &Settings,
+    (calls, said): (&[u64], u64),
+) -> Result<(), Fail> {
+    let report = report_of(rt, alloc, settings.limits(), calls)?;
+    let found = audit(&report.history, &report.logs);
+    let m = MNo(0);
+    assert_eq!(rt; found, Err(Mismatch { m, said, found: 7 }));
+    let mut output = Vec::new(alloc);
+    let ended = told(alloc, settings, &[], Ok(report), &mut output);
+    is_named(rt, alloc, &ended, &output)
+}
+
 #[test]
 fn wrong_logs_are_found(rt: HostRuntime) -> Result<(), Fail> {
-    let alloc = rt.alloc();
-    let settings = settings_of(alloc, "gmp run")?;
-    for (calls, said) in LOGS {
-        let input = lines(alloc, YIELDS)?;
-        let script = script(alloc, &mut input.as_slice())
-            .ok()
-            .ok_or("the script")?;
-        let mut bodies: Vec<Boxed> = Vec::new(alloc);
-        for body in script.bodies {
-            bodies.push(Box::new(alloc, body)?)?;
-        }
-        let limits = settings.limits();
-        let ran = gmp_run::run(&rt, alloc, 0, limits, &[], bodies, &Stopped, &Open, 0);
-        let mut report = ran.ok().ok_or("not run")?;
-        let m = MNo(0);
-        report.logs.clear();
-        for calls in calls {
-            report.logs.push(PassLog { m, calls: *calls })?;
-        }
-        let found = audit(&report.history, &report.logs);
-        assert_eq!(rt; found, Err(Mismatch { m, said, found: 7 }));
-        let mut output = Vec::new(alloc);
-        let ended = told(alloc, &settings, &[], Ok(report), &mut output);
-        assert_eq!(rt; ended.status, 6);
-        let said = ended.said;
-        assert_eq!(rt;
-            format!(in alloc; "{said}")?.as_str(),
-            "gmp: audit: machine 0\n"
-        );
-        assert!(rt; output.is_empty());
+    let settings = settings_of(rt.alloc(), "gmp run")?;
+    for row in LOGS {
+        is_found(&rt, rt.alloc(), &settings, row)?;
     }
     Ok(())
 }
