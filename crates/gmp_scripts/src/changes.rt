@@ -1,44 +1,55 @@
 //! Tables of changes of a text, each with what the program is to say then.
 
-use crate::edit::Edit;
+use crate::edit::{Edit, Place};
 use crate::program::{Ran, checked, stepped};
+use crate::short::Short;
 use std::alloc::{AllocError, Global};
-use std::fs::Files;
-use std::{fs, io};
+use std::fs;
 
 /// A row: an edit made in each of these lines, in turn.
-#[derive(Drop)]
+#[derive(Clone, Copy)]
 struct Row<'a> {
+    /// Its line in the table.
+    number: usize,
     want: &'a str,
     edit: Edit<'a>,
     first: usize,
     last: usize,
 }
 
+/// The numbers of the first and the last of the lines `4-11`, or `4`.
+fn numbers(lines: &str) -> Option<(usize, usize)> {
+    let (first, last) = lines.split_once('-').unwrap_or((lines, lines));
+    Some((first.parse().ok()?, last.parse().ok()?))
+}
+
+/// What is said of this line.
+fn said_of(alloc: Global, line: usize, word: &str) -> Result<String, AllocError> {
+    format!(in alloc; "gmp: line {line}: {word}\n")
+}
+
 impl<'a> Row<'a> {
     /// The row `WANT: EDIT LINES ..`.
-    fn read(line: &'a str) -> Option<Self> {
+    fn read(number: usize, line: &'a str) -> Option<Self> {
         let (want, change) = line.split_once(": ")?;
         let (name, rest) = change.split_once(' ')?;
         let (lines, more) = rest.split_once(' ').unwrap_or((rest, ""));
-        let (first, last) = lines.split_once('-').unwrap_or((lines, lines));
+        let edit = Edit::named(name, more)?;
+        let (first, last) = numbers(lines)?;
         Some(Row {
+            number,
             want,
-            edit: Edit::named(name, more)?,
-            first: first.parse().ok()?,
-            last: last.parse().ok()?,
+            edit,
+            first,
+            last,
         })
     }
 
     /// What is to be said of a change in this line.
     fn text(&self, alloc: Global, line: usize) -> Result<String, AllocError> {
-        let line = line as u64;
         match self.want.split_once(' ') {
-            Some(("L", word)) => format!(in alloc; "gmp: line {line}: {word}\n"),
-            Some(("L+1", word)) => {
-                let next = line.wrapping_add(1);
-                format!(in alloc; "gmp: line {next}: {word}\n")
-            }
+            Some(("L", word)) => said_of(alloc, line, word),
+            Some(("L+1", word)) => said_of(alloc, line.wrapping_add(1), word),
             Some((digit, word)) if digit.parse::<u64>().is_ok() => {
                 format!(in alloc; "gmp: line {digit}: {word}\n")
             }
@@ -48,81 +59,102 @@ impl<'a> Row<'a> {
     }
 }
 
-/// A text whose changes are judged.
+/// A text whose changes are judged, and the name of its file.
 #[derive(Drop)]
-struct Base {
-    name: String,
+struct Base<'a> {
+    alloc: Global,
+    name: &'a str,
     text: String,
 }
 
-impl Base {
-    /// `gmp step` on a script, and `gmp check` on a trace.
-    fn run(&self, alloc: Global, changed: &[u8]) -> Result<Ran, AllocError> {
+impl<'a> Base<'a> {
+    /// `gmp step` on a script, and `gmp check` on a trace, where the edit is made at this place in the line.
+    fn run(&self, edit: Edit, place: &Place, at: usize) -> Result<Ran, AllocError> {
+        let changed = edit.made(self.alloc, place, at)?;
         if self.name.ends_with(".gmp") {
-            stepped(alloc, changed)
+            stepped(self.alloc, &changed)
         } else {
-            checked(alloc, changed)
+            checked(self.alloc, &changed)
         }
     }
 
-    /// How many texts the row makes of it, or what the program says otherwise.
-    fn judge(&self, alloc: Global, row: &Row) -> Result<Result<usize, String>, AllocError> {
-        let mut lines = Vec::new(alloc);
-        for line in self.text.as_bytes().split_inclusive(|byte| *byte == b'\n') {
-            lines.push(line)?;
+    /// The program says what is wanted where the row's edit is made at this place in the line.
+    fn judge_text(&self, row: &Row, place: &Place, at: usize, want: &str) -> Result<(), Short> {
+        let ran = self.run(row.edit, place, at)?;
+        if ran.said.as_str() == want && ran.written.is_empty() != want.is_empty() {
+            return Ok(());
         }
+        let (line, said) = (place.number, ran.said.trim_end());
+        let said = format!(in self.alloc; "line {line} at {at}: {said}")?;
+        Err(Short::Line(row.number, said))
+    }
+
+    /// How many texts the row makes by this line.
+    fn judge_line(&self, row: &Row, place: &Place) -> Result<usize, Short> {
+        let want = row.text(self.alloc, place.number)?;
+        let places = row.edit.places(place.line.len());
+        let texts = places.len();
+        for at in places {
+            self.judge_text(row, place, at, want.as_str())?;
+        }
+        Ok(texts)
+    }
+
+    /// How many texts the row makes.
+    fn judge(&self, row: &Row) -> Result<usize, Short> {
+        let text = self.text.as_bytes();
         let mut texts = 0usize;
-        for (index, line) in lines.iter().enumerate() {
-            let number = index.wrapping_add(1);
-            if number < row.first || row.last < number {
-                continue;
+        let mut start = 0usize;
+        for (index, line) in text.split_inclusive(|byte| *byte == b'\n').enumerate() {
+            let end = start.wrapping_add(line.len());
+            let place = Place {
+                number: index.wrapping_add(1),
+                before: text.get(..start).unwrap_or(&[]),
+                line,
+                behind: text.get(end..).unwrap_or(&[]),
+            };
+            if row.first <= place.number && place.number <= row.last {
+                texts = texts.wrapping_add(self.judge_line(row, &place)?);
             }
-            let want = row.text(alloc, number)?;
-            for at in row.edit.places(line.len()) {
-                let changed = row.edit.made(alloc, &lines, index, at)?;
-                let ran = self.run(alloc, &changed)?;
-                if ran.said.as_str() != want.as_str() || ran.written.is_empty() == want.is_empty() {
-                    let said = ran.said.trim_end();
-                    return Ok(Err(format!(in alloc; "line {number} at {at}: {said}")?));
-                }
-                texts = texts.wrapping_add(1);
-            }
+            start = end;
         }
-        Ok(Ok(texts))
+        Ok(texts)
+    }
+
+    /// How many texts the row in this line of the table makes.
+    fn judge_row(&self, number: usize, line: &str) -> Result<usize, Short> {
+        let Some(row) = Row::read(number, line) else {
+            return Err(Short::line(self.alloc, number, "no row"));
+        };
+        match self.judge(&row) {
+            Ok(0) => Err(Short::line(self.alloc, number, "there is no such line")),
+            judged => judged,
+        }
     }
 }
 
-/// Makes the changes of the table of this name: how many there are, or the first row that falls short.
-pub fn judged(
-    rt: &(impl Files + Alloc),
-    alloc: Global,
-    name: &str,
-) -> io::Result<Result<String, String>> {
-    let table = fs::read_to_string(rt, name)?;
+/// How many texts the rows of a table make.
+fn judge_table(rt: &HostRuntime, table: &str) -> Result<usize, Short> {
+    let alloc = rt.alloc();
     let mut base = Base {
-        name: String::new(alloc),
+        alloc,
+        name: "",
         text: String::new(alloc),
     };
     let mut texts = 0usize;
     for (index, line) in table.lines().enumerate() {
-        let number = index.wrapping_add(1);
-        if line.is_empty() || line.starts_with('#') {
-            continue;
-        }
         if let Some(name) = line.strip_prefix("of ") {
-            base.name = String::from_str(alloc, name)?;
-            let text = fs::read_to_string(rt, name)?;
-            base.text = String::from_str(alloc, text.as_str())?;
-            continue;
-        }
-        let Some(row) = Row::read(line) else {
-            return Ok(Err(format!(in alloc; "{number}: no row")?));
-        };
-        match base.judge(alloc, &row)? {
-            Ok(0) => return Ok(Err(format!(in alloc; "{number}: there is no such line")?)),
-            Ok(more) => texts = texts.wrapping_add(more),
-            Err(short) => return Ok(Err(format!(in alloc; "{number}: {short}")?)),
+            base.name = name;
+            base.text = fs::read_to_string(rt, name)?;
+        } else if !line.is_empty() && !line.starts_with('#') {
+            texts = texts.wrapping_add(base.judge_row(index.wrapping_add(1), line)?);
         }
     }
-    Ok(Ok(format!(in alloc; "{texts} texts")?))
+    Ok(texts)
+}
+
+/// Makes the changes of the table of this name: how many there are, or the first row that falls short.
+pub fn judged(rt: &HostRuntime, name: &str) -> Result<usize, Short> {
+    let table = fs::read_to_string(rt, name)?;
+    judge_table(rt, table.as_str())
 }

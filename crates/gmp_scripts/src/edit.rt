@@ -3,8 +3,18 @@
 use std::alloc::{AllocError, Global};
 use std::ops::Range;
 
+/// A line of a text, with what stands before it and behind it.
+#[derive(Clone, Copy)]
+pub struct Place<'a> {
+    /// From 1.
+    pub number: usize,
+    pub before: &'a [u8],
+    pub line: &'a [u8],
+    pub behind: &'a [u8],
+}
+
 /// What becomes of a line.
-#[derive(Clone, Copy, Debug)]
+#[derive(Clone, Copy)]
 pub enum Edit<'a> {
     /// It is this line instead.
     Line(&'a str),
@@ -24,18 +34,26 @@ pub enum Edit<'a> {
     Pad(u8),
 }
 
+/// Adds these pieces.
+fn extend(out: &mut Vec<u8>, first: &[u8], second: &[u8], third: &[u8]) -> Result<(), AllocError> {
+    out.extend_from_slice(first)?;
+    out.extend_from_slice(second)?;
+    out.extend_from_slice(third)
+}
+
 impl<'a> Edit<'a> {
     /// The edit of this name, with what is said of it.
     pub fn named(name: &str, more: &'a str) -> Option<Self> {
+        let byte = more.parse().ok();
         match name {
             "line" => Some(Edit::Line(more)),
             "without" => Some(Edit::Without),
             "twice" => Some(Edit::Twice),
-            "behind" => Some(Edit::Behind(more.parse().ok()?)),
+            "behind" => Some(Edit::Behind(byte?)),
             "before" => Some(Edit::Before),
             "within" => Some(Edit::Within),
-            "spoil" => Some(Edit::Spoil(more.parse().ok()?)),
-            "pad" => Some(Edit::Pad(more.parse().ok()?)),
+            "spoil" => Some(Edit::Spoil(byte?)),
+            "pad" => Some(Edit::Pad(byte?)),
             _ => None,
         }
     }
@@ -54,55 +72,27 @@ impl<'a> Edit<'a> {
         matches!(self, Edit::Before | Edit::Within)
     }
 
-    /// What stands in the line's place, where the edit is made at this place in it.
+    /// Adds what stands in the line's place, where the edit is made at this place in it.
     fn put(self, out: &mut Vec<u8>, line: &[u8], at: usize) -> Result<(), AllocError> {
         let (head, tail) = line.split_at(at.min(line.len()));
         match self {
-            Edit::Line(text) => {
-                out.extend_from_slice(text.as_bytes())?;
-                Ok(out.push(b'\n')?)
-            }
+            Edit::Line(text) => extend(out, text.as_bytes(), b"\n", &[]),
             Edit::Without | Edit::Before => Ok(()),
-            Edit::Twice => {
-                out.extend_from_slice(line)?;
-                out.extend_from_slice(line)
-            }
-            Edit::Behind(byte) => {
-                out.extend_from_slice(line)?;
-                Ok(out.push(byte)?)
-            }
-            Edit::Within => out.extend_from_slice(head),
-            Edit::Spoil(byte) => {
-                out.extend_from_slice(head)?;
-                out.push(byte)?;
-                out.extend_from_slice(tail.get(1..).unwrap_or(tail))
-            }
-            Edit::Pad(byte) => {
-                out.extend_from_slice(head)?;
-                out.push(byte)?;
-                out.extend_from_slice(tail)
-            }
+            Edit::Twice => extend(out, line, line, &[]),
+            Edit::Behind(byte) => extend(out, line, &[byte], &[]),
+            Edit::Within => extend(out, head, &[], &[]),
+            Edit::Spoil(byte) => extend(out, head, &[byte], tail.get(1..).unwrap_or(tail)),
+            Edit::Pad(byte) => extend(out, head, &[byte], tail),
         }
     }
 
-    /// The text of these lines, where the edit is made at this place in the line of this index.
-    pub fn made(
-        self,
-        alloc: Global,
-        lines: &[&[u8]],
-        index: usize,
-        at: usize,
-    ) -> Result<Vec<u8>, AllocError> {
+    /// The text, where the edit is made at this place in the line.
+    pub fn made(self, alloc: Global, place: &Place, at: usize) -> Result<Vec<u8>, AllocError> {
         let mut out = Vec::new(alloc);
-        for (i, line) in lines.iter().enumerate() {
-            if i != index {
-                out.extend_from_slice(line)?;
-                continue;
-            }
-            self.put(&mut out, line, at)?;
-            if self.cuts() {
-                return Ok(out);
-            }
+        out.extend_from_slice(place.before)?;
+        self.put(&mut out, place.line, at)?;
+        if !self.cuts() {
+            out.extend_from_slice(place.behind)?;
         }
         Ok(out)
     }

@@ -7,26 +7,39 @@ mod changes;
 mod edit;
 mod program;
 mod script;
+mod short;
 
-use std::io;
+use crate::short::Short;
 use std::process::ExitCode;
+use std::{env, io};
+
+/// Prints that all went well in this file, or the first line that falls short. Did all go well?
+fn is_right(rt: &HostRuntime, name: &str) -> io::Result<bool> {
+    let (judged, of) = if name.ends_with(".changes") {
+        (changes::judged(rt, name), "texts")
+    } else {
+        (script::judged(rt, name), "calls")
+    };
+    match judged {
+        Ok(count) => {
+            println!(rt; "{name} ok, {count} {of}")?;
+            Ok(true)
+        }
+        Err(Short::Line(line, said)) => {
+            println!(rt; "{name}:{line}: {said}")?;
+            Ok(false)
+        }
+        Err(Short::Io(error)) => Err(error),
+    }
+}
 
 fn main(rt: HostRuntime) -> io::Result<ExitCode> {
-    let alloc = rt.alloc();
-    let names: Vec<String> = std::env::args(&rt)?.collect(alloc)?;
+    let mut names = env::args(&rt)?;
+    let _program = names.next();
     let mut code = ExitCode::SUCCESS;
-    for name in names.iter().skip(1) {
-        let judged = if name.ends_with(".changes") {
-            changes::judged(&rt, alloc, name.as_str())?
-        } else {
-            script::judged(&rt, alloc, name.as_str())?
-        };
-        match judged {
-            Ok(done) => println!(rt; "{name} ok, {done}")?,
-            Err(short) => {
-                code = ExitCode::FAILURE;
-                println!(rt; "{name}:{short}")?
-            }
+    for name in names {
+        if !is_right(&rt, name.as_str())? {
+            code = ExitCode::FAILURE;
         }
     }
     Ok(code)

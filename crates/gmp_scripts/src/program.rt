@@ -14,18 +14,27 @@ pub struct Ran {
     pub status: u8,
 }
 
-/// `gmp step` on a script. Its options are those of the first line, where that is a comment that begins with `gmp step`.
-pub fn stepped(alloc: Global, script: &[u8]) -> Result<Ran, AllocError> {
+/// The first line, where it is a comment that begins with `gmp step`, and else `gmp step`.
+fn command_of(script: &[u8]) -> &str {
     let first = script.split(|byte| *byte == b'\n').next().unwrap_or(&[]);
     let first = str::from_utf8(first).unwrap_or("");
-    let command = match first.strip_prefix("# ") {
+    match first.strip_prefix("# ") {
         Some(command) if command.starts_with("gmp step") => command,
         _ => "gmp step",
-    };
+    }
+}
+
+fn words_of(alloc: Global, command: &str) -> Result<Vec<String>, AllocError> {
     let mut words = Vec::new(alloc);
     for word in command.split(' ') {
         words.push(String::from_str(alloc, word)?)?;
     }
+    Ok(words)
+}
+
+/// `gmp step` on a script. Its options are those of the first line, where that is a comment that begins with `gmp step`.
+pub fn stepped(alloc: Global, script: &[u8]) -> Result<Ran, AllocError> {
+    let words = words_of(alloc, command_of(script))?;
     let mut written = Vec::new(alloc);
     let ended = match settings(alloc, &words) {
         Ok(settings) => step(alloc, &settings, &mut &script[..], &mut written),

@@ -1,18 +1,18 @@
 //! Scripts, each with the trace that is to be written of it.
 
 use crate::program::{checked, stepped};
+use crate::short::Short;
 use gmp_trace::{read, write};
-use std::alloc::{AllocError, Global};
-use std::fs::Files;
+use std::alloc::Global;
 use std::io::ErrorKind;
 use std::{fs, io};
 
 /// The number of the first line in which two texts differ, if they do.
-fn differs(got: &[u8], want: &[u8]) -> Option<u64> {
+fn differs(got: &[u8], want: &[u8]) -> Option<usize> {
     if got == want {
         return None;
     }
-    let mut line = 1u64;
+    let mut line = 1usize;
     for (a, b) in got.iter().zip(want.iter()) {
         if *a != *b {
             return Some(line);
@@ -24,45 +24,70 @@ fn differs(got: &[u8], want: &[u8]) -> Option<u64> {
     Some(line)
 }
 
-/// The text that is written of the trace that is read. It is empty where none is.
-fn again(alloc: Global, text: &[u8]) -> Result<Vec<u8>, AllocError> {
+/// Where two texts differ, this is said of the first line in which they do.
+fn same(alloc: Global, got: &[u8], want: &[u8], said: &str) -> Result<(), Short> {
+    match differs(got, want) {
+        None => Ok(()),
+        Some(line) => Err(Short::line(alloc, line, said)),
+    }
+}
+
+/// The text of the file beside the script that ends like this.
+fn read_beside(rt: &HostRuntime, stem: &str, end: &str) -> io::Result<String> {
+    let name = format!(in rt.alloc(); "{stem}{end}")?;
+    fs::read_to_string(rt, name.as_str())
+}
+
+/// `gmp step` writes this trace of the script of this name.
+fn judge_step(rt: &HostRuntime, name: &str, trace: &[u8]) -> Result<(), Short> {
+    let script = fs::read_to_string(rt, name)?;
+    let ran = stepped(rt.alloc(), script.as_bytes())?;
+    same(
+        rt.alloc(),
+        &ran.written,
+        trace,
+        "gmp step wrote another line",
+    )
+}
+
+/// The trace that is read is written as it was.
+fn judge_read(alloc: Global, text: &[u8]) -> Result<(), Short> {
     let mut out = Vec::new(alloc);
     if let Ok(trace) = read(alloc, text) {
         let _ = write(alloc, &trace, &mut out);
     }
-    Ok(out)
+    same(alloc, &out, text, "another line was read and written")
+}
+
+/// This is the summary that lies beside the script, if one does.
+fn judge_summary(rt: &HostRuntime, stem: &str, got: &[u8]) -> Result<(), Short> {
+    match read_beside(rt, stem, ".summary") {
+        Ok(want) => same(
+            rt.alloc(),
+            got,
+            want.as_bytes(),
+            "gmp check wrote another line",
+        ),
+        Err(error) if error.kind() == ErrorKind::NotFound => Ok(()),
+        Err(error) => Err(Short::Io(error)),
+    }
+}
+
+/// `gmp check` passes the trace, with the summary that lies beside the script.
+fn judge_check(rt: &HostRuntime, stem: &str, trace: &[u8]) -> Result<(), Short> {
+    let ran = checked(rt.alloc(), trace)?;
+    if ran.status != 0 {
+        return Err(Short::line(rt.alloc(), 0, ran.said.trim_end()));
+    }
+    judge_summary(rt, stem, &ran.written)
 }
 
 /// Runs the script of this name: how many calls its trace has, or what falls short.
-pub fn judged(
-    rt: &(impl Files + Alloc),
-    alloc: Global,
-    name: &str,
-) -> io::Result<Result<String, String>> {
-    let script = fs::read_to_string(rt, name)?;
+pub fn judged(rt: &HostRuntime, name: &str) -> Result<usize, Short> {
     let stem = name.strip_suffix(".gmp").unwrap_or(name);
-    let beside = format!(in alloc; "{stem}.trace")?;
-    let trace = fs::read_to_string(rt, beside.as_str())?;
-    let written = stepped(alloc, script.as_bytes())?.written;
-    if let Some(line) = differs(&written, trace.as_bytes()) {
-        return Ok(Err(format!(in alloc; "{line}: gmp step wrote another line")?));
-    }
-    if let Some(line) = differs(&again(alloc, &written)?, &written) {
-        return Ok(Err(format!(in alloc; "{line}: another line was read and written")?));
-    }
-    let check = checked(alloc, &written)?;
-    if check.status != 0 {
-        return Ok(Err(format!(in alloc; "0: {}", check.said.trim_end())?));
-    }
-    let beside = format!(in alloc; "{stem}.summary")?;
-    let line = match fs::read_to_string(rt, beside.as_str()) {
-        Ok(summary) => differs(&check.written, summary.as_bytes()),
-        Err(error) if error.kind() == ErrorKind::NotFound => None,
-        Err(error) => return Err(error),
-    };
-    if let Some(line) = line {
-        return Ok(Err(format!(in alloc; "{line}: gmp check wrote another line")?));
-    }
-    let calls = trace.matches(" -> ").count();
-    Ok(Ok(format!(in alloc; "{calls} calls")?))
+    let trace = read_beside(rt, stem, ".trace")?;
+    judge_step(rt, name, trace.as_bytes())?;
+    judge_read(rt.alloc(), trace.as_bytes())?;
+    judge_check(rt, stem, trace.as_bytes())?;
+    Ok(trace.matches(" -> ").count())
 }
