@@ -1,4 +1,5 @@
-//! Machines in threads.
+//! Queues, and machines in threads.
 
 mod at_once;
 mod command;
+mod queue;

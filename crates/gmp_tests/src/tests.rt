@@ -1,4 +1,4 @@
-//! Of what takes memory, run with each allocation refused in turn. Bodies are 70 and up, owners 80 and up.
+//! Of what takes memory, run with each allocation refused in turn, and of the program's functions. Bodies are 70 and up, owners 80 and up.
 use gmp_base::Pass;
 use gmp_book::Book;
 use gmp_seq::Limits;
@@ -10,10 +10,13 @@ mod making;
 mod opening;
 mod parts;
 mod replaying;
+mod scripts;
 mod stealing;
+mod stepping;
 mod texts;
 mod tokens;
 mod tracing;
+mod words;
 
 type Desk = Book<u32, u32>;
 

@@ -17,7 +17,7 @@ fn read(alloc: Global, line: &str) -> Result<Result<Settings, Ended>, Fail> {
 }
 
 /// The same of a line that is right.
-pub(crate) fn settings_of(rt: &impl Abort, alloc: Global, line: &str) -> Result<Settings, Fail> {
+pub(super) fn settings_of(rt: &impl Abort, alloc: Global, line: &str) -> Result<Settings, Fail> {
     match read(alloc, line)? {
         Ok(settings) => Ok(settings),
         Err(e) => panic!(rt; "{line}: {e:?}"),

@@ -1,5 +1,5 @@
-use Rattle.gmp_queue_tests.proofs.Ends.{taken_off}
-use Rattle.gmp_queue_tests.proofs.tests.queue_of_two.Goals as goal
+use Rattle.gmp_run_tests.proofs.Ends.{taken_off}
+use Rattle.gmp_run_tests.proofs.tests.queue.queue_of_two.Goals as goal
 
 pub returns : goal.returns
 returns c =

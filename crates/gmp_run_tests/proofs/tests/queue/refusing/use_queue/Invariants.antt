@@ -1,5 +1,5 @@
 use Rattle.gmp_queue.specs.Ends.{KeepsOwner, KeepsThief}
-use Rattle.gmp_queue_tests.proofs.tests.refusing.use_queue.Given as goal
+use Rattle.gmp_run_tests.proofs.tests.queue.refusing.use_queue.Given as goal
 
 abbrev pub invariant-loop-g : goal.invariant-loop-g
 invariant-loop-g g l = KeepsOwner l.fn.owner l.owner

@@ -1,5 +1,5 @@
 use Rattle.gmp_queue.specs.Ends.{KeepsThief}
-use Rattle.gmp_queue_tests.proofs.tests.stealing.steal_all.Given as goal
+use Rattle.gmp_run_tests.proofs.tests.queue.stealing.steal_all.Given as goal
 
 abbrev pub invariant-loop : goal.invariant-loop
 invariant-loop l = KeepsThief l.initial.thief l.thief

@@ -1,5 +1,5 @@
 //! Large runs, and readers and writers that fail.
-use crate::tests::settings_of;
+use super::words::settings_of;
 use gmp_check_cli::{Progress, check};
 use gmp_cli::step;
 use gmp_trace::{Watch, Work};

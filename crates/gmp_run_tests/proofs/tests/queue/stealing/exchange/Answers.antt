@@ -1,7 +1,7 @@
 use Rattle.std.proofs.Common.{List, [], ◌∷◌, ◌++◌, ap, ◌∙◌}
 use Rattle.gmp_queue.specs.declared.ends.Thief.{Thief}
-use Rattle.gmp_queue_tests.proofs.Ends.{still_the_ends}
-use Rattle.gmp_queue_tests.proofs.tests.stealing.exchange.Goals as goal
+use Rattle.gmp_run_tests.proofs.Ends.{still_the_ends}
+use Rattle.gmp_run_tests.proofs.tests.queue.stealing.exchange.Goals as goal
 
 pub close-requires : goal.close-requires
 close-requires g c =

@@ -1,7 +1,7 @@
 use Rattle.std.proofs.Common.{List, [], ◌∷◌, ◌++◌, refl, ap, ◌∙◌}
 use Rattle.gmp_queue.specs.declared.ends.Thief.{Thief}
-use Rattle.gmp_queue_tests.proofs.Ends.{still_the_ends}
-use Rattle.gmp_queue_tests.proofs.tests.refusing.a_refused_close_gives_the_ends_back.Goals as goal
+use Rattle.gmp_run_tests.proofs.Ends.{still_the_ends}
+use Rattle.gmp_run_tests.proofs.tests.queue.refusing.a_refused_close_gives_the_ends_back.Goals as goal
 
 pub close_or_again-requires : goal.close_or_again-requires
 close_or_again-requires g c =
