@@ -4,18 +4,15 @@ mod runs;
 mod turns;
 
 use crate::hand::Hand;
+use crate::opening::{Line, end_line, put_lines};
 use crate::short::Short;
-use crate::words::{first, line_of, number, short, small};
+use crate::words::{first, number, short, small};
 use gmp_base::{GNo, PNo, Woke};
 use gmp_book::Book;
-use gmp_trace::{End, put_end};
 use std::alloc::Global;
 
 /// The body of each goroutine and the owner of each processor is its number.
 type Desk = Book<u32, u32>;
-
-/// A line with its number.
-type Line<'a> = (usize, &'a str);
 
 /// A file that is played: all but the book, which is handed on.
 #[derive(Drop)]
@@ -37,7 +34,7 @@ struct Player {
 }
 
 /// Plays a file: how many calls it made, or which line fell short and how.
-pub fn played(alloc: Global, text: &str) -> Result<u64, (usize, Short)> {
+pub fn played(alloc: Global, text: &str) -> Result<String, (usize, Short)> {
     let mut player = Player {
         alloc,
         at: 0,
@@ -49,34 +46,26 @@ pub fn played(alloc: Global, text: &str) -> Result<u64, (usize, Short)> {
         word: 0,
     };
     match player.file(text) {
-        Ok(()) => Ok(player.calls),
+        Ok(counts) => Ok(counts),
         Err(short) => Err((player.at, short)),
     }
 }
 
 impl Player {
+    fn file(&mut self, text: &str) -> Result<String, Short> {
+        let mut lines = Vec::new(self.alloc);
+        put_lines(&mut lines, &mut self.at, text)?;
+        self.runs(&lines)?;
+        Ok(format!(in self.alloc; "{} calls", self.calls)?)
+    }
+
     /// Each run ends with the line of its end.
-    fn file(&mut self, text: &str) -> Result<(), Short> {
-        let mut run = Vec::new(self.alloc);
-        for line in text.lines() {
-            self.at = self.at.wrapping_add(1);
-            if !(line.is_empty() || line.starts_with('#') || line == "gmp-trace 1") {
-                let pushed = run.push((self.at, line));
-                if pushed.is_err() {
-                    return Err(Short::OutOfMemory);
-                }
-            }
-            if line.starts_with("end") {
-                self.plays(&run)?;
-                self.run = self.run.wrapping_add(1);
-                run.clear();
-            }
+    fn runs(&mut self, lines: &[Line]) -> Result<(), Short> {
+        for run in lines.split_inclusive(|(_, line)| line.starts_with("end")) {
+            self.plays(run)?;
+            self.run = self.run.wrapping_add(1);
         }
-        if run.is_empty() && self.calls > 0 {
-            Ok(())
-        } else {
-            Err(Short::NoEnd)
-        }
+        Ok(())
     }
 
     fn hand(&self, m: u64) -> Result<Hand, Short> {
@@ -112,9 +101,7 @@ impl Player {
     }
 
     fn end(&self, book: &Desk, line: &str) -> Result<(), Short> {
-        let mut text = Vec::new(self.alloc);
-        put_end(&mut text, End::of(book.outcome()))?;
-        let said = line_of(text)?;
+        let said = end_line(self.alloc, book.outcome())?;
         if said.as_str() == line {
             Ok(())
         } else {

@@ -8,7 +8,7 @@ use thiserror::Error;
 /// How a line falls short.
 #[derive(Debug, Drop, Error)]
 pub enum Short {
-    #[error("not a line")]
+    #[error("not a line, or not here")]
     Unreadable,
     #[error("limits and capacities come first")]
     NoOpening,
@@ -29,9 +29,11 @@ pub enum Short {
     #[error("a refusal changed something")]
     Changed,
     #[error("a plain replay ends otherwise")]
-    NotLegal,
+    EndsOtherwise,
     #[error("a plain replay says {0}")]
     Replayed(ReplayError),
+    #[error("not listed, and a step too: {0}")]
+    Step(String),
     #[error("a value was not taken back: {0}")]
     NotTaken(Refusal),
     #[error("out of memory")]

@@ -1,21 +1,13 @@
 //! A run of a file: its book is opened, and let go at its end.
 
-use super::{Desk, Line, Player};
+use super::{Desk, Player};
 use crate::hand::Hand;
+use crate::opening::{Line, Opening};
 use crate::short::Short;
 use gmp_base::{Called, Held, MNo, Pass, Proc, Refusal, Woke};
 use gmp_book::{Book, Report};
-use gmp_seq::{Limits, Outcome};
-use gmp_trace::{read_capacities, read_limits};
+use gmp_seq::Outcome;
 use std::alloc::{AllocError, Global};
-
-/// With what a run begins.
-#[derive(Drop)]
-struct Opening {
-    limits: Limits,
-    bodies: u16,
-    capacities: Vec<u32>,
-}
 
 /// How a run stands at the end of its lines.
 #[derive(Clone, Copy)]
@@ -82,16 +74,10 @@ impl Opening {
 
     /// The plain scheduler takes the history for one with the book's outcome.
     fn replayed(&self, alloc: Global, book: &Desk) -> Result<(), Short> {
-        match gmp_check::outcome_of(
-            alloc,
-            self.limits,
-            self.bodies,
-            &self.capacities,
-            book.history(),
-        ) {
-            Ok(outcome) if outcome == book.outcome() => Ok(()),
-            Ok(_) => Err(Short::NotLegal),
-            Err(why) => Err(Short::Replayed(why)),
+        if self.outcome(alloc, book.history())? == book.outcome() {
+            Ok(())
+        } else {
+            Err(Short::EndsOtherwise)
         }
     }
 
@@ -136,19 +122,7 @@ impl Player {
         let [limits, capacities, lines @ ..] = lines else {
             return Err(Short::NoOpening);
         };
-        self.at = limits.0;
-        let Some((limits, bodies)) = read_limits(self.alloc, limits.1.as_bytes())? else {
-            return Err(Short::NoOpening);
-        };
-        self.at = capacities.0;
-        let Some(capacities) = read_capacities(self.alloc, capacities.1.as_bytes())? else {
-            return Err(Short::NoOpening);
-        };
-        let opening = Opening {
-            limits,
-            bodies,
-            capacities,
-        };
+        let opening = Opening::read(self.alloc, &mut self.at, *limits, *capacities)?;
         self.opens(&opening, lines)
     }
 

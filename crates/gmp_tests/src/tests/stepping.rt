@@ -3,10 +3,11 @@ use super::words::settings_of;
 use gmp_check_cli::{Progress, check};
 use gmp_cli::step;
 use gmp_trace::{Watch, Work};
-use gmp_words::{MAX_SCRIPT, Said};
+use gmp_words::{Ended, MAX_SCRIPT, Said, Settings};
 use std::alloc::Global;
 use std::io;
 use std::io::{ErrorKind, Read, Write};
+use std::process::Abort;
 use std::test::Fail;
 
 /// A script in which main starts all others, of so many bodies, yields and exits.
@@ -31,8 +32,8 @@ fn bodies_have_a_limit(rt: HostRuntime) -> Result<(), Fail> {
     for (bodies, status, lines) in [(4096, 0, 16_643 + 4), (4097, 64, 0)] {
         let mut writer = Counts::with_room(u64::MAX);
         let text = stock(alloc, bodies)?;
-        let ended = step(alloc, &settings, &mut text.as_slice(), &mut writer);
-        assert_eq!(rt; ended.status, status, "{bodies}");
+        let got = step(alloc, &settings, &mut text.as_slice(), &mut writer).status;
+        assert_eq!(rt; got, status, "{bodies}");
         assert_eq!(rt; writer.lines, lines, "{bodies}");
     }
     Ok(())
@@ -61,9 +62,17 @@ fn many_machines(rt: HostRuntime) -> Result<(), Fail> {
     let settings = settings_of(&rt, alloc, line)?;
     let text = senders(alloc, 4096)?;
     let mut out = Vec::new(alloc);
-    let ended = step(alloc, &settings, &mut text.as_slice(), &mut out);
-    assert_eq!(rt; ended.status, 0);
-    let trace = str::from_utf8(&out).ok().unwrap_or("");
+    let status = step(alloc, &settings, &mut text.as_slice(), &mut out).status;
+    assert_eq!(rt; status, 0);
+    is_shared(&rt, str::from_utf8(&out).ok().unwrap_or(""));
+    let mut told = Vec::new(alloc);
+    let status = check(alloc, &mut out.as_slice(), &mut told, &mut ()).status;
+    assert_eq!(rt; status, 0);
+    Ok(())
+}
+
+/// The trace of the senders by 64 machines.
+fn is_shared(rt: &impl Abort, trace: &str) {
     assert!(rt; trace.ends_with("exit -> main ended\nend main ended\n"));
     // Each other body was started, and its value was taken up and received, once each.
     for (part, times) in [
@@ -79,10 +88,6 @@ fn many_machines(rt: HostRuntime) -> Result<(), Fail> {
     // Several machines did so.
     assert!(rt; trace.matches(" 1.0 acquire -> proc 1").count() == 1);
     assert!(rt; trace.matches(" 63.0 acquire -> none").count() == 1);
-    let mut told = Vec::new(alloc);
-    let ended = check(alloc, &mut out.as_slice(), &mut told, &mut ());
-    assert_eq!(rt; ended.status, 0);
-    Ok(())
 }
 
 /// A reader that gives a script and then fails.
@@ -150,6 +155,11 @@ caps
 end running
 ";
 
+/// The input is said to be unreadable, and nothing was written.
+fn is_unread(ended: &Ended, out: &[u8]) -> bool {
+    ended.status == 1 && matches!(ended.said, Said::InputUnreadable) && out.is_empty()
+}
+
 #[test]
 fn input_may_fail(rt: HostRuntime) -> Result<(), Fail> {
     let alloc = rt.alloc();
@@ -160,18 +170,26 @@ fn input_may_fail(rt: HostRuntime) -> Result<(), Fail> {
             text: text.as_bytes(),
         };
         let ended = step(alloc, &settings, &mut reader, &mut out);
-        assert_eq!(rt; ended.status, 1, "{text}");
-        assert!(rt; matches!(ended.said, Said::InputUnreadable), "{text}");
-        assert!(rt; out.is_empty(), "{text}");
+        assert!(rt; is_unread(&ended, &out), "{text}");
     }
-    let mut out = Vec::new(alloc);
+    Ok(())
+}
+
+#[test]
+fn a_trace_may_fail(rt: HostRuntime) -> Result<(), Fail> {
+    let mut out = Vec::new(rt.alloc());
     let mut reader = Broken {
         text: TRACE.as_bytes(),
     };
-    let ended = check(alloc, &mut reader, &mut out, &mut ());
-    assert!(rt; matches!(ended.said, Said::InputUnreadable));
-    assert!(rt; out.is_empty());
-    // Too long comes before the bad line in it.
+    let ended = check(rt.alloc(), &mut reader, &mut out, &mut ());
+    assert!(rt; is_unread(&ended, &out));
+    Ok(())
+}
+
+#[test]
+fn too_long_comes_before_a_bad_line(rt: HostRuntime) -> Result<(), Fail> {
+    let alloc = rt.alloc();
+    let settings = settings_of(&rt, alloc, "gmp step")?;
     let mut out = Vec::new(alloc);
     let text = vec![in alloc; b'x'; MAX_SCRIPT + 1]?;
     let ended = step(alloc, &settings, &mut text.as_slice(), &mut out);
@@ -179,26 +197,34 @@ fn input_may_fail(rt: HostRuntime) -> Result<(), Fail> {
     Ok(())
 }
 
+/// The script of a goroutine that yields until the run is full.
+const AGAIN: &str = "body\nyield\nagain";
+
+/// How many lines and bytes such a run has.
+fn run_again(rt: &impl Abort, alloc: Global, settings: &Settings) -> (u64, u64) {
+    let mut writer = Counts::with_room(u64::MAX);
+    let status = step(alloc, settings, &mut AGAIN.as_bytes(), &mut writer).status;
+    assert_eq!(rt; status, 3);
+    (writer.lines, writer.bytes)
+}
+
 #[test]
 fn output_may_fail(rt: HostRuntime) -> Result<(), Fail> {
     let alloc = rt.alloc();
-    let script = "body\nyield\nagain".as_bytes();
     let settings = settings_of(&rt, alloc, "gmp step")?;
     // The trace of 10,000 entries goes out in parts.
-    let mut whole = Counts::with_room(u64::MAX);
-    let ended = step(alloc, &settings, &mut &script[..], &mut whole);
-    assert_eq!(rt; ended.status, 3);
-    assert_eq!(rt; whole.lines, 10_004);
-    for room in [0, 1, 65_536, 100_000, whole.bytes.saturating_sub(1)] {
+    let (lines, bytes) = run_again(&rt, alloc, &settings);
+    assert_eq!(rt; lines, 10_004);
+    for room in [0, 1, 65_536, 100_000, bytes.saturating_sub(1)] {
         let mut writer = Counts::with_room(room);
-        let ended = step(alloc, &settings, &mut &script[..], &mut writer);
-        assert_eq!(rt; ended.status, 1, "{room}");
-        assert!(rt; matches!(ended.said, Said::OutputFailed), "{room}");
+        let ended = step(alloc, &settings, &mut AGAIN.as_bytes(), &mut writer);
+        let is_told = ended.status == 1 && matches!(ended.said, Said::OutputFailed);
+        assert!(rt; is_told, "{room}");
     }
-    for (room, status) in [(0, 1), (57, 1), (58, 0)] {
+    for (room, want) in [(0, 1), (57, 1), (58, 0)] {
         let mut writer = Counts::with_room(room);
-        let ended = check(alloc, &mut TRACE.as_bytes(), &mut writer, &mut ());
-        assert_eq!(rt; ended.status, status, "{room}");
+        let status = check(alloc, &mut TRACE.as_bytes(), &mut writer, &mut ()).status;
+        assert_eq!(rt; status, want, "{room}");
     }
     Ok(())
 }
@@ -207,11 +233,8 @@ fn output_may_fail(rt: HostRuntime) -> Result<(), Fail> {
 fn a_million_entries(rt: HostRuntime) -> Result<(), Fail> {
     let alloc = rt.alloc();
     let settings = settings_of(&rt, alloc, "gmp step --entries 1000000")?;
-    let mut writer = Counts::with_room(u64::MAX);
-    let script = "body\nyield\nagain".as_bytes();
-    let ended = step(alloc, &settings, &mut &script[..], &mut writer);
-    assert_eq!(rt; ended.status, 3);
-    assert_eq!(rt; writer.lines, 1_000_004);
+    let (lines, _) = run_again(&rt, alloc, &settings);
+    assert_eq!(rt; lines, 1_000_004);
     Ok(())
 }
 
@@ -239,28 +262,8 @@ impl Progress for Notes {
     }
 }
 
-#[test]
-fn a_check_tells_how_far_it_is(rt: HostRuntime) -> Result<(), Fail> {
-    let alloc = rt.alloc();
-    let settings = settings_of(&rt, alloc, "gmp step --entries 140000")?;
-    let mut trace = Vec::new(alloc);
-    let ended = step(
-        alloc,
-        &settings,
-        &mut "body\nyield\nagain".as_bytes(),
-        &mut trace,
-    );
-    assert_eq!(rt; ended.status, 3);
-    let mut notes = Notes {
-        begun: 0,
-        told: Vec::new(alloc),
-        ended: false,
-    };
-    let mut summary = Counts::with_room(u64::MAX);
-    let ended = check(alloc, &mut trace.as_slice(), &mut summary, &mut notes);
-    assert_eq!(rt; ended.status, 0);
-    assert_eq!(rt; notes.begun, trace.len());
-    let told = notes.told.as_slice();
+/// What is told of a check of so many bytes, of more than 131,072 entries.
+fn is_told(notes: &Notes, bytes: usize) -> bool {
     let want = [
         (Work::Reading, 0),
         (Work::Reading, 65_536),
@@ -269,7 +272,24 @@ fn a_check_tells_how_far_it_is(rt: HostRuntime) -> Result<(), Fail> {
         (Work::Checking, 65_536),
         (Work::Checking, 131_072),
     ];
-    assert_eq!(rt; told, &want[..]);
-    assert!(rt; notes.ended);
+    notes.begun == bytes && notes.told.as_slice() == want.as_slice() && notes.ended
+}
+
+#[test]
+fn a_check_tells_how_far_it_is(rt: HostRuntime) -> Result<(), Fail> {
+    let alloc = rt.alloc();
+    let settings = settings_of(&rt, alloc, "gmp step --entries 140000")?;
+    let mut trace = Vec::new(alloc);
+    let status = step(alloc, &settings, &mut AGAIN.as_bytes(), &mut trace).status;
+    assert_eq!(rt; status, 3);
+    let mut notes = Notes {
+        begun: 0,
+        told: Vec::new(alloc),
+        ended: false,
+    };
+    let mut summary = Counts::with_room(u64::MAX);
+    let status = check(alloc, &mut trace.as_slice(), &mut summary, &mut notes).status;
+    assert_eq!(rt; status, 0);
+    assert!(rt; is_told(&notes, trace.len()));
     Ok(())
 }

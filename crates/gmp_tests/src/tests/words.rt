@@ -1,7 +1,7 @@
 //! The command line, the input, and how the program ends.
 use gmp_trace::{Bad, Why};
 use gmp_words::{Ended, Said, Settings, input, settings};
-use std::alloc::Global;
+use std::alloc::{AllocError, Global};
 use std::io;
 use std::io::{ErrorKind, Read};
 use std::process::Abort;
@@ -49,6 +49,16 @@ fn options_are_read(rt: HostRuntime) -> Result<(), Fail> {
     Ok(())
 }
 
+/// A line is refused with this status, and a text is told.
+fn is_refused(said: &Result<Settings, Ended>, status: u8) -> bool {
+    match said {
+        Ok(_) => false,
+        Err(e) => {
+            e.status == status && matches!(&e.said, Said::Usage(text) if text.ends_with('\n'))
+        }
+    }
+}
+
 #[test]
 fn bad_lines_are_refused(rt: HostRuntime) -> Result<(), Fail> {
     for (line, status) in [
@@ -79,42 +89,46 @@ fn bad_lines_are_refused(rt: HostRuntime) -> Result<(), Fail> {
         ("gmp --help", 0),
         ("gmp step --help", 0),
     ] {
-        match read(rt.alloc(), line)? {
-            Ok(s) => panic!(rt; "{line}: {s:?}"),
-            Err(e) => {
-                assert_eq!(rt; e.status, status, "{line}");
-                let told = matches!(&e.said, Said::Usage(text) if text.ends_with('\n'));
-                assert!(rt; told, "{line}");
-            }
-        }
+        let said = read(rt.alloc(), line)?;
+        assert!(rt; is_refused(&said, status), "{line}");
     }
+    Ok(())
+}
+
+/// The program ends with this status and says this.
+fn tells(
+    rt: &impl Abort,
+    alloc: Global,
+    ended: Ended,
+    status: u8,
+    text: &str,
+) -> Result<(), AllocError> {
+    assert_eq!(rt; ended.status, status, "{text}");
+    let said = ended.said;
+    assert_eq!(rt; format!(in alloc; "{said}")?.as_str(), text);
     Ok(())
 }
 
 #[test]
 fn texts_are_those_asked_for(rt: HostRuntime) -> Result<(), Fail> {
-    let usage = String::from_str(rt.alloc(), "error: no\n")?;
-    for (ended, status, text) in [
-        (Ended::bad_line(2), 1, "gmp: line 2: bad script line\n"),
-        (
-            Ended::bad_trace(Bad {
-                line: 8,
-                why: Why::Step,
-            }),
-            1,
-            "gmp: line 8: step\n",
-        ),
-        (Ended::too_long(), 1, "gmp: input too long\n"),
-        (Ended::unreadable(), 1, "gmp: input unreadable\n"),
-        (Ended::output_failed(), 1, "gmp: output failed\n"),
-        (Ended::bad_limits(), 64, "gmp: bad limits\n"),
-        (Ended::out_of_memory(), 5, "gmp: out of memory\n"),
-        (Ended::usage(usage), 64, "error: no\n"),
-    ] {
-        assert_eq!(rt; ended.status, status);
-        let said = ended.said;
-        assert_eq!(rt; format!(in rt.alloc(); "{said}")?.as_str(), text);
-    }
+    let alloc = rt.alloc();
+    let bad_line = Ended::bad_line(2);
+    tells(&rt, alloc, bad_line, 1, "gmp: line 2: bad script line\n")?;
+    let bad = Bad {
+        line: 8,
+        why: Why::Step,
+    };
+    tells(&rt, alloc, Ended::bad_trace(bad), 1, "gmp: line 8: step\n")?;
+    tells(&rt, alloc, Ended::too_long(), 1, "gmp: input too long\n")?;
+    let unreadable = Ended::unreadable();
+    tells(&rt, alloc, unreadable, 1, "gmp: input unreadable\n")?;
+    let failed = Ended::output_failed();
+    tells(&rt, alloc, failed, 1, "gmp: output failed\n")?;
+    tells(&rt, alloc, Ended::bad_limits(), 64, "gmp: bad limits\n")?;
+    let no_memory = Ended::out_of_memory();
+    tells(&rt, alloc, no_memory, 5, "gmp: out of memory\n")?;
+    let usage = String::from_str(alloc, "error: no\n")?;
+    tells(&rt, alloc, Ended::usage(usage), 64, "error: no\n")?;
     Ok(())
 }
 
@@ -143,42 +157,49 @@ impl Read for Pieces<'_> {
     }
 }
 
+/// What was read is this text.
+fn is_text(got: &Result<Vec<u8>, Ended>, want: &[u8]) -> bool {
+    matches!(got, Ok(text) if text.as_slice() == want)
+}
+
+/// The input is said to be unreadable.
+fn is_unreadable(got: &Result<Vec<u8>, Ended>) -> bool {
+    matches!(got, Err(e) if e.status == 1 && matches!(e.said, Said::InputUnreadable))
+}
+
 #[test]
 fn input_is_read_whole(rt: HostRuntime) -> Result<(), Fail> {
-    for (reads, status) in [(0, 1), (1, 1), (3, 1), (4, 0)] {
+    for (reads, is_whole) in [(0, false), (1, false), (3, false), (4, true)] {
         let mut reader = Pieces {
             text: b"one two",
             interrupted: false,
             reads_left: reads,
         };
-        match input(rt.alloc(), &mut reader, 7) {
-            Ok(text) => {
-                assert_eq!(rt; status, 0, "{reads}");
-                assert_eq!(rt; text.as_slice(), b"one two".as_slice());
-            }
-            Err(e) => {
-                assert_eq!(rt; e.status, status, "{reads}");
-                assert!(rt; matches!(e.said, Said::InputUnreadable), "{reads}");
-            }
-        }
+        let got = input(rt.alloc(), &mut reader, 7);
+        let is_told = if is_whole {
+            is_text(&got, b"one two")
+        } else {
+            is_unreadable(&got)
+        };
+        assert!(rt; is_told, "{reads}");
     }
     Ok(())
+}
+
+/// So many bytes are read, or the input is said to be too long.
+fn is_limited(got: &Result<Vec<u8>, Ended>, len: usize, is_fine: bool) -> bool {
+    match got {
+        Ok(text) => is_fine && text.len() == len,
+        Err(e) => !is_fine && matches!(e.said, Said::InputTooLong),
+    }
 }
 
 #[test]
 fn input_has_a_limit(rt: HostRuntime) -> Result<(), Fail> {
     for (len, is_fine) in [(9_999, true), (10_000, true), (10_001, false)] {
         let bytes = vec![in rt.alloc(); b'\n'; len]?;
-        match input(rt.alloc(), &mut bytes.as_slice(), 10_000) {
-            Ok(text) => {
-                assert!(rt; is_fine, "{len}");
-                assert_eq!(rt; text.len(), len);
-            }
-            Err(e) => {
-                assert!(rt; !is_fine, "{len}");
-                assert!(rt; matches!(e.said, Said::InputTooLong));
-            }
-        }
+        let got = input(rt.alloc(), &mut bytes.as_slice(), 10_000);
+        assert!(rt; is_limited(&got, len, is_fine), "{len}");
     }
     Ok(())
 }
