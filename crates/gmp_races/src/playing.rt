@@ -3,8 +3,8 @@
 use crate::gate::Turnstile;
 use crate::short::Short;
 use gmp_check::outcome_of;
-use gmp_run::{Clock, run};
-use gmp_script::Script;
+use gmp_run::{Clock, Report, run};
+use gmp_script::{Script, ScriptBody};
 use gmp_seq::{Limits, Outcome};
 use gmp_worker::{Boxed, audit};
 use std::alloc::Global;
@@ -36,6 +36,69 @@ fn script(alloc: Global, text: &[u8]) -> Result<Script, Short> {
     Ok(script)
 }
 
+/// Each body in a box of its own.
+fn boxed(alloc: Global, bodies: Vec<ScriptBody>) -> Result<Vec<Boxed>, Short> {
+    let mut boxes: Vec<Boxed> = Vec::new(alloc);
+    for body in bodies {
+        let Ok(body) = Box::new(alloc, body) else {
+            return Err(Short::OutOfMemory);
+        };
+        if boxes.push(body).is_err() {
+            return Err(Short::OutOfMemory);
+        }
+    }
+    Ok(boxes)
+}
+
+/// Judges a run's report: how it ended, and that the history is legal and the logs agree with it.
+fn judge(
+    alloc: Global,
+    limits: Limits,
+    bodies: u16,
+    capacities: &[u32],
+    report: &Report<Boxed>,
+    ends: Outcome,
+) -> Result<(), Short> {
+    if audit(&report.history, &report.logs).is_err() {
+        return Err(Short::Mismatch);
+    }
+    match outcome_of(alloc, limits, bodies, capacities, &report.history) {
+        Ok(Some(outcome)) if outcome == report.outcome => {}
+        _ => return Err(Short::NotLegal),
+    }
+    if report.outcome == ends {
+        Ok(())
+    } else {
+        Err(Short::OtherEnd)
+    }
+}
+
+/// Runs the bodies of a script by machines in threads, under a gate of this seed, and judges the run.
+fn raced<R: Threads + Wait + Sync>(
+    rt: &R,
+    alloc: Global,
+    limits: Limits,
+    capacities: &[u32],
+    bodies: Vec<ScriptBody>,
+    ends: Outcome,
+    seed: u64,
+) -> Result<(), Short> {
+    let Ok(count) = u16::try_from(bodies.len()) else {
+        return Err(Short::NotBegun);
+    };
+    let boxes = boxed(alloc, bodies)?;
+    let clock = Counting {
+        next: AtomicU64::new(0),
+    };
+    let gate = Turnstile::new(seed);
+    match run(
+        rt, alloc, seed, limits, capacities, boxes, &clock, &gate, seed,
+    ) {
+        Ok(report) => judge(alloc, limits, count, capacities, &report, ends),
+        Err(_) => Err(Short::NotBegun),
+    }
+}
+
 /// Runs the script by so many processors and machines, under a gate of this seed, and judges it.
 pub fn played<R: Threads + Wait + Sync>(
     rt: &R,
@@ -56,44 +119,5 @@ pub fn played<R: Threads + Wait + Sync>(
         channels: 16,
         entries: 10_000,
     };
-    let Ok(count) = u16::try_from(bodies.len()) else {
-        return Err(Short::NotBegun);
-    };
-    let mut boxed: Vec<Boxed> = Vec::with_capacity(alloc, bodies.len())?;
-    for body in bodies {
-        let Ok(body) = Box::new(alloc, body) else {
-            return Err(Short::OutOfMemory);
-        };
-        if boxed.push(body).is_err() {
-            return Err(Short::OutOfMemory);
-        }
-    }
-    let clock = Counting {
-        next: AtomicU64::new(0),
-    };
-    let gate = Turnstile::new(seed);
-    let Ok(report) = run(
-        rt,
-        alloc,
-        seed,
-        limits,
-        &capacities,
-        boxed,
-        &clock,
-        &gate,
-        seed,
-    ) else {
-        return Err(Short::NotBegun);
-    };
-    if audit(&report.history, &report.logs).is_err() {
-        return Err(Short::Mismatch);
-    }
-    match outcome_of(alloc, limits, count, &capacities, &report.history) {
-        Ok(Some(outcome)) if outcome == report.outcome => {}
-        _ => return Err(Short::NotLegal),
-    }
-    if report.outcome != ends {
-        return Err(Short::OtherEnd);
-    }
-    Ok(())
+    raced(rt, alloc, limits, &capacities, bodies, ends, seed)
 }
