@@ -36,20 +36,6 @@ fn script(alloc: Global, text: &[u8]) -> Result<Script, Short> {
     Ok(script)
 }
 
-/// Each body in a box of its own.
-fn boxed(alloc: Global, bodies: Vec<ScriptBody>) -> Result<Vec<Boxed>, Short> {
-    let mut boxes: Vec<Boxed> = Vec::new(alloc);
-    for body in bodies {
-        let Ok(body) = Box::new(alloc, body) else {
-            return Err(Short::OutOfMemory);
-        };
-        if boxes.push(body).is_err() {
-            return Err(Short::OutOfMemory);
-        }
-    }
-    Ok(boxes)
-}
-
 /// Judges a run's report: how it ended, and that the history is legal and the logs agree with it.
 fn judge(
     alloc: Global,
@@ -86,7 +72,15 @@ fn raced<R: Threads + Wait + Sync>(
     let Ok(count) = u16::try_from(bodies.len()) else {
         return Err(Short::NotBegun);
     };
-    let boxes = boxed(alloc, bodies)?;
+    let mut boxes: Vec<Boxed> = Vec::new(alloc);
+    for body in bodies {
+        let Ok(body) = Box::new(alloc, body) else {
+            return Err(Short::OutOfMemory);
+        };
+        if boxes.push(body).is_err() {
+            return Err(Short::OutOfMemory);
+        }
+    }
     let clock = Counting {
         next: AtomicU64::new(0),
     };

@@ -19,8 +19,9 @@ use std::alloc::Global;
 use std::env;
 use std::process::ExitCode;
 
-/// Gives both the list of this seed; where they differ, with the number of the ask.
-fn compare(alloc: Global, seed: u64, tally: &mut Tally) -> Result<(), (u32, Short)> {
+/// Gives both the list of this seed: what comes of each ask, and what both say after it, is the same, or with the number of the ask how it
+/// falls short.
+fn same_history(alloc: Global, seed: u64, tally: &mut Tally) -> Result<(), (u32, Short)> {
     let mut draw = Draw::new(seed);
     let mut pair = match Pair::open(alloc, &draw.capacities()) {
         Ok(pair) => pair,
@@ -47,7 +48,7 @@ fn main(rt: HostRuntime) -> Result<ExitCode> {
     let count: u64 = word.as_str().parse()?;
     let mut tally = Tally::default();
     for seed in 0..count {
-        if let Err((i, short)) = compare(rt.alloc(), seed, &mut tally) {
+        if let Err((i, short)) = same_history(rt.alloc(), seed, &mut tally) {
             println!(rt; "list {seed}, ask {i}: {short}")?;
             return Ok(ExitCode::FAILURE);
         }

@@ -2,7 +2,7 @@
 use super::words::settings_of;
 use gmp_check_cli::{Progress, check};
 use gmp_cli::step;
-use gmp_trace::{Watch, Work};
+use gmp_trace::{Watch, Work, read, write};
 use gmp_words::{Ended, MAX_SCRIPT, Said, Settings};
 use std::alloc::Global;
 use std::io;
@@ -65,10 +65,20 @@ fn many_machines(rt: HostRuntime) -> Result<(), Fail> {
     let status = step(alloc, &settings, &mut text.as_slice(), &mut out).status;
     assert_eq!(rt; status, 0);
     is_shared(&rt, str::from_utf8(&out).ok().unwrap_or(""));
+    assert!(rt; is_read_back(alloc, &out));
     let mut told = Vec::new(alloc);
     let status = check(alloc, &mut out.as_slice(), &mut told, &mut ()).status;
     assert_eq!(rt; status, 0);
     Ok(())
+}
+
+/// The trace is read, and written again as it was.
+fn is_read_back(alloc: Global, text: &[u8]) -> bool {
+    let mut again = Vec::new(alloc);
+    if let Ok(trace) = read(alloc, text) {
+        let _ = write(alloc, &trace, &mut again);
+    }
+    again.as_slice() == text
 }
 
 /// The trace of the senders by 64 machines.
@@ -290,6 +300,6 @@ fn a_check_tells_how_far_it_is(rt: HostRuntime) -> Result<(), Fail> {
     let mut summary = Counts::with_room(u64::MAX);
     let status = check(alloc, &mut trace.as_slice(), &mut summary, &mut notes).status;
     assert_eq!(rt; status, 0);
-    assert!(rt; is_told(&notes, trace.len()));
+    assert!(rt; is_told(&notes, trace.len()) && is_read_back(alloc, &trace));
     Ok(())
 }
