@@ -9,7 +9,7 @@ use Rattle.gmp_acts.specs.System.{BookRun, count_of}
 use Rattle.gmp_driver.specs.declared.act.Act.{Act}
 use Rattle.gmp_driver.specs.declared.act.Act.TheVariants as act
 use Rattle.gmp_driver.specs.declared.place.Place.{Place}
-use Rattle.gmp_driver.specs.Fits.{Fits}
+use Rattle.gmp_driver.specs.Fits.{SuitsPlace}
 use Rattle.gmp_driver.specs.Seen.{seen}
 use Rattle.gmp_driver.specs.Table.{act_at, claim_call, next_act}
 use Rattle.gmp_acts.specs.declared.choice.Choice.{Choice}
@@ -31,7 +31,7 @@ pub no_claim_refused : (k : System) (m : MNo) (choice : Choice) (k' : System) �
 no_claim_refused k m choice k' s acts inside at stale goes =
     let x = machine_at k m in
     let mine : Agrees k.book m (machine_at k m) = s.each m inside in
-    let t = some_of (machine_at k m).hand.to_claim (subst (λ (p : Place). Fits p (machine_at k m).hand) at (mine.driver.fits (ap is_some mine.has_pass))).has_to_claim in
+    let t = some_of (machine_at k m).hand.to_claim (subst (λ (p : Place). SuitsPlace p (machine_at k m).hand) at (mine.driver.fits (ap is_some mine.has_pass))).has_to_claim in
     let next : next_act (machine_at k m) ≡ act.Call (call.Claim t.0) =
     ap (λ (p : Place). act_at (seen (machine_at k m)) p) at ∙ ap (λ (b : Bool). if b then act.Call call.Poke else claim_call (machine_at k m).hand.to_claim) stale ∙ ap claim_call t.1 in
     let d : MakesCall k m (call.Claim t.0) k' = subst (λ (a : Act). DoesAct a k m choice k') next (acts.by_place inside) in

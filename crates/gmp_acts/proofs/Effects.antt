@@ -64,7 +64,7 @@ effect_gear limits m (call.Sleep until) answer old new hand u s (g, running, (h,
 effect_gear limits m call.Gopark answer old new hand u s (g, running, (h, rest, more)) = goes_gear m call.Gopark answer _ _ hand refl refl more
 effect_gear limits m (call.Ready k) answer old new hand u s (g, running, (h, rest, more)) = goes_gear m (call.Ready k) answer _ _ hand refl refl more
 effect_gear limits m call.Enter answer old new hand u s (g, running, (is, h, more)) = enters_gear m _ _ old.table hand answer (s.runner g running) h
-effect_gear limits m (call.Leave number) answer old new hand u s (g, calling, h, machines, more) = returns_gear m _ _ old.table hand number answer u.2 (s.caller g calling) machines
+effect_gear limits m (call.Leave number) answer old new hand u s (g, calling, (h, machines, more)) = returns_gear m _ _ old.table hand number answer u.2 (s.caller g calling) machines
 effect_gear limits m call.Spin answer old new hand u s (free, (h, is, rest)) = spins_gear m _ _ old.table hand answer s.spins_row s.spins_at h
 effect_gear limits m call.Woken answer old new hand u s (h, is, rest) = looks_gear m _ _ old.table hand answer h
 effect_gear limits m call.Unspin answer old new hand u s (h, is, rest) = unspins_gear m _ _ old.table hand answer s.spins_row s.spins_at h

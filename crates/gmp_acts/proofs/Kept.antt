@@ -38,7 +38,7 @@ use Rattle.gmp_driver.specs.declared.act.Told.TheVariants as told
 use Rattle.gmp_driver.specs.declared.place.Place.{Place}
 use Rattle.gmp_driver.specs.declared.place.Place.TheVariants as place
 use Rattle.gmp_driver.specs.declared.seen.Seen.{Seen}
-use Rattle.gmp_driver.specs.Fits.{Fits}
+use Rattle.gmp_driver.specs.Fits.{SuitsPlace}
 use Rattle.gmp_acts.specs.Hands.{PlainMachine}
 use Rattle.gmp_driver.specs.Seen.{own_processor}
 use Rattle.gmp_acts.specs.Hands.{PlainHand}
@@ -211,7 +211,7 @@ module _ (k : System) (m : MNo) (c : Call) (answer : Reply) (inside : m.0 < leng
   sees : Sees k.book.state m (machine_at k m)
   sees = mine.sees step.0
 
-  fits : Fits (machine_at k m).place (machine_at k m).hand
+  fits : SuitsPlace (machine_at k m).place (machine_at k m).hand
   fits = mine.driver.fits (ap is_some mine.has_pass)
 
   used : Uses c (machine_at k m).hand

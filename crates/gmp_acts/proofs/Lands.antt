@@ -20,7 +20,7 @@ use Rattle.gmp_driver.specs.declared.place.Place.TheVariants as place
 use Rattle.gmp_driver.specs.declared.registers.CalledParts.{CalledParts}
 use Rattle.gmp_driver.specs.declared.registers.HeldParts.{HeldParts}
 use Rattle.gmp_driver.specs.declared.registers.ProcParts.{ProcParts}
-use Rattle.gmp_driver.specs.Fits.{Fits}
+use Rattle.gmp_driver.specs.Fits.{SuitsPlace}
 use Rattle.gmp_acts.specs.Hands.{PlainHand}
 use Rattle.gmp_driver.specs.Seen.{seen_of}
 use Rattle.gmp_driver.specs.Table.{act_at, call_for, next_place}
@@ -32,7 +32,7 @@ use Rattle.gmp_acts.proofs.Gears.{mode_after, spins_after}
 
 -- the next place suits what the machine holds and does
 pub record Lands (procs : ℕ) (here : Place) (c : Call) (answer : Reply) (there : Place) (hand : PlainHand) (what : Option Mode) : Type 0 where
-  pub fits : Fits there hand
+  pub fits : SuitsPlace there hand
   pub does : ModeAt there (mode_after c answer what)
   pub spinning : spins_after c answer (spins_at here) ≡ spins_at there
   pub few : HasFewAt there
@@ -61,87 +61,87 @@ module _ (procs : ℕ) (fresh : Bool) (turns : ℕ) (t : Table) (hand : PlainHan
   Landing c here answer =
       Lands procs here c answer (next_place (seen_of procs fresh turns (hand_after t c answer hand)) here (told.Replied answer)) (hand_after t c answer hand) what
 
-  at_start : (answer : Reply) → CanReply call.Acquire answer → Fits place.Start hand → ModeAt place.Start what → Landing call.Acquire place.Start answer
+  at_start : (answer : Reply) → CanReply call.Acquire answer → SuitsPlace place.Start hand → ModeAt place.Start what → Landing call.Acquire place.Start answer
   at_start (reply.Proc p) can f does = record { fits = record { has_processor = refl; has_held = f.has_held; has_called = f.has_called; has_to_claim = f.has_to_claim; has_to_store = f.has_to_store }; does = does; spinning = refl; few = tt; ended = λ e. absurd e }
   at_start reply.Nothing can f does = record { fits = f; does = does; spinning = refl; few = tt; ended = λ e. absurd e }
   at_start _ can f does = absurd can
 
-  at_ticking : (now : ℕ) (answer : Reply) → CanReply (call.Tick now) answer → Fits (place.Ticking now) hand → ModeAt (place.Ticking now) what → Landing (call.Tick now) (place.Ticking now) answer
+  at_ticking : (now : ℕ) (answer : Reply) → CanReply (call.Tick now) answer → SuitsPlace (place.Ticking now) hand → ModeAt (place.Ticking now) what → Landing (call.Tick now) (place.Ticking now) answer
   at_ticking now (reply.Woke n) can f does = record { fits = f; does = does; spinning = refl; few = tt; ended = λ e. absurd e }
   at_ticking now _ can f does = absurd can
 
-  after_global : (b : Bool) → Fits place.Global hand → ModeAt place.Global what → Lands procs place.Global call.Take reply.Nothing (if b then place.Drop else place.Spin) hand what
+  after_global : (b : Bool) → SuitsPlace place.Global hand → ModeAt place.Global what → Lands procs place.Global call.Take reply.Nothing (if b then place.Drop else place.Spin) hand what
   after_global true f does = record { fits = f; does = does; spinning = refl; few = tt; ended = λ e. absurd e }
   after_global false f does = record { fits = f; does = does; spinning = refl; few = tt; ended = λ e. absurd e }
 
-  at_global : (answer : Reply) → CanReply call.Take answer → Fits place.Global hand → ModeAt place.Global what → Landing call.Take place.Global answer
+  at_global : (answer : Reply) → CanReply call.Take answer → SuitsPlace place.Global hand → ModeAt place.Global what → Landing call.Take place.Global answer
   at_global (reply.Ticket r) can f does = record { fits = record { has_processor = f.has_processor; has_held = f.has_held; has_called = f.has_called; has_to_claim = refl; has_to_store = f.has_to_store }; does = does; spinning = refl; few = tt; ended = λ e. absurd e }
   at_global reply.Nothing can f does = after_global (procs == 1) f does
   at_global _ can f does = absurd can
 
-  at_spin : (answer : Reply) → CanReply call.Spin answer → Fits place.Spin hand → ModeAt place.Spin what → Landing call.Spin place.Spin answer
+  at_spin : (answer : Reply) → CanReply call.Spin answer → SuitsPlace place.Spin hand → ModeAt place.Spin what → Landing call.Spin place.Spin answer
   at_spin (reply.Answer true) can f does = record { fits = f; does = does; spinning = refl; few = tt; ended = λ e. absurd e }
   at_spin (reply.Answer false) can f does = record { fits = f; does = does; spinning = refl; few = tt; ended = λ e. absurd e }
   at_spin _ can f does = absurd can
 
-  at_poked : (answer : Reply) → CanReply call.Poke answer → Fits place.Claim hand → ModeAt place.Claim what → Landing call.Poke place.Claim answer
+  at_poked : (answer : Reply) → CanReply call.Poke answer → SuitsPlace place.Claim hand → ModeAt place.Claim what → Landing call.Poke place.Claim answer
   at_poked (reply.Wakes k) can f does = record { fits = f; does = does; spinning = refl; few = tt; ended = λ e. absurd e }
   at_poked reply.Nothing can f does = record { fits = f; does = does; spinning = refl; few = tt; ended = λ e. absurd e }
   at_poked _ can f does = absurd can
 
-  at_claim : (r : Readiness) (answer : Reply) → CanReply (call.Claim r) answer → Fits place.Claim hand → ModeAt place.Claim what → Landing (call.Claim r) place.Claim answer
+  at_claim : (r : Readiness) (answer : Reply) → CanReply (call.Claim r) answer → SuitsPlace place.Claim hand → ModeAt place.Claim what → Landing (call.Claim r) place.Claim answer
   at_claim r reply.Held can f does = record { fits = record { has_processor = f.has_processor; has_held = refl; has_called = f.has_called; has_to_claim = refl; has_to_store = f.has_to_store }; does = does; spinning = refl; few = tt; ended = λ e. absurd e }
   at_claim r _ can f does = absurd can
 
-  at_poke : (answer : Reply) → CanReply call.Poke answer → Fits place.Poke hand → ModeAt place.Poke what → Landing call.Poke place.Poke answer
+  at_poke : (answer : Reply) → CanReply call.Poke answer → SuitsPlace place.Poke hand → ModeAt place.Poke what → Landing call.Poke place.Poke answer
   at_poke (reply.Wakes k) can f does = record { fits = f; does = does; spinning = refl; few = tt; ended = λ e. absurd e }
   at_poke reply.Nothing can f does = record { fits = f; does = does; spinning = refl; few = tt; ended = λ e. absurd e }
   at_poke _ can f does = absurd can
 
-  at_leave : (number : ℕ) (answer : Reply) → CanReply (call.Leave number) answer → Fits (place.Leave number) hand → ModeAt (place.Leave number) what → Landing (call.Leave number) (place.Leave number) answer
+  at_leave : (number : ℕ) (answer : Reply) → CanReply (call.Leave number) answer → SuitsPlace (place.Leave number) hand → ModeAt (place.Leave number) what → Landing (call.Leave number) (place.Leave number) answer
   at_leave number (reply.Runs p) can f does = record { fits = record { has_processor = refl; has_held = returned_some number hand.called ∙ f.has_called; has_called = refl; has_to_claim = f.has_to_claim; has_to_store = f.has_to_store }; does = refl; spinning = refl; few = tt; ended = λ e. absurd e }
   at_leave number (reply.Shelved r) can f does = record { fits = record { has_processor = f.has_processor; has_held = f.has_held; has_called = refl; has_to_claim = f.has_to_claim; has_to_store = f.has_to_store }; does = refl; spinning = refl; few = tt; ended = λ e. absurd e }
   at_leave number _ can f does = absurd can
 
-  at_drop : (answer : Reply) → CanReply call.Declare answer → Fits place.Drop hand → ModeAt place.Drop what → Landing call.Declare place.Drop answer
+  at_drop : (answer : Reply) → CanReply call.Declare answer → SuitsPlace place.Drop hand → ModeAt place.Drop what → Landing call.Declare place.Drop answer
   at_drop (reply.Idle p) can f does = record { fits = record { has_processor = refl; has_held = f.has_held; has_called = f.has_called; has_to_claim = f.has_to_claim; has_to_store = f.has_to_store }; does = does; spinning = refl; few = tt; ended = λ e. absurd e }
   at_drop _ can f does = absurd can
 
-  at_bare : (answer : Reply) → CanReply call.Bare answer → Fits place.Bare hand → ModeAt place.Bare what → Landing call.Bare place.Bare answer
+  at_bare : (answer : Reply) → CanReply call.Bare answer → SuitsPlace place.Bare hand → ModeAt place.Bare what → Landing call.Bare place.Bare answer
   at_bare reply.Done can f does = record { fits = f; does = does; spinning = refl; few = tt; ended = λ e. absurd e }
   at_bare _ can f does = absurd can
 
-  at_have : (answer : Reply) → CanReply call.Acquire answer → Fits place.Have hand → ModeAt place.Have what → Landing call.Acquire place.Have answer
+  at_have : (answer : Reply) → CanReply call.Acquire answer → SuitsPlace place.Have hand → ModeAt place.Have what → Landing call.Acquire place.Have answer
   at_have (reply.Proc p) can f does = record { fits = record { has_processor = refl; has_held = f.has_held; has_called = f.has_called; has_to_claim = f.has_to_claim; has_to_store = f.has_to_store }; does = does; spinning = refl; few = tt; ended = λ e. absurd e }
   at_have reply.Nothing can f does = record { fits = f; does = does; spinning = refl; few = tt; ended = λ e. absurd e }
   at_have _ can f does = absurd can
 
-  at_park : (answer : Reply) → CanReply call.Park answer → Fits place.Park hand → ModeAt place.Park what → Landing call.Park place.Park answer
+  at_park : (answer : Reply) → CanReply call.Park answer → SuitsPlace place.Park hand → ModeAt place.Park what → Landing call.Park place.Park answer
   at_park reply.Parked can f does = record { fits = f; does = inr refl; spinning = refl; few = tt; ended = λ e. absurd e }
   at_park reply.Work can f does = record { fits = f; does = does; spinning = refl; few = tt; ended = λ e. absurd e }
   at_park (reply.Mind until) can f does = record { fits = f; does = does; spinning = refl; few = tt; ended = λ e. absurd e }
   at_park reply.AllAsleep can f does = record { fits = tt; does = does; spinning = refl; few = tt; ended = λ e. inr refl }
   at_park _ can f does = absurd can
 
-  at_rest : (answer : Reply) → CanReply call.Woken answer → Awoke call.Woken answer what → Fits place.Rest hand → ModeAt place.Rest what → Landing call.Woken place.Rest answer
+  at_rest : (answer : Reply) → CanReply call.Woken answer → Awoke call.Woken answer what → SuitsPlace place.Rest hand → ModeAt place.Rest what → Landing call.Woken place.Rest answer
   at_rest (reply.Answer true) can awoke f does = record { fits = f; does = awoke; spinning = refl; few = tt; ended = λ e. absurd e }
   at_rest (reply.Answer false) can awoke f does = record { fits = f; does = does; spinning = refl; few = tt; ended = λ e. absurd e }
   at_rest _ can awoke f does = absurd can
 
-  at_mind : (now : ℕ) (answer : Reply) → CanReply (call.Tick now) answer → Fits (place.MindTick now) hand → ModeAt (place.MindTick now) what → Landing (call.Tick now) (place.MindTick now) answer
+  at_mind : (now : ℕ) (answer : Reply) → CanReply (call.Tick now) answer → SuitsPlace (place.MindTick now) hand → ModeAt (place.MindTick now) what → Landing (call.Tick now) (place.MindTick now) answer
   at_mind now (reply.Woke n) can f does = record { fits = f; does = does; spinning = refl; few = tt; ended = λ e. absurd e }
   at_mind now _ can f does = absurd can
 
-  at_yield : (asked : Ask) (answer : Reply) → CanReply call.Yield answer → Fits (place.Do asked) hand → ModeAt (place.Do asked) what → Landing call.Yield (place.Do asked) answer
+  at_yield : (asked : Ask) (answer : Reply) → CanReply call.Yield answer → SuitsPlace (place.Do asked) hand → ModeAt (place.Do asked) what → Landing call.Yield (place.Do asked) answer
   at_yield asked (reply.Shelved r) can f does = record { fits = record { has_processor = f.has_processor; has_held = refl; has_called = f.has_called; has_to_claim = f.has_to_claim; has_to_store = f.has_to_store }; does = does; spinning = refl; few = tt; ended = λ e. absurd e }
   at_yield asked _ can f does = absurd can
 
-  at_exit : (asked : Ask) (answer : Reply) → CanReply call.Exit answer → Fits (place.Do asked) hand → ModeAt (place.Do asked) what → Landing call.Exit (place.Do asked) answer
+  at_exit : (asked : Ask) (answer : Reply) → CanReply call.Exit answer → SuitsPlace (place.Do asked) hand → ModeAt (place.Do asked) what → Landing call.Exit (place.Do asked) answer
   at_exit asked reply.Dead can f does = record { fits = record { has_processor = f.has_processor; has_held = refl; has_called = f.has_called; has_to_claim = f.has_to_claim; has_to_store = f.has_to_store }; does = does; spinning = refl; few = tt; ended = λ e. absurd e }
   at_exit asked reply.MainEnded can f does = record { fits = tt; does = does; spinning = refl; few = tt; ended = λ e. inl refl }
   at_exit asked _ can f does = absurd can
 
-  at_enter : (asked : Ask) (answer : Reply) → CanReply call.Enter answer → Fits (place.Do asked) hand → ModeAt (place.Do asked) what → Landing call.Enter (place.Do asked) answer
+  at_enter : (asked : Ask) (answer : Reply) → CanReply call.Enter answer → SuitsPlace (place.Do asked) hand → ModeAt (place.Do asked) what → Landing call.Enter (place.Do asked) answer
   at_enter asked (reply.Entered p n) can f does = record { fits = record { has_processor = refl; has_held = refl; has_called = gone_some hand.held ∙ f.has_held; has_to_claim = f.has_to_claim; has_to_store = f.has_to_store }; does = refl; spinning = refl; few = tt; ended = λ e. absurd e }
   at_enter asked _ can f does = absurd can
 
@@ -151,12 +151,12 @@ module _ (procs : ℕ) (fresh : Bool) (turns : ℕ) (t : Table) (hand : PlainHan
       Lands procs (place.Do asked) c answer (next_place (seen_of procs fresh turns (left_by answer hand)) (place.Do asked) (told.Replied answer)) (left_by answer hand) what
 
   -- a close that woke somebody, or nobody
-  closes : (c : Call) (asked : Ask) (n : ℕ) (b : Bool) → Fits (place.Do asked) hand → ModeAt (place.Do asked) (mode_after c (reply.Closed n) what) → spins_after c (reply.Closed n) false ≡ false
+  closes : (c : Call) (asked : Ask) (n : ℕ) (b : Bool) → SuitsPlace (place.Do asked) hand → ModeAt (place.Do asked) (mode_after c (reply.Closed n) what) → spins_after c (reply.Closed n) false ≡ false
       → Lands procs (place.Do asked) c (reply.Closed n) (if b then place.Poke else place.Run) (left_by (reply.Closed n) hand) what
   closes c asked n true f does spin = record { fits = record { has_processor = f.has_processor; has_held = retold_some _ hand.held ∙ f.has_held; has_called = f.has_called; has_to_claim = f.has_to_claim; has_to_store = refl }; does = does; spinning = spin; few = tt; ended = λ e. absurd e }
   closes c asked n false f does spin = record { fits = record { has_processor = f.has_processor; has_held = retold_some _ hand.held ∙ f.has_held; has_called = f.has_called; has_to_claim = f.has_to_claim; has_to_store = refl }; does = does; spinning = spin; few = tt; ended = λ e. absurd e }
 
-  at_goes : (c : Call) (asked : Ask) (answer : Reply) → Goes answer → Fits (place.Do asked) hand → ModeAt (place.Do asked) (mode_after c answer what)
+  at_goes : (c : Call) (asked : Ask) (answer : Reply) → Goes answer → SuitsPlace (place.Do asked) hand → ModeAt (place.Do asked) (mode_after c answer what)
       → spins_after c answer false ≡ false → Going c asked answer
   at_goes c asked (reply.Ticket r) can f does spin = record { fits = record { has_processor = f.has_processor; has_held = retold_some _ hand.held ∙ f.has_held; has_called = f.has_called; has_to_claim = f.has_to_claim; has_to_store = refl }; does = does; spinning = spin; few = tt; ended = λ e. absurd e }
   at_goes c asked (reply.Channel n) can f does spin = record { fits = record { has_processor = f.has_processor; has_held = retold_some _ hand.held ∙ f.has_held; has_called = f.has_called; has_to_claim = f.has_to_claim; has_to_store = refl }; does = does; spinning = spin; few = tt; ended = λ e. absurd e }
@@ -181,25 +181,25 @@ module _ (procs : ℕ) (fresh : Bool) (turns : ℕ) (t : Table) (what : Option M
   abbrev held_with : Option Readiness → PlainHand
   held_with s = record { processor = p; held = h; called = c; to_claim = found; to_store = s }
 
-  at_put_more : (v : PNo) (goal : ℕ) (r : Readiness) (s : Option Readiness) (answer : Reply) → CanReply (call.Put r) answer → Fits (place.PutMore v goal) (held_with s) → ModeAt (place.PutMore v goal) what → Landing procs fresh turns t (held_with s) what (call.Put r) (place.PutMore v goal) answer
+  at_put_more : (v : PNo) (goal : ℕ) (r : Readiness) (s : Option Readiness) (answer : Reply) → CanReply (call.Put r) answer → SuitsPlace (place.PutMore v goal) (held_with s) → ModeAt (place.PutMore v goal) what → Landing procs fresh turns t (held_with s) what (call.Put r) (place.PutMore v goal) answer
   at_put_more v zero r (Some s) reply.Shelf can f does = record { fits = record { has_processor = f.has_processor; has_held = f.has_held; has_called = f.has_called; has_to_claim = refl; has_to_store = refl }; does = does; spinning = refl; few = tt; ended = λ e. absurd e }
   at_put_more v (suc goal) r (Some s) reply.Shelf can f does = record { fits = record { has_processor = f.has_processor; has_held = f.has_held; has_called = f.has_called; has_to_claim = f.has_to_claim; has_to_store = refl }; does = does; spinning = refl; few = tt; ended = λ e. absurd e }
   at_put_more v goal r None reply.Shelf can f does = absurd (false≢true f.has_to_store)
   at_put_more v goal r s _ can f does = absurd can
 
-  at_put_store : (r : Readiness) (s : Option Readiness) (answer : Reply) → CanReply (call.Put r) answer → Fits place.PutStore (held_with s) → ModeAt place.PutStore what → Landing procs fresh turns t (held_with s) what (call.Put r) place.PutStore answer
+  at_put_store : (r : Readiness) (s : Option Readiness) (answer : Reply) → CanReply (call.Put r) answer → SuitsPlace place.PutStore (held_with s) → ModeAt place.PutStore what → Landing procs fresh turns t (held_with s) what (call.Put r) place.PutStore answer
   at_put_store r (Some s) reply.Shelf can f does = record { fits = record { has_processor = f.has_processor; has_held = f.has_held; has_called = f.has_called; has_to_claim = f.has_to_claim; has_to_store = refl }; does = does; spinning = refl; few = tt; ended = λ e. absurd e }
   at_put_store r None reply.Shelf can f does = absurd (false≢true f.has_to_store)
   at_put_store r s _ can f does = absurd can
 
-  at_put_have : (r : Readiness) (s : Option Readiness) (answer : Reply) → CanReply (call.Put r) answer → Fits place.PutHave (held_with s) → ModeAt place.PutHave what → Landing procs fresh turns t (held_with s) what (call.Put r) place.PutHave answer
+  at_put_have : (r : Readiness) (s : Option Readiness) (answer : Reply) → CanReply (call.Put r) answer → SuitsPlace place.PutHave (held_with s) → ModeAt place.PutHave what → Landing procs fresh turns t (held_with s) what (call.Put r) place.PutHave answer
   at_put_have r None reply.Shelf can f does = record { fits = record { has_processor = f.has_processor; has_held = f.has_held; has_called = f.has_called; has_to_claim = refl; has_to_store = f.has_to_store }; does = does; spinning = refl; few = tt; ended = λ e. absurd e }
   at_put_have r (Some s) reply.Shelf can f does = absurd (false≢true (sym f.has_to_store))
   at_put_have r s _ can f does = absurd can
   -- the ticket to claim decides
 
 at_unspin : (procs : ℕ) (fresh : Bool) (turns : ℕ) (t : Table) (what : Option Mode) (p : Option (ProcParts Unit)) (h : Option (HeldParts Unit)) (c : Option (CalledParts Unit)) (found s : Option Readiness)
-    (answer : Reply) → CanReply call.Unspin answer → Fits place.Unspin (held_with procs fresh turns t what p h c found s) → ModeAt place.Unspin what
+    (answer : Reply) → CanReply call.Unspin answer → SuitsPlace place.Unspin (held_with procs fresh turns t what p h c found s) → ModeAt place.Unspin what
     → Landing procs fresh turns t (held_with procs fresh turns t what p h c found s) what call.Unspin place.Unspin answer
 at_unspin procs fresh turns t what p h c None s reply.Done can f does = record { fits = f; does = does; spinning = refl; few = tt; ended = λ e. absurd e }
 at_unspin procs fresh turns t what p h c (Some r) s reply.Done can f does = record { fits = f; does = does; spinning = refl; few = tt; ended = λ e. absurd e }
@@ -210,14 +210,14 @@ module _ (procs : ℕ) (fresh : Bool) (turns : ℕ) (t : Table) (hand : PlainHan
   abbrev All : Place → Reply → Call → Type 0
   All here answer c = CanReply c answer → Awoke c answer what → Landing procs fresh turns t hand what c here answer
 
-  at_do : (asked : Ask) (answer : Reply) → CanReply (call_for asked) answer → Fits (place.Do asked) hand → ModeAt (place.Do asked) what
+  at_do : (asked : Ask) (answer : Reply) → CanReply (call_for asked) answer → SuitsPlace (place.Do asked) hand → ModeAt (place.Do asked) what
       → Landing procs fresh turns t hand what (call_for asked) (place.Do asked) answer
   at_do ask.Yield answer k f does = at_yield procs fresh turns t hand what ask.Yield answer k f does
   at_do ask.Exit answer k f does = at_exit procs fresh turns t hand what ask.Exit answer k f does
   at_do ask.Block answer k f does = at_enter procs fresh turns t hand what ask.Block answer k f does
   at_do asked answer k f does = at_goes procs fresh turns t hand what (call_for asked) asked answer k f does refl
 
-  pub lands : (here : Place) (c : Call) (answer : Reply) → act_at (seen_of procs fresh turns hand) here ≡ act.Call c → Fits here hand → ModeAt here what
+  pub lands : (here : Place) (c : Call) (answer : Reply) → act_at (seen_of procs fresh turns hand) here ≡ act.Call c → SuitsPlace here hand → ModeAt here what
       → CanReply c answer → Awoke c answer what → Landing procs fresh turns t hand what c here answer
   lands place.Start c answer is f does can awoke = subst (All place.Start answer) (call_is call.Acquire c is) (λ k a. at_start procs fresh turns t hand what answer k f does) can awoke
   lands place.Look c answer is f does can awoke = absurd (look_calls (nat_le 16 turns) c is)

@@ -19,9 +19,9 @@ use Rattle.gmp_driver.specs.declared.place.Place.{Place}
 use Rattle.gmp_driver.specs.declared.place.Place.TheVariants as place
 use Rattle.gmp_driver.specs.declared.place.Round.{Round}
 use Rattle.gmp_driver.specs.declared.seen.Seen.{Seen}
-use Rattle.gmp_driver.specs.Fits.{Fits}
+use Rattle.gmp_driver.specs.Fits.{SuitsPlace}
 use Rattle.gmp_driver.specs.Hunt.{begun, hunted, more}
-use Rattle.gmp_driver.specs.Local.{MayCome, come_back, filled, with_stolen}
+use Rattle.gmp_driver.specs.Local.{MayCome, come_back, filled, filled_with_stolen}
 use Rattle.gmp_driver.specs.Registers.{joined, unused, used}
 use Rattle.gmp_driver.specs.Table.{act_at, after, call_for, claim_call, next_act, next_place, put_call}
 use Rattle.gmp_acts.specs.Acts.{HasFewCases, with_ticket}
@@ -124,10 +124,10 @@ module _ (what : Option Mode) where
 -- What the machine holds there
 
 abbrev FitsWith : PlainMachine → Told → PlainHand → Type 0
-FitsWith x how hand = Fits (after (record x { hand = hand }) how).place hand
+FitsWith x how hand = SuitsPlace (after (record x { hand = hand }) how).place hand
 
 -- all that was handed out comes back
-pub same_fits : (x : PlainMachine) (how : Told) → Fits x.place x.hand → MayCome (next_act x) how
+pub same_fits : (x : PlainMachine) (how : Told) → SuitsPlace x.place x.hand → MayCome (next_act x) how
     → filled (used (next_act x) x.hand) ≡ come_back how (is_some x.hand.to_claim) (filled (used (next_act x) x.hand)) → FitsWith x how x.hand
 same_fits x how f m e = subst (FitsWith x how) (whole (next_act x) x.hand) (can_be_told x how (used (next_act x) x.hand) f m e).1
 
@@ -136,7 +136,7 @@ came_with : (r : Readiness) (o : Option Readiness) (came left : PlainHand) → j
 came_with r None came left = refl
 came_with r (Some t) came left = refl
 
-pub ticket_fits : (x : PlainMachine) (how : Told) (r : Readiness) → Fits x.place x.hand → MayCome (next_act x) how
+pub ticket_fits : (x : PlainMachine) (how : Told) (r : Readiness) → SuitsPlace x.place x.hand → MayCome (next_act x) how
     → filled (with_ticket r (used (next_act x) x.hand) x.hand.to_claim) ≡ come_back how (is_some x.hand.to_claim) (filled (used (next_act x) x.hand))
     → FitsWith x how (with_ticket r x.hand x.hand.to_claim)
 ticket_fits x how r f m e =
@@ -145,12 +145,12 @@ ticket_fits x how r f m e =
     subst (FitsWith x how) all (can_be_told x how (with_ticket r (used (next_act x) x.hand) x.hand.to_claim) f m e).1
 
 -- a ticket that is pushed doesn't
-pub pushed_fits : (x : PlainMachine) → Fits x.place x.hand → next_act x ≡ act.Push → FitsWith x told.Pushed (record x.hand { to_store = None })
+pub pushed_fits : (x : PlainMachine) → SuitsPlace x.place x.hand → next_act x ≡ act.Push → FitsWith x told.Pushed (record x.hand { to_store = None })
 pushed_fits x f e =
     let came : PlainHand = record (used act.Push x.hand) { to_store = None } in
     let all : joined came (unused act.Push x.hand) ≡ record x.hand { to_store = None } = ap (λ (h : PlainHand). let l : PlainHand = record h { to_store = None } in l) (whole act.Push x.hand) in
     subst (FitsWith x told.Pushed) all
-    (subst (λ (a : Act). Fits x.place x.hand → MayCome a told.Pushed → filled came ≡ come_back told.Pushed (is_some x.hand.to_claim) (filled (used a x.hand)) → FitsWith x told.Pushed (joined came (unused a x.hand))) e
+    (subst (λ (a : Act). SuitsPlace x.place x.hand → MayCome a told.Pushed → filled came ≡ come_back told.Pushed (is_some x.hand.to_claim) (filled (used a x.hand)) → FitsWith x told.Pushed (joined came (unused a x.hand))) e
     (λ f m b. (can_be_told x told.Pushed came f m b).1) f tt refl)
 
 -- a make that wanted memory leads back to the body
@@ -161,7 +161,7 @@ unmade_leads what capacity here there at goes = rw (at, goes) (record { does = �
 pub popped_back : (t : Readiness) (hand : PlainHand) → hand.to_claim ≡ None → filled (with_ticket t (used act.Pop hand) hand.to_claim) ≡ come_back told.Got (is_some hand.to_claim) (filled (used act.Pop hand))
 popped_back t hand none = rw none refl
 
-pub stolen_back : (t : Readiness) (handed : PlainHand) (o : Option Readiness) → filled (with_ticket t handed o) ≡ with_stolen (is_some o) (filled handed)
+pub stolen_back : (t : Readiness) (handed : PlainHand) (o : Option Readiness) → filled (with_ticket t handed o) ≡ filled_with_stolen (is_some o) (filled handed)
 stolen_back t handed None = refl
 stolen_back t handed (Some r) = refl
 
@@ -176,7 +176,7 @@ Finds s here hand (act.Call (call.Make capacity)) = here ≡ place.Do (ask.Make 
 Finds s here hand _ = Unit {0}
 
 module _ (s : Seen) (hand : PlainHand) where
-  looks : (b : Bool) → Fits place.Look hand → Finds s place.Look hand (if b then act.Clock None else act.Pop)
+  looks : (b : Bool) → SuitsPlace place.Look hand → Finds s place.Look hand (if b then act.Clock None else act.Pop)
   looks true f = tt
   looks false f = (none_of hand.to_claim f.has_to_claim, none_of hand.to_store f.has_to_store)
 
@@ -193,7 +193,7 @@ module _ (s : Seen) (hand : PlainHand) where
   asks (ask.Make capacity) = refl
   asks _ = tt
 
-  pub finds : (here : Place) → Fits here hand → Finds s here hand (act_at s here)
+  pub finds : (here : Place) → SuitsPlace here hand → Finds s here hand (act_at s here)
   finds place.Look f = looks (nat_le 16 s.turns) f
   finds (place.Hunt None) f = none_of hand.to_store f.has_to_store
   finds (place.Hunt (Some r)) f = none_of hand.to_store f.has_to_store

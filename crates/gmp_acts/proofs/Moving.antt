@@ -34,7 +34,7 @@ use Rattle.gmp_driver.specs.declared.registers.CalledParts.{CalledParts}
 use Rattle.gmp_driver.specs.declared.registers.HeldParts.{HeldParts}
 use Rattle.gmp_driver.specs.declared.registers.ProcParts.{ProcParts}
 use Rattle.gmp_driver.specs.declared.seen.Seen.{Seen}
-use Rattle.gmp_driver.specs.Fits.{Fits, Runs}
+use Rattle.gmp_driver.specs.Fits.{SuitsPlace, Runs}
 use Rattle.gmp_driver.specs.Local.{MayCome, come_back, filled}
 use Rattle.gmp_acts.specs.Hands.{PlainMachine}
 use Rattle.gmp_driver.specs.Registers.{but, first_value, used}
@@ -86,7 +86,7 @@ same_values hand = record { processor = refl; held = refl; called = refl }
 
 -- a machine that is told something, and holds the same but for tickets, still agrees with the book
 agrees_told : (log : BookRun) (m : MNo) (x : PlainMachine) (what : Told) (hand : PlainHand) → Agrees log m x → SameValues x.hand hand
-    → Fits (after (record x { hand = hand }) what).place hand
+    → SuitsPlace (after (record x { hand = hand }) what).place hand
     → Leads x.place (next_place (seen_of x.procs x.fresh x.turns hand) x.place what) (slice_get log.state.machines.modes m.0)
     → Agrees log m (after (record x { hand = hand }) what)
 agrees_told log m x what hand h same fits leads = record {
@@ -177,7 +177,7 @@ but_count value.ToClaim hand r = omega arith
 but_count value.ToStore hand r = omega arith
 
 nothing_left : (p : Option (ProcParts Unit)) (h : Option (HeldParts Unit)) (c : Option (CalledParts Unit)) (t s : Option Readiness)
-    → (let hand : PlainHand = record { processor = p; held = h; called = c; to_claim = t; to_store = s } in first_value hand ≡ None → Fits place.Done hand)
+    → (let hand : PlainHand = record { processor = p; held = h; called = c; to_claim = t; to_store = s } in first_value hand ≡ None → SuitsPlace place.Done hand)
 nothing_left None None None None None e = record { has_processor = refl; has_held = refl; has_called = refl; has_to_claim = refl; has_to_store = refl }
 nothing_left p (Some h) c t s e = absurd (let no : Some value.Held ≡ None = e in cc)
 nothing_left p None (Some c) t s e = absurd (let no : Some value.Called ≡ None = e in cc)
@@ -186,7 +186,7 @@ nothing_left p None None None (Some s) e = absurd (let no : Some value.ToStore �
 nothing_left (Some p) None None None None e = absurd (let no : Some value.Proc ≡ None = e in cc)
 
 -- once the run is over
-ended_agrees : (log : BookRun) (m : MNo) (x : PlainMachine) (what : Told) (hand : PlainHand) → log.state.outcome ≢ None → Agrees log m x → Fits (after (record x { hand = hand }) what).place hand
+ended_agrees : (log : BookRun) (m : MNo) (x : PlainMachine) (what : Told) (hand : PlainHand) → log.state.outcome ≢ None → Agrees log m x → SuitsPlace (after (record x { hand = hand }) what).place hand
     → (next_place (seen_of x.procs x.fresh x.turns hand) x.place what ≡ place.Over) ⊎ (next_place (seen_of x.procs x.fresh x.turns hand) x.place what ≡ place.Done) → Has log.state m hand
     → Agrees log m (after (record x { hand = hand }) what)
 ended_agrees log m x what hand over h fits at has = record {
@@ -226,7 +226,7 @@ module _ (k : System) (m : MNo) (inside : m.0 < length k.machines) (s : IsSound 
   abbrev X : PlainMachine
   X = machine_at k m
 
-  fits : Fits (machine_at k m).place (machine_at k m).hand
+  fits : SuitsPlace (machine_at k m).place (machine_at k m).hand
   fits = mine.driver.fits (ap is_some mine.has_pass)
 
   pub found : (a : Act) → next_act (machine_at k m) ≡ a → Finds (seen (machine_at k m)) (machine_at k m).place (machine_at k m).hand a
@@ -239,7 +239,7 @@ module _ (k : System) (m : MNo) (inside : m.0 < length k.machines) (s : IsSound 
 
   -- told something, with the same tickets
   told_moves : (what : Told) (hand : PlainHand) → SameValues (machine_at k m).hand hand → ((r : Readiness) → in_hand r hand ≡ in_hand r (machine_at k m).hand)
-      → Fits (after (record (machine_at k m) { hand = hand }) what).place hand
+      → SuitsPlace (after (record (machine_at k m) { hand = hand }) what).place hand
       → Leads (machine_at k m).place (next_place (seen_of (machine_at k m).procs (machine_at k m).fresh (machine_at k m).turns hand) (machine_at k m).place what) (slice_get k.book.state.machines.modes m.0)
       → Moves k m k.queues (after (record (machine_at k m) { hand = hand }) what)
   told_moves what hand same count there leads = record {
@@ -254,7 +254,7 @@ module _ (k : System) (m : MNo) (inside : m.0 < length k.machines) (s : IsSound 
       → filled (used a (machine_at k m).hand) ≡ come_back what (is_some (machine_at k m).hand.to_claim) (filled (used a (machine_at k m).hand))
       → IsSound (record k { machines = set k.machines m.0 (after (machine_at k m) what) })
   same_hand a what e may few back =
-      let there : Fits (after X what).place X.hand = same_fits X what fits (subst (λ (b : Act). MayCome b what) (sym e) may)
+      let there : SuitsPlace (after X what).place X.hand = same_fits X what fits (subst (λ (b : Act). MayCome b what) (sym e) may)
       (subst (λ (b : Act). filled (used b X.hand) ≡ come_back what (is_some X.hand.to_claim) (filled (used b X.hand))) (sym e) back) in
       moved_sound k m k.queues (after X what) inside s (told_moves what X.hand (same_values X.hand) (λ r. refl) there (leads_to a what X.hand e may few))
 
@@ -265,7 +265,7 @@ module _ (k : System) (m : MNo) (inside : m.0 < length k.machines) (s : IsSound 
       → IsSound (record k { machines = set k.machines m.0 (after (record (machine_at k m) { hand = with_ticket t (machine_at k m).hand (machine_at k m).hand.to_claim }) what); queues = set k.queues p rest })
   took a p t rest what e may few is free back =
       let hand : PlainHand = with_ticket t (machine_at k m).hand (machine_at k m).hand.to_claim in
-      let there : Fits (after (record X { hand = hand }) what).place hand = ticket_fits X what t fits (subst (λ (b : Act). MayCome b what) (sym e) may)
+      let there : SuitsPlace (after (record X { hand = hand }) what).place hand = ticket_fits X what t fits (subst (λ (b : Act). MayCome b what) (sym e) may)
       (subst (λ (b : Act). filled (with_ticket t (used b X.hand) X.hand.to_claim) ≡ come_back what (is_some X.hand.to_claim) (filled (used b X.hand))) (sym e) back) in
       let count : (r : Readiness) → sum_by (in_queue r) (set k.queues p rest) + in_hand r hand ≡ sum_by (in_queue r) k.queues + in_hand r (machine_at k m).hand = (λ (r : Readiness).
       let a = taken k.queues p t rest r is in let b = received_count t r (machine_at k m).hand (machine_at k m).hand.to_claim refl free in omega (arith, a, b)) in
@@ -321,7 +321,7 @@ module _ (k : System) (m : MNo) (inside : m.0 < length k.machines) (s : IsSound 
       let p = some_of X.hand.processor (found act.Push e).0 in
       let own : own_processor X.hand ≡ Some p.0.p = ap number_of p.1 in
       let hand : PlainHand = record X.hand { to_store = None } in
-      let there : Fits (after (record X { hand = hand }) told.Pushed).place hand = pushed_fits X fits e in
+      let there : SuitsPlace (after (record X { hand = hand }) told.Pushed).place hand = pushed_fits X fits e in
       let count : (r : Readiness) → sum_by (in_queue r) (set k.queues p.0.p.0 (get_or k.queues p.0.p.0 [] ++ t ∷ [])) + in_hand r hand ≡ sum_by (in_queue r) k.queues + in_hand r X.hand = (λ (r : Readiness).
       let a = put_last k.queues p.0.p.0 t r (own_within p.0.p own) in let b : is_ticket r X.hand.to_store ≡ is_ticket r (Some t) = ap (is_ticket r) is in omega (arith, a, b)) in
       subst (λ (q : Option PNo). IsSound (with_local k m (after (record X { hand = hand }) told.Pushed, with_queue k.queues q (queue_of k.queues q ++ t ∷ [])))) (sym own)
@@ -339,7 +339,7 @@ module _ (k : System) (m : MNo) (inside : m.0 < length k.machines) (s : IsSound 
       let over : k.book.state.outcome ≢ None = mine.ended (subst IsEnd (sym at.0) tt) in
       let done : next_place (seen_of X.procs X.fresh X.turns X.hand) X.place told.Nothing ≡ place.Done = ap (λ (p : Place). next_place (seen_of X.procs X.fresh X.turns X.hand) p told.Nothing) at.0 in
       moved_sound k m k.queues (after X told.Nothing) inside s (record {
-        agrees = ended_agrees k.book m X told.Nothing X.hand over mine (subst (λ (p : Place). Fits p X.hand) (sym done) (nothing_left X.hand.processor X.hand.held X.hand.called X.hand.to_claim X.hand.to_store at.1)) (inr done) mine.has;
+        agrees = ended_agrees k.book m X told.Nothing X.hand over mine (subst (λ (p : Place). SuitsPlace p X.hand) (sym done) (nothing_left X.hand.processor X.hand.held X.hand.called X.hand.to_claim X.hand.to_store at.1)) (inr done) mine.has;
         long = refl;
         at_most = λ r. omega arith;
         same = λ goes r. refl;
@@ -350,7 +350,7 @@ module _ (k : System) (m : MNo) (inside : m.0 < length k.machines) (s : IsSound 
       let hand : PlainHand = but (Some which) X.hand in
       let still : next_place (seen_of X.procs X.fresh X.turns hand) X.place told.Surrendered ≡ place.Over = ap (λ (p : Place). next_place (seen_of X.procs X.fresh X.turns hand) p told.Surrendered) at.0 in
       moved_sound k m k.queues (after (record X { hand = hand }) told.Surrendered) inside s (record {
-        agrees = ended_agrees k.book m X told.Surrendered hand over mine (subst (λ (p : Place). Fits p hand) (sym still) tt) (inl still) (record {
+        agrees = ended_agrees k.book m X told.Surrendered hand over mine (subst (λ (p : Place). SuitsPlace p hand) (sym still) tt) (inl still) (record {
           holds = λ p q. mine.has.holds p (but_processor which X.hand p q);
           runs = λ g q. mine.has.runs g (but_held which X.hand g q);
           calls = λ g q. mine.has.calls g (but_called which X.hand g q);
@@ -365,7 +365,7 @@ module _ (k : System) (m : MNo) (inside : m.0 < length k.machines) (s : IsSound 
   stops over =
       moved_sound k m k.queues (after X (told.Refused Over)) inside s (record {
         agrees = ended_agrees k.book m X (told.Refused Over) X.hand over mine
-            (subst (λ (p : Place). Fits p X.hand) (sym (over_from (seen_of X.procs X.fresh X.turns X.hand) X.place)) tt) (inl (over_from (seen_of X.procs X.fresh X.turns X.hand) X.place)) mine.has;
+            (subst (λ (p : Place). SuitsPlace p X.hand) (sym (over_from (seen_of X.procs X.fresh X.turns X.hand) X.place)) tt) (inl (over_from (seen_of X.procs X.fresh X.turns X.hand) X.place)) mine.has;
         long = refl;
         at_most = λ r. omega arith;
         same = λ goes r. refl;
@@ -377,10 +377,10 @@ module _ (k : System) (m : MNo) (inside : m.0 < length k.machines) (s : IsSound 
   wants capacity e =
       let at : X.place ≡ place.Do (ask.Make capacity) = found (act.Call (call.Make capacity)) e in
       let goes : next_place (seen_of X.procs X.fresh X.turns (hand_unmade X.hand)) X.place (told.Refused OutOfMemory) ≡ place.Run = ap (λ (p : Place). next_place (seen_of X.procs X.fresh X.turns (hand_unmade X.hand)) p (told.Refused OutOfMemory)) at in
-      let was : Runs X.hand = subst (λ (p : Place). Fits p X.hand) at fits in
+      let was : Runs X.hand = subst (λ (p : Place). SuitsPlace p X.hand) at fits in
       moved_sound k m k.queues _ inside s (told_moves (told.Refused OutOfMemory) (hand_unmade X.hand)
       (record { processor = refl; held = retold_number woke.NoMemory X.hand.held; called = refl }) (λ r. refl)
-      (subst (λ (p : Place). Fits p (hand_unmade X.hand)) (sym goes) (record { has_processor = was.has_processor; has_held = retold_some woke.NoMemory X.hand.held ∙ was.has_held; has_called = was.has_called; has_to_claim = was.has_to_claim; has_to_store = was.has_to_store }))
+      (subst (λ (p : Place). SuitsPlace p (hand_unmade X.hand)) (sym goes) (record { has_processor = was.has_processor; has_held = retold_some woke.NoMemory X.hand.held ∙ was.has_held; has_called = was.has_called; has_to_claim = was.has_to_claim; has_to_store = was.has_to_store }))
       (unmade_leads (slice_get k.book.state.machines.modes m.0) capacity X.place _ at goes))
 
   at_parts : (x x' : PlainMachine) (log log' : BookRun) (own own' : List Made) → x' ≡ x → log' ≡ log → own' ≡ own → IsSound (record k { book = log; machines = set k.machines m.0 x; own = own })

@@ -9,7 +9,7 @@ use Rattle.gmp_driver.specs.declared.registers.CalledParts.{CalledParts}
 use Rattle.gmp_driver.specs.declared.registers.HeldParts.{HeldParts}
 use Rattle.gmp_driver.specs.declared.registers.ProcParts.{ProcParts}
 use Rattle.gmp_driver.specs.declared.registers.Registers.{Registers}
-use Rattle.gmp_driver.specs.Fits.{Fits, IsFilled}
+use Rattle.gmp_driver.specs.Fits.{SuitsPlace, IsFilled}
 use Rattle.gmp_driver.specs.Machine.{Machine}
 use Rattle.gmp_driver.specs.Registers.{first_value}
 use Rattle.gmp_driver.specs.Seen.{number_of, seen_of}
@@ -59,10 +59,10 @@ module _ {T Q : Type 0} (hand : Registers T Q) where
     has_to_store = f.has_to_store;
   }
 
-  pub fits_plain : (here : Place) → Fits here hand → Fits here (plain hand)
+  pub fits_plain : (here : Place) → SuitsPlace here hand → SuitsPlace here (plain hand)
   fits_plain place.Over f = tt
   fits_plain _ f = to_plain f
 
-  pub plain_fits : (here : Place) → Fits here (plain hand) → Fits here hand
+  pub plain_fits : (here : Place) → SuitsPlace here (plain hand) → SuitsPlace here hand
   plain_fits place.Over f = tt
   plain_fits _ f = from_plain f

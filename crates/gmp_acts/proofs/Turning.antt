@@ -463,7 +463,7 @@ effect_turn limits m (call.Sleep until) answer old new hand u runs calls (g, run
 effect_turn limits m call.Gopark answer old new hand u runs calls (g, running, (h, rest, more)) = goparks_turn m _ _ hand g answer running h
 effect_turn limits m (call.Ready k) answer old new hand u runs calls (g, running, (h, rest, more)) = wakes_turn m _ _ hand k answer u.2 h
 effect_turn limits m call.Enter answer old new hand u runs calls (g, running, (is, rest, more)) = enters_turn m _ _ hand g answer running ((runs g).1 running) u.2 is
-effect_turn limits m (call.Leave number) answer old new hand u runs calls (g, calling, h, rest, more) = resumes_turn m _ _ hand g number answer calling ((calls g).1 calling) u.1 h
+effect_turn limits m (call.Leave number) answer old new hand u runs calls (g, calling, (h, rest, more)) = resumes_turn m _ _ hand g number answer calling ((calls g).1 calling) u.1 h
 effect_turn limits m call.Spin answer old new hand u runs calls (free, (h, is, rest)) = stays (ap rows is) (same_hand hand)
 effect_turn limits m call.Woken answer old new hand u runs calls (h, is, rest) = stays (ap rows is) (same_hand hand)
 effect_turn limits m call.Unspin answer old new hand u runs calls (h, is, rest) = stays (ap rows is) (same_hand hand)

@@ -15,12 +15,19 @@ pub struct Ticket {
 }
 
 impl Ticket {
-    ghost use Rattle.gmp_base.specs.Values.{readiness_of};
+    ghost use Rattle.gmp_base.specs.Values.{readiness_of, ticket_by};
 
     pub fn of(run: u64, g: GNo, epoch: u64) -> Self
         ensures { result ≡ record { run = run; g = g; epoch = epoch } }
     {
         Ticket { run, g, epoch }
+    }
+
+    /// The ticket of this readiness, of a run.
+    pub fn by(run: u64, r: Readiness) -> Self
+        ensures { result ≡ ticket_by run r }
+    {
+        Ticket::of(run, r.g, r.epoch)
     }
 
     /// Its run, its goroutine and its epoch.

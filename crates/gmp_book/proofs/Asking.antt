@@ -11,6 +11,7 @@ use Rattle.gmp_base.specs.declared.number.MNo.{MNo}
 use Rattle.gmp_base.specs.declared.refusal.Refusal.{Refusal}
 use Rattle.gmp_base.specs.declared.value.Held.{Held}
 use Rattle.gmp_base.specs.declared.value.Proc.{Proc}
+use Rattle.gmp_base.specs.Values.{ticket_by}
 use Rattle.gmp_seq.specs.declared.call.Call.{Call}
 use Rattle.gmp_seq.specs.declared.call.Call.TheVariants as call
 use Rattle.gmp_seq.specs.declared.call.Limits.{Limits}
@@ -30,11 +31,11 @@ use Rattle.gmp_book.specs.declared.values.Values.{Values}
 use Rattle.gmp_book.specs.declared.values.Way.{Way}
 use Rattle.gmp_book.specs.declared.values.Way.TheVariants as way
 use Rattle.gmp_book.specs.Book.{BookContents}
-use Rattle.gmp_book.specs.Hands.{Hands, HandsOwner, ticket_by, way_of}
+use Rattle.gmp_book.specs.Hands.{Hands, HandsOwner, way_of}
 use Rattle.gmp_book.specs.Kinds.{gives_proc, hands_held, hands_proc, is_own, may_wait}
 use Rattle.gmp_book.specs.Went as went
 use Rattle.gmp_book.specs.Went.{GoesBy, IsOn, MovesBody, moved_of}
-use Rattle.gmp_book.proofs.Moves.{BodyMoves, Moves, OwnerMoves, moves}
+use Rattle.gmp_book.proofs.Moves.{BodyMoves, BothMove, OwnerMoves, moves}
 
 clash : (b : Bool) → b ≡ true → b ≡ false → ⊥
 clash b is not_ = false≢true (sym not_ ∙ is)
@@ -114,7 +115,7 @@ alone held = record { held = Some held; called = None; ticket = None; proc = Non
 pub asked : {T Q : Type 0} (limits : Limits) (c : Call) (m : MNo) (answer : Reply) (held : Held T) (back : Values T Q) (old now : BookContents T Q) → is_own c ≡ true → held.run ≡ old.log.run
     → Effect limits m c answer old.log.state now.log.state → Hands c answer (alone held) back old now → Asked c answer held back old now
 asked {T} {Q} limits c m answer held back old now is run effect hands = by_way (own_way (way_of answer) c m _ _ is moved.0) where
-  moved : Moves c answer m old.log.state now.log.state
+  moved : BothMove c answer m old.log.state now.log.state
   moved = moves limits m c answer old.log.state now.log.state effect
 
   owner : (back.proc ≡ None) × (now.owners ≡ old.owners)

@@ -78,8 +78,8 @@ OwnerMoves (reply.Entered p woken) c m old new = TakesOwner p c m old new
 OwnerMoves (reply.Idle p) c m old new = TakesOwner p c m old new
 OwnerMoves _ c m old new = idles new ≡ idles old
 
-abbrev pub Moves : Call → Reply → MNo → State → State → Type 0
-Moves c answer m old new = BodyMoves (way_of answer) c m old.table new.table × OwnerMoves answer c m old.machines new.machines
+abbrev pub BothMove : Call → Reply → MNo → State → State → Type 0
+BothMove c answer m old new = BodyMoves (way_of answer) c m old.table new.table × OwnerMoves answer c m old.machines new.machines
 
 -- Parts that stay, and one that changes
 
@@ -158,10 +158,10 @@ communicates (case.Recv (Some c)) told old new (how, _, told_is, is, machines) =
 -- A call of the goroutine g, which runs on m
 
 module _ (asked : Call) (m : MNo) (g : GNo) (old new : State) (rests : goes_on asked ≡ false) (only : hands_called asked ≡ not (hands_held asked)) (runs : IsRunning old.table g m) where
-  waits : (why : Kind) (offers : List Offer) (until : Option ℕ) → new.table ≡ made_wait old.table g why offers until → SameMachines old new → Moves asked reply.Waits m old new
+  waits : (why : Kind) (offers : List Offer) (until : Option ℕ) → new.table ≡ made_wait old.table g why offers until → SameMachines old new → BothMove asked reply.Waits m old new
   waits why offers until is machines = ((rests, only, g, inl runs, one_in old.table new.table g _ (rows new.table (made_wait old.table g why offers until) is)), same_idles old.machines new.machines machines)
 
-  deals : (c : Case) (answer : Reply) → Deals g c answer old new → Moves asked answer m old new
+  deals : (c : Case) (answer : Reply) → Deals g c answer old new → BothMove asked answer m old new
   deals c (reply.Sent to) (made, h) = communicates c _ old new h
   deals c (reply.Got v sent from) (made, h) = communicates c _ old new h
   deals c (reply.Fault fault.SendOnClosed) (made, h) = communicates c _ old new h
@@ -169,14 +169,14 @@ module _ (asked : Call) (m : MNo) (g : GNo) (old new : State) (rests : goes_on a
   deals c (reply.Fault fault.NoSuchChannel) (made, (is, rest, machines)) = still old new is machines
   deals c _ h = absurd h
 
-  selects : (cases : List Case) (has_default : Bool) (until : Option ℕ) (answer : Reply) → Selects g cases has_default until answer old new → Moves asked answer m old new
+  selects : (cases : List Case) (has_default : Bool) (until : Option ℕ) (answer : Reply) → Selects g cases has_default until answer old new → BothMove asked answer m old new
   selects cases has_default until (reply.Chose i told) (made, c, at, h) = communicates c told old new h
   selects cases has_default until reply.Default (made, default, none, (is, rest, machines)) = still old new is machines
   selects cases has_default until reply.Waits (made, default, (blocked, is, rest, machines)) = waits _ _ _ is machines
   selects cases has_default until (reply.Fault fault.NoSuchChannel) (missing, (is, rest, machines)) = still old new is machines
   selects cases has_default until _ h = absurd h
 
-closes : (asked : Call) (m : MNo) (c : Option CNo) (answer : Reply) (old new : State) → Closes c answer old new → Moves asked answer m old new
+closes : (asked : Call) (m : MNo) (c : Option CNo) (answer : Reply) (old new : State) → Closes c answer old new → BothMove asked answer m old new
 closes asked m (Some c) (reply.Closed n) old new (made, open_, channels, is, count, machines) =
     (ap ins is ∙ woken_rows (close_answer c) (close_free c) old.table.goroutines, same_idles old.machines new.machines machines)
 closes asked m (Some c) (reply.Fault fault.CloseOfClosed) old new (made, closed, (is, rest, machines)) = still old new is machines
@@ -184,7 +184,7 @@ closes asked m (Some c) (reply.Fault fault.NoSuchChannel) old new (made, (is, re
 closes asked m None (reply.Fault fault.CloseOfNil) old new (is, rest, machines) = still old new is machines
 closes asked m _ _ old new h = absurd h
 
-parks : (asked : Call) (m : MNo) (answer : Reply) (old new : State) → Parks m answer old new → Moves asked answer m old new
+parks : (asked : Call) (m : MNo) (answer : Reply) (old new : State) → Parks m answer old new → BothMove asked answer m old new
 parks asked m reply.Work old new (work, (is, rest, machines)) = still old new is machines
 parks asked m reply.AllAsleep old new (work, asleep, (is, rest, machines)) = still old new is machines
 parks asked m (reply.Mind until) old new (work, astir, minds, (is, rest, machines)) = still old new is machines
@@ -193,7 +193,7 @@ parks asked m _ old new h = absurd h
 
 -- All calls
 
-pub moves : (limits : Limits) (m : MNo) (c : Call) (answer : Reply) (old new : State) → Effect limits m c answer old new → Moves c answer m old new
+pub moves : (limits : Limits) (m : MNo) (c : Call) (answer : Reply) (old new : State) → Effect limits m c answer old new → BothMove c answer m old new
 moves limits m call.Acquire (reply.Proc p) old new (h, is, rest) =
     (same_ins old.table new.table is, (refl, refl, refl, h.2, one_idle old.machines new.machines p (Some m) (holders new.machines _ h.3)))
 moves limits m call.Acquire reply.Nothing old new (h, is, rest) = (same_ins old.table new.table is, same_idles old.machines new.machines h.3)
@@ -250,11 +250,11 @@ moves limits m call.Enter (reply.Entered p None) old new (g, runs, (is, h, rest)
 moves limits m call.Enter (reply.Entered p (Some n)) old new (g, runs, (is, h, rest)) =
     ((refl, refl, turns old.table new.table g _ _ runs refl (rows new.table _ is)), (refl, h.0, one_idle old.machines new.machines p None (holders new.machines _ h.2)))
 moves limits m call.Enter _ old new (g, runs, (is, h, rest)) = absurd h
-moves limits m (call.Leave number) (reply.Runs p) old new (g, calls, is, h, rest) =
+moves limits m (call.Leave number) (reply.Runs p) old new (g, calls, (is, h, rest)) =
     ((refl, refl, turns old.table new.table g _ _ calls refl (rows new.table _ is)), (refl, refl, refl, h.0, one_idle old.machines new.machines p (Some m) (holders new.machines _ h.1)))
-moves limits m (call.Leave number) (reply.Shelved r) old new (g, calls, (ticket, is), h, rest) =
+moves limits m (call.Leave number) (reply.Shelved r) old new (g, calls, ((ticket, is), h, rest)) =
     ((refl, refl, g, inr calls, one_in old.table new.table g _ (rows new.table _ is)), ap idles h.1)
-moves limits m (call.Leave number) _ old new (g, calls, h, returns, rest) = absurd h
+moves limits m (call.Leave number) _ old new (g, calls, (h, returns, rest)) = absurd h
 moves limits m call.Spin (reply.Answer true) old new (free, (h, is, rest)) = (same_ins old.table new.table is, ap idles h.2)
 moves limits m call.Spin (reply.Answer false) old new (free, (h, is, rest)) = (same_ins old.table new.table is, ap idles h.2)
 moves limits m call.Spin _ old new (free, (h, is, rest)) = absurd h

@@ -32,7 +32,7 @@ use Rattle.gmp_book.specs.Hands.{FitsBody, FitsHome, FitsOwner, FitsPlace, Hands
 use Rattle.gmp_book.specs.Kinds.{hands_called, hands_held, hands_proc}
 use Rattle.gmp_book.proofs.Bodies.{filled_at, is_in, set_map, vacant_at}
 use Rattle.gmp_book.proofs.Handing.{CalledBy, HandedBy, HeldBy, ProcBy, handed_by}
-use Rattle.gmp_book.proofs.Moves.{BodyMoves, Moves, OwnerMoves, idles, ins, moves}
+use Rattle.gmp_book.proofs.Moves.{BodyMoves, BothMove, OwnerMoves, idles, ins, moves}
 
 -- Places
 
@@ -162,7 +162,7 @@ module _ {T Q : Type 0} (old now : Log) (bodies : List (Option T)) (owners : Lis
 
   module _ (order : IsInOrder old.limits old.state) (before after : Pass) (v : Values T Q) (asked : Call) (answer : Reply) (suits : Suits asked (handed_of v))
       (grants : Grants before.m (goroutine_in (handed_of v)) (processor_in (handed_of v)) asked old.state) (records : Records old before asked answer now after) where
-    moved : Moves asked answer before.m old.state now.state
+    moved : BothMove asked answer before.m old.state now.state
     moved = moves old.limits before.m asked answer old.state now.state records.step.1
 
     by : HandedBy (hands_held asked) (hands_called asked) (hands_proc asked) before.m old.state v

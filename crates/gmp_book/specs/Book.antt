@@ -16,7 +16,7 @@ use Rattle.gmp_seq.specs.Table.{Table, is_held}
 use Rattle.gmp_slots.specs.Slots.{all_filled}
 use Rattle.gmp_book.specs.declared.report.Report.{Report}
 use Rattle.gmp_ledger.specs.Log.{Log, opening_log}
-use Rattle.gmp_ledger.specs.Refusals.{Line, line}
+use Rattle.gmp_ledger.specs.Refusals.{Line, refusal_line}
 
 -- the run, and the bodies and owners that are in the book
 pub record BookContents (T Q : Type 0) : Type 0 where
@@ -101,16 +101,16 @@ opening_passes run machines = map (λ (m : ℕ). record { run = run; m = record 
 -- when a surrender is refused: its value is of another run, the run lasts, or astray: the value has no place to go to
 abbrev pub surrender_lines : Log → ℕ → Bool → Refusal → List Line
 surrender_lines log run astray why =
-    line (not (run == log.run)) WrongRun
-    ∷ line (is_none log.state.outcome) NotOver
-    ∷ line astray why
+    refusal_line (not (run == log.run)) WrongRun
+    ∷ refusal_line (is_none log.state.outcome) NotOver
+    ∷ refusal_line astray why
     ∷ []
 
 -- when a report is refused: the run lasts, or a body or an owner is out
 abbrev pub report_lines : {T Q : Type 0} → BookContents T Q → List Line
 report_lines book =
-    line (is_none book.log.state.outcome) NotOver
-    ∷ line (not (all_filled book.bodies && all_filled book.owners)) Busy
+    refusal_line (is_none book.log.state.outcome) NotOver
+    ∷ refusal_line (not (all_filled book.bodies && all_filled book.owners)) Busy
     ∷ []
 
 -- the report tells the run, whose history is a legal run from its start, and has all bodies and owners in order

@@ -5,14 +5,13 @@ use Rattle.gmp_base.specs.declared.ask.Woke.{Woke}
 use Rattle.gmp_base.specs.declared.ask.Woke.TheVariants as woke
 use Rattle.gmp_base.specs.declared.number.GNo.{GNo}
 use Rattle.gmp_base.specs.declared.number.PNo.{PNo}
-use Rattle.gmp_base.specs.declared.number.Readiness.{Readiness}
 use Rattle.gmp_base.specs.declared.refusal.Refusal.{Refusal}
 use Rattle.gmp_base.specs.declared.refusal.Refusal.TheVariants.{OutOfMemory}
 use Rattle.gmp_base.specs.declared.value.Called.{Called}
 use Rattle.gmp_base.specs.declared.value.Held.{Held}
 use Rattle.gmp_base.specs.declared.value.Proc.{Proc}
 use Rattle.gmp_base.specs.declared.value.Ticket.{Ticket}
-use Rattle.gmp_base.specs.Values.{readiness_of}
+use Rattle.gmp_base.specs.Values.{readiness_of, ticket_by}
 use Rattle.gmp_seq.specs.declared.call.Call.{Call}
 use Rattle.gmp_seq.specs.declared.call.Call.TheVariants as call
 use Rattle.gmp_seq.specs.declared.call.Reply.{Reply}
@@ -35,11 +34,6 @@ handed_of {T} {Q} v = record {
   called = option_map (λ (c : Called T). (c.run, c.g)) v.called;
   proc = option_map (λ (x : Proc Q). (x.run, x.p)) v.proc;
 }
-
--- What is handed out
-
-abbrev pub ticket_by : ℕ → Readiness → Ticket
-ticket_by run r = record { run = run; g = r.g; epoch = r.epoch }
 
 -- Bodies
 

@@ -5,6 +5,7 @@ use Rattle.gmp_base.specs.declared.pass.Pass.{Pass}
 use Rattle.gmp_base.specs.declared.value.Held.{Held}
 use Rattle.gmp_base.specs.declared.value.Ticket.{Ticket}
 use Rattle.gmp_base.specs.declared.cases.Case.{Case}
+use Rattle.gmp_base.specs.Values.{ticket_by}
 use Rattle.gmp_seq.specs.declared.call.Call.{Call}
 use Rattle.gmp_seq.specs.declared.call.Call.TheVariants as call
 use Rattle.gmp_seq.specs.declared.call.Reply.{Reply}
@@ -17,7 +18,7 @@ use Rattle.gmp_book.specs.Book.{BookContents, SameValues, TakesBack}
 use Rattle.gmp_goroutines.specs.Choice.{IsChoice}
 use Rattle.gmp_ledger.specs.Log.{Log, Records}
 use Rattle.gmp_book.specs.declared.values.Way.TheVariants.{Stays, Home}
-use Rattle.gmp_book.specs.Hands.{ticket_by, way_of}
+use Rattle.gmp_book.specs.Hands.{way_of}
 
 -- it goes on: it is told what the reply says, and the ticket that the reply gives out is to be pushed
 pub record GoesOn {T : Type 0} (answer : Reply) (held : Held T) (w : Went T) : Type 0 where

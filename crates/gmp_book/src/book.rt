@@ -3,7 +3,7 @@ ghost use Rattle.std.specs.Prelude.{◌≡◌, ◌<◌, ◌++◌, All, false, le
 ghost use Rattle.gmp_base.specs.declared.number.CNo.{CNo};
 ghost use Rattle.gmp_seq.specs.Channels.{items_at};
 ghost use Rattle.gmp_seq.specs.Fits.{AreLimits, Fits};
-ghost use Rattle.gmp_seq.specs.Machines.{is_parked};
+ghost use Rattle.gmp_seq.specs.Machines.{is_parked_mode};
 ghost use Rattle.gmp_seq.specs.Laws.{IsInOrder, NobodyCouldProceed};
 ghost use Rattle.gmp_seq.specs.Run.{Run, sent, received};
 ghost use Rattle.gmp_seq.specs.State.{opening};
@@ -148,7 +148,7 @@ impl<T, Q> Book<T, Q> {
 
     /// Whether the machine is parked.
     pub fn is_parked(&self, m: MNo) -> bool
-        ensures { result ≡ option_map_or is_parked (slice_get self.now.log.state.machines.modes m.0) false }
+        ensures { result ≡ option_map_or is_parked_mode (slice_get self.now.log.state.machines.modes m.0) false }
     {
         self.ledger.is_parked(m)
     }

@@ -1,4 +1,5 @@
-//! The book: every call of the scheduler, made whole by a pass or refused. What it keeps is always a legal run.
+//! The book: the ledger, with a body for each goroutine and an owner for each processor. Every call is made whole by a pass or refused,
+//! and what the book keeps is always a legal run.
 //!
 //! What the calls cost:
 //!

@@ -8,7 +8,7 @@ use gmp_seq::Reply;
 use gmp_slots::Slots;
 
 /// The goroutine in its blocking call, into which it goes.
-fn called_of<T>(held: Held<T>) -> Called<T>
+fn calling<T>(held: Held<T>) -> Called<T>
     ensures { result ≡ record { run = held.run; g = held.g; body = held.body } }
 {
     let (run, g, _, body) = held.open();
@@ -70,7 +70,7 @@ pub(crate) fn settle_body<T>(
         }
         Way::IntoCall => {
             spent(called);
-            (None, held.map(|held| called_of(held)))
+            (None, held.map(|held| calling(held)))
         }
         Way::OutOfCall => {
             spent(held);

@@ -1,6 +1,7 @@
 //! The values that a call is handed, and those that it hands out.
 ghost use Rattle.std.specs.Prelude.{◌≡◌, None};
 ghost use Rattle.std.specs.Option.{option_map};
+ghost use Rattle.gmp_base.specs.Values.{ticket_by};
 ghost use Rattle.gmp_seq.specs.Step.{ticket_in};
 ghost use Rattle.gmp_book.specs.Hands as hands;
 ghost use Rattle.gmp_book.specs.Hands.{back_where, claimed, handed_back, handed_of, way_of};
@@ -73,11 +74,7 @@ impl<T, Q> Values<T, Q> {
             return self;
         }
         let (held, called, ticket, proc) = self.parts();
-        let held = match held {
-            Some(held) => Some(handed_back(why, held)),
-            None => None,
-        };
-        Values::of(held, called, ticket, proc)
+        Values::of(held.map(|held| handed_back(why, held)), called, ticket, proc)
     }
 }
 
@@ -145,34 +142,19 @@ pub(crate) fn told_by(known: Option<Woke>, reply: Reply) -> Woke
 
 /// The ticket that a call of the run gave out.
 pub(crate) fn ticket_out(run: u64, reply: Reply) -> Option<Ticket>
-    ensures { result ≡ option_map (hands.ticket_by run) (ticket_in reply) }
+    ensures { result ≡ option_map (ticket_by run) (ticket_in reply) }
 {
-    match reply.ticket() {
-        Some(r) => Some(Ticket::of(run, r.g, r.epoch)),
-        None => None,
-    }
+    reply.ticket().map(|r| Ticket::by(run, r))
 }
 
 /// What the values are of.
 pub(crate) fn handed<T, Q>(values: &Values<T, Q>) -> Handed
     ensures { result ≡ handed_of values.now }
 {
-    let ticket = match &values.ticket {
-        Some(t) => Some((t.run, t.readiness())),
-        None => None,
-    };
-    let held = match &values.held {
-        Some(h) => Some((h.run, h.g)),
-        None => None,
-    };
-    let called = match &values.called {
-        Some(c) => Some((c.run, c.g)),
-        None => None,
-    };
-    let proc = match &values.proc {
-        Some(x) => Some((x.run, x.p)),
-        None => None,
-    };
+    let ticket = values.ticket.as_ref().map(|t| (t.run, t.readiness()));
+    let held = values.held.as_ref().map(|h| (h.run, h.g));
+    let called = values.called.as_ref().map(|c| (c.run, c.g));
+    let proc = values.proc.as_ref().map(|x| (x.run, x.p));
     Handed {
         ticket,
         held,

@@ -11,9 +11,9 @@ use Rattle.gmp_seq.specs.declared.status.Waiter.{Waiter}
 use Rattle.gmp_seq.specs.Waits.{as_waiters}
 use Rattle.gmp_chan.specs.Contents.{is_of, without}
 use Rattle.gmp_chan.specs.Order.{above, is_later, rise}
-use Rattle.gmp_chan.specs.Slots.{IsNowhere, IsThere, in_order, rank, vacant_or}
+use Rattle.gmp_chan.specs.Slots.{IsNowhere, IsThere, in_order, rank}
 use Rattle.gmp_chan.proofs.Counted.{none_counted, none_passes, one}
-use Rattle.gmp_chan.proofs.Ordered.{Every, emptied, every_of, keep, of_every, within_some}
+use Rattle.gmp_chan.proofs.Ordered.{Every, emptied, every_of, keep, of_every, vacant_or, within_some}
 use Rattle.gmp_chan.proofs.Ringed.{order, same_or_not}
 
 -- It waits no more

@@ -4,7 +4,7 @@ use Rattle.std.proofs.lemmas.Bool.Decides.{leb_tells}
 use Rattle.std.proofs.lemmas.List.Sums.{sum_by-cons}
 use Rattle.gmp_seq.specs.declared.status.Waiter.{Waiter}
 use Rattle.std.specs.List.{list_all}
-use Rattle.gmp_chan.specs.Slots.{insert, in_order, rank, vacant_or}
+use Rattle.gmp_chan.specs.Slots.{insert, in_order, rank}
 
 abbrev pub Every : (Waiter → Type 0) → List Waiter → Type 0
 Every P [] = Unit {0}
@@ -103,6 +103,11 @@ list_all-insert p x (y ∷ ys) = by (leb (rank x) (rank y)) (list_all-insert p x
     by : (b : Bool) → list_all p (insert x ys) ≡ p x && list_all p ys → list_all p (cond b (x ∷ y ∷ ys) (y ∷ insert x ys)) ≡ p x && (p y && list_all p ys)
     by true deeper = refl
     by false deeper = ap (λ (b : Bool). p y && b) deeper ∙ swap (p y) (p x) (list_all p ys)
+
+-- the cell is vacant, or who is in it passes
+abbrev pub vacant_or : (Waiter → Bool) → Option Waiter → Bool
+vacant_or p None = true
+vacant_or p (Some w) = p w
 
 -- each cell is passed by exactly where each in order is
 pub list_all-in_order : (p : Waiter → Bool) (cells : Cells) → list_all (vacant_or p) cells ≡ list_all p (in_order cells)

@@ -44,8 +44,3 @@ earlier_of None None = None
 earlier_of (Some v) None = Some v
 earlier_of None (Some w) = Some w
 earlier_of (Some v) (Some w) = if nat_lt v.arrival w.arrival || ((v.arrival == w.arrival) && nat_lt v.offer.case w.offer.case) then Some v else Some w
-
--- the slot is vacant, or who is in it passes
-abbrev pub vacant_or : (Waiter → Bool) → Option Waiter → Bool
-vacant_or p None = true
-vacant_or p (Some w) = p w

@@ -1,5 +1,5 @@
 //! One channel.
-ghost use Rattle.std.specs.Prelude.{◌≡◌, ◌<◌, ◌++◌, [], ◌∷◌, length, drop, slice_get, nat_lt, true, IfOk};
+ghost use Rattle.std.specs.Prelude.{◌≡◌, ◌<◌, ◌++◌, [], ◌∷◌, length, drop, nat_lt, true, IfOk};
 ghost use Rattle.gmp_seq.specs.Channels.{new_channel};
 
 use circular_buffer::HeapCircularBuffer;

@@ -1,23 +1,20 @@
 //! Who waits on channels: each offer is a record of a slab, linked with the others of its channel and direction, and with those of its goroutine.
-ghost use Rattle.std.specs.Prelude.{◌≡◌, ◌≤◌, ◌<◌, ◌+◌, ◌*◌, ◌++◌, [], ◌∷◌, true, None, Some, IsSome, count_by, find, nat_lt, set, get_or, IfSome, IfNone, IfOk};
+ghost use Rattle.std.specs.Prelude.{◌≡◌, ◌<◌, ◌+◌, ◌*◌, ◌++◌, [], ◌∷◌, true, None, Some, IsSome, count_by, find, nat_lt, set, get_or, IfSome, IfNone, IfOk};
 ghost use Rattle.gmp_seq.specs.declared.status.Waiter.{Waiter};
 ghost use Rattle.gmp_seq.specs.Waits.{as_waiters, first_on, is_on};
 ghost use Rattle.gmp_chan.specs.Contents.{WaiterContents, is_of, without};
-ghost use Rattle.gmp_chan.specs.Kept.{AreBelow, end_of};
+ghost use Rattle.gmp_chan.specs.Kept.{AreBelow, ring_end};
 ghost use Rattle.gmp_chan.specs.Order.{is_at, is_later, rise};
 ghost use Rattle.gmp_chan.specs.Slots.{IsFirstSlot, IsLast, IsNowhere, IsThere, earlier_of, in_order};
 ghost use Rattle.gmp_chan.specs.Stored.{IsStored};
 ghost use Rattle.slab.specs.Slab.{slab_len};
 
 use crate::rings::Rings;
-use gmp_base::{CNo, GNo};
+use gmp_base::{CNo, GNo, MAX_CASES};
 use gmp_seq::{Direction, Kind, Offers, Waiter};
 use slab::Slab;
 use std::alloc::{AllocError, Global};
 use std::marker::Model;
-
-/// How many offers a goroutine may have.
-const OFFERS: usize = 8;
 
 /// The records, and their links by key. Nodes are the slab's slots, and then the ends: of the queues two for each channel, and of the
 /// chains one for each goroutine. A queue has the offers on a channel in a direction, in order, and a chain those of a goroutine.
@@ -30,8 +27,8 @@ struct Store {
     channels: u16,
 }
 
-fn end_of(c: CNo, direction: Direction) -> usize
-    ensures { result ≡ end_of c direction }
+fn ring_end(c: CNo, direction: Direction) -> usize
+    ensures { result ≡ ring_end c direction }
 {
     2 * c.0 as usize
         + match direction {
@@ -69,7 +66,7 @@ impl Store {
         ensures channels { self.new.channels ≡ self.old.channels }
     {
         let base = self.records.capacity();
-        let queue = base + end_of(w.offer.channel, w.offer.deal.direction());
+        let queue = base + ring_end(w.offer.channel, w.offer.deal.direction());
         let chain = base + w.g.0 as usize;
         let key = self.records.insert_reserved(w);
         self.queues.link_last(key, queue);
@@ -85,7 +82,7 @@ impl Store {
         if c.0 >= self.channels {
             return None;
         }
-        let end = self.records.capacity() + end_of(c, direction);
+        let end = self.records.capacity() + ring_end(c, direction);
         let key = self.queues.first(end);
         self.records.get(key).copied()
     }
@@ -109,7 +106,7 @@ impl Store {
 }
 
 /// The earlier of two, by arrival, and then by case.
-fn earlier(a: Option<Waiter>, b: Option<Waiter>) -> Option<Waiter>
+fn earlier_of(a: Option<Waiter>, b: Option<Waiter>) -> Option<Waiter>
     ensures { result ≡ earlier_of a b }
 {
     match (a, b) {
@@ -149,7 +146,7 @@ impl Waiters {
     pub(crate) fn open(alloc: Global, bodies: u16, channels: u16) -> Result<Self, AllocError>
         ensures { IfOk result (λ w. w ≡ record { list = []; bodies = bodies; channels = channels }) }
     {
-        let records = Slab::with_capacity(alloc, OFFERS * bodies as usize)?;
+        let records = Slab::with_capacity(alloc, MAX_CASES * bodies as usize)?;
         let base = records.capacity();
         let queues = Rings::open(alloc, base, 2 * channels as usize)?;
         let chains = Rings::open(alloc, base, bodies as usize)?;
@@ -177,7 +174,7 @@ impl Waiters {
     {
         let sender = self.store.first_in_queue(c, Direction::Sending);
         let receiver = self.store.first_in_queue(c, Direction::Receiving);
-        earlier(sender, receiver)
+        earlier_of(sender, receiver)
     }
 
     /// How many goroutines there are.
@@ -187,7 +184,7 @@ impl Waiters {
         self.store.bodies
     }
 
-    /// Whether goroutine g waits.
+    /// Whether goroutine g has an offer.
     pub(crate) fn has(&self, g: GNo) -> bool
         ensures { result ≡ nat_lt 0 (count_by (is_of g) self.now.list) }
     {

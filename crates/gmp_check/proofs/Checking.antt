@@ -16,7 +16,7 @@ use Rattle.gmp_trace.specs.declared.bad.Why.{Why}
 use Rattle.gmp_trace.specs.declared.bad.Why.TheVariants as why
 use Rattle.gmp_trace.specs.Text.{Content, end_of}
 use Rattle.gmp_check.proofs.Keeping.{opening_consistent, run_fixed}
-use Rattle.gmp_check.specs.Checked.{IsFault, IsFirstBad, IsNoStepAt, IsOtherEndAt, IsRight, line_of}
+use Rattle.gmp_check.specs.Checked.{IsBadAt, IsFirstBad, IsNoStepAt, IsOtherEndAt, IsRight, line_of}
 use Rattle.gmp_check.specs.Replayed.{EndsWith, IsNoStep}
 
 -- How many entries there are
@@ -79,7 +79,7 @@ has_its_end x outcome line right wrong = meets right.ends wrong.ends where
       wrong.other (right.told ∙ ap end_of outcomes)
 
 -- nothing is wrong with a right trace but want of memory
-pub only_memory : (x : Content) (outcome : Option Outcome) (line : ℕ) (what : Why) → IsRight x outcome → IsFault x line what → what ≡ why.OutOfMemory
+pub only_memory : (x : Content) (outcome : Option Outcome) (line : ℕ) (what : Why) → IsRight x outcome → IsBadAt x line what → what ≡ why.OutOfMemory
 only_memory x outcome line why.Limits right wrong = absurd (wrong.1 (no_capacities x.limits x.bodies x.capacities right.range))
 only_memory x outcome line why.Caps right wrong = absurd (wrong.2 right.range)
 only_memory x outcome line why.Step right wrong = absurd (has_steps x outcome line right.ends wrong)
@@ -114,7 +114,7 @@ same_line x l m a b =
     (λ less. no_step_before x b.n a.n a.range less b.no_step a.no_step) in
     a.there ∙ ap line_of same ∙ sym b.there
 
-one_fault : (x : Content) (l m : ℕ) (v w : Why) → IsFault x l v → IsFault x m w → v ≢ why.OutOfMemory → w ≢ why.OutOfMemory → (l ≡ m) × (v ≡ w)
+one_fault : (x : Content) (l m : ℕ) (v w : Why) → IsBadAt x l v → IsBadAt x m w → v ≢ why.OutOfMemory → w ≢ why.OutOfMemory → (l ≡ m) × (v ≡ w)
 one_fault x l m why.OutOfMemory w a b p q = absurd (p refl)
 one_fault x l m v why.OutOfMemory a b p q = absurd (q refl)
 one_fault x l m why.Limits why.Limits a b p q = (a.0 ∙ sym b.0, refl)

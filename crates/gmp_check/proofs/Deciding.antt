@@ -17,7 +17,7 @@ decides_as R S old new false on back is = (is.0, λ other s. is.1 other (back ot
 
 -- a case that is chosen
 pub decides_chosen : (g : GNo) (cases : List Case) (has_default : Bool) (until : Option ℕ) (i : ℕ) (told : Taken) (x : Case) (old new : State) (b : Bool)
-    → none_missing old cases ≡ true → slice_get cases i ≡ Some x → Decides (Communicates x told) old new b → Decides (Selects g cases has_default until (reply.Chose i told)) old new b
+    → none_missing old.channels cases ≡ true → slice_get cases i ≡ Some x → Decides (Communicates x told) old new b → Decides (Selects g cases has_default until (reply.Chose i told)) old new b
 decides_chosen g cases has_default until i told x old new b made at =
     decides_as (Communicates x told) (Selects g cases has_default until (reply.Chose i told)) old new b
     (λ other is. (made, x, at, is))

@@ -14,7 +14,7 @@ use Rattle.gmp_seq.proofs.Determined.{proceeds_fixed}
 use Rattle.gmp_seq.specs.State.{State}
 use Rattle.gmp_seq.specs.Step.{Communicates, told_of}
 use Rattle.gmp_seq.specs.Waits.{first_on, offered, waiters, waits}
-use Rattle.gmp_check.specs.Ways.{IsWay, left_by}
+use Rattle.gmp_check.specs.Ways.{IsWay, channels_after}
 
 -- Lists
 
@@ -64,5 +64,5 @@ way_stored s c v open_ nobody room = (open_, nothing (waits (waiters s.table) c 
 pub not_told : (s : State) (c : Case) (how : Transfer) (told : Taken) → IsWay s c (Some how) → (told ≡ told_of s.table how → ⊥) → (other : State)
     → Communicates c told s other → ⊥
 not_told s c how told way differs other (too, goes, is, table, machines) =
-    let same = proceeds_fixed s.channels other.channels (left_by s.channels c how) (waiters s.table) c too how goes way in
+    let same = proceeds_fixed s.channels other.channels (channels_after s.channels c how) (waiters s.table) c too how goes way in
     differs (is ∙ ap (told_of s.table) same.0)

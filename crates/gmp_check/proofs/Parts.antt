@@ -9,10 +9,9 @@ use Rattle.gmp_seq.specs.declared.call.Limits.{Limits}
 use Rattle.gmp_seq.specs.declared.call.Reply.{Reply}
 use Rattle.gmp_seq.specs.Channels.{Channel}
 use Rattle.gmp_seq.specs.State.{State}
-use Rattle.gmp_seq.specs.Step.{ByRunning, Effect, OnChannels, OnTable, Selects, Tells}
+use Rattle.gmp_seq.specs.Step.{ByRunning, Effect, OnChannels, OnTable, Selects, Tells, LeavesBy}
 use Rattle.gmp_seq.specs.Table.{Table, IsCalling, IsRunning}
 use Rattle.gmp_check.proofs.Deciding.{decides_as}
-use Rattle.gmp_check.specs.Calls.{LeavesBy}
 use Rattle.gmp_check.specs.Decides.{Decides}
 use Rattle.gmp_check.specs.Consistent.{IsConsistent}
 
@@ -47,9 +46,8 @@ pub by_calling : (limits : Limits) (m : MNo) (g : GNo) (number : ℕ) (reply : R
     → Decides (LeavesBy m g number reply) s new b → Decides (Effect limits m (call.Leave number) reply) s new b
 by_calling limits m g number reply s new b consistent calls =
     decides_as (LeavesBy m g number reply) (Effect limits m (call.Leave number) reply) s new b
-    (λ other (table, machines, channels). (g, calls, table, machines, channels))
-    (λ other (h, calls_too, table, machines, channels).
-    subst (λ k. LeavesBy m k number reply s other) (consistent.1.together.one_goroutine m h g (inr calls_too) (inr calls)) (table, machines, channels))
+    (λ other p. (g, calls, p))
+    (λ other (h, calls_too, p). subst (λ k. LeavesBy m k number reply s other) (consistent.1.together.one_goroutine m h g (inr calls_too) (inr calls)) p)
 
 -- a select has at most 8 cases
 pub by_selecting : (limits : Limits) (m : MNo) (g : GNo) (cases : List Case) (has_default : Bool) (until : Option ℕ) (reply : Reply) (s new : State) (b : Bool)

@@ -34,14 +34,14 @@ pub record IsOtherEndAt (x : Content) (line : ℕ) : Type 0 where
   pub there : line ≡ line_of (length x.entries)
 
 -- what is wrong at this line, and nothing is before it
-abbrev pub IsFault : Content → ℕ → Why → Type 0
-IsFault x line why.Limits = (line ≡ 2) × (AreLimits x.limits x.bodies [] → ⊥)
-IsFault x line why.Caps = (line ≡ 3) × AreLimits x.limits x.bodies [] × (AreLimits x.limits x.bodies x.capacities → ⊥)
-IsFault x line why.Step = IsNoStepAt x line
-IsFault x line why.Outcome = IsOtherEndAt x line
-IsFault x line why.OutOfMemory = (line ≡ 0) × AreLimits x.limits x.bodies x.capacities
-IsFault x line other = ⊥
+abbrev pub IsBadAt : Content → ℕ → Why → Type 0
+IsBadAt x line why.Limits = (line ≡ 2) × (AreLimits x.limits x.bodies [] → ⊥)
+IsBadAt x line why.Caps = (line ≡ 3) × AreLimits x.limits x.bodies [] × (AreLimits x.limits x.bodies x.capacities → ⊥)
+IsBadAt x line why.Step = IsNoStepAt x line
+IsBadAt x line why.Outcome = IsOtherEndAt x line
+IsBadAt x line why.OutOfMemory = (line ≡ 0) × AreLimits x.limits x.bodies x.capacities
+IsBadAt x line other = ⊥
 
 -- the first line that is wrong
 abbrev pub IsFirstBad : Content → Bad → Type 0
-IsFirstBad x bad = IsFault x bad.line bad.why
+IsFirstBad x bad = IsBadAt x bad.line bad.why

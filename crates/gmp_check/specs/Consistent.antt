@@ -14,5 +14,5 @@ abbrev pub IsConsistent : State → Type 0
 IsConsistent s = (limits : Limits) × IsConsistentUnder limits s
 
 -- each machine's count of entries and the outcome stay
-abbrev pub SameRest : State → State → Type 0
-SameRest old new = (new.counts ≡ old.counts) × (new.outcome ≡ old.outcome)
+abbrev pub SameCounts : State → State → Type 0
+SameCounts old new = (new.counts ≡ old.counts) × (new.outcome ≡ old.outcome)

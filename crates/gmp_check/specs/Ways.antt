@@ -10,17 +10,17 @@ use Rattle.gmp_seq.specs.Step.{served_by}
 use Rattle.gmp_seq.specs.Waits.{Proceeds, offered, waiters}
 
 -- the channels after it
-abbrev pub left_by : List Channel → Case → Transfer → List Channel
-left_by channels (case.Send (Some c) v) Stored = with_items channels c (items_at channels c ++ v ∷ [])
-left_by channels (case.Recv (Some c)) (First v) = with_items channels c (drop 1 (items_at channels c))
-left_by channels (case.Recv (Some c)) (Relayed v w) = with_items channels c (drop 1 (items_at channels c ++ offered w ∷ []))
-left_by channels _ _ = channels
+abbrev pub channels_after : List Channel → Case → Transfer → List Channel
+channels_after channels (case.Send (Some c) v) Stored = with_items channels c (items_at channels c ++ v ∷ [])
+channels_after channels (case.Recv (Some c)) (First v) = with_items channels c (drop 1 (items_at channels c))
+channels_after channels (case.Recv (Some c)) (Relayed v w) = with_items channels c (drop 1 (items_at channels c ++ offered w ∷ []))
+channels_after channels _ _ = channels
 
 -- the state after it
-abbrev pub after : State → Case → Transfer → State
-after s c how = record s { table = served_by s.table c how; channels = left_by s.channels c how }
+abbrev pub state_after : State → Case → Transfer → State
+state_after s c how = record s { table = served_by s.table c how; channels = channels_after s.channels c how }
 
 -- it proceeds in this way, or in none
 abbrev pub IsWay : State → Case → Option Transfer → Type 0
-IsWay s c (Some how) = Proceeds s.channels (waiters s.table) c how (left_by s.channels c how)
+IsWay s c (Some how) = Proceeds s.channels (waiters s.table) c how (channels_after s.channels c how)
 IsWay s c None = (how : Transfer) (new : List Channel) → Proceeds s.channels (waiters s.table) c how new → ⊥

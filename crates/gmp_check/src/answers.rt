@@ -1,8 +1,7 @@
 //! What a goroutine that waited is told.
-ghost use Rattle.std.specs.Prelude.{◌≡◌, ◌==◌, find};
+ghost use Rattle.std.specs.Prelude.{◌≡◌};
 ghost use Rattle.std.specs.Option.{option_map};
-ghost use Rattle.gmp_seq.specs.declared.status.Offer.{Offer};
-ghost use Rattle.gmp_seq.specs.Waits.{closed_answer};
+ghost use Rattle.gmp_seq.specs.Waits.{closed_answer, first_offer_on};
 ghost use Rattle.gmp_check.specs.Causes.{answer_for};
 
 use gmp_base::{CNo, Woke};
@@ -19,9 +18,9 @@ pub(crate) enum Cause {
 
 /// What one that waits with these offers is told when the channel is closed, by the first offer on it.
 fn told_at_close(kind: Kind, offers: &Offers, c: CNo) -> Option<Woke>
-    ensures { result ≡ option_map (closed_answer kind) (find (λ (o : Offer). o.channel.0 == c.0) offers.now) }
+    ensures { result ≡ option_map (closed_answer kind) (first_offer_on c offers.now) }
 {
-    match offers.first_on(c) {
+    match offers.first_offer_on(c) {
         Some(offer) => Some(offer.closed_answer(kind)),
         None => None,
     }

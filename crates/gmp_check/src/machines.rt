@@ -1,7 +1,7 @@
 //! Processors and machines, in plain tables: who holds each processor, what each machine does, which of them spin.
 ghost use Rattle.std.specs.Prelude.{◌≡◌, ◌↔◌, false, None, replicate, slice_set, IsTrue, IfOk};
 ghost use Rattle.gmp_seq.specs.declared.status.Mode.{Mode};
-ghost use Rattle.gmp_seq.specs.Machines.{Acquires, IsAwake, IsIdle, IsParked, Holds, IsBare, Spins, Unspins, Pokes, Declares, Bares, Looks, Enters, set_holder, set_mode, set_spinning, has_processor, how_many_spin, is_held_by, is_parked, some_idle, some_parked, may_spin, spins, wants_poke};
+ghost use Rattle.gmp_seq.specs.Machines.{Acquires, IsAwake, IsIdle, IsParked, Holds, IsBare, Spins, Unspins, Pokes, Declares, Bares, Looks, Enters, set_holder, set_mode, set_spinning, has_processor, how_many_spin, is_held_by, is_parked_mode, some_idle, some_parked, may_spin, spins, wants_poke};
 ghost use Rattle.gmp_check.specs.Decides.{Decides};
 
 use gmp_base::{MNo, PNo};

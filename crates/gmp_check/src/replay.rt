@@ -17,7 +17,7 @@ use std::marker::Model;
 
 /// The scheduler, one entry of a history after another. A contract sees the limits and the state.
 ///
-/// An entry takes time in proportion to the goroutines (a select for each of its cases), machines and processors.
+/// An entry takes time at most in proportion to the goroutines (a select for each of its cases), machines and processors.
 #[derive(Drop)]
 pub struct Replay {
     limits: Limits,

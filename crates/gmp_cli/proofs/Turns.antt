@@ -12,10 +12,10 @@ use Rattle.gmp_core.specs.declared.want.Want.{Want}
 use Rattle.gmp_core.specs.declared.want.Want.TheVariants as want
 use Rattle.gmp_core.specs.Whole.{IsBodyInHand, Whole, with_body_in_hand}
 use Rattle.gmp_core.proofs.Moves.{opened_on}
-use Rattle.gmp_script.specs.Script.{Commands, called_number}
+use Rattle.gmp_script.specs.Script.{Commands, asked_last}
 use Rattle.gmp_cli.specs.Clock.{ClockState}
 use Rattle.gmp_cli.specs.declared.playing.Player.{Player}
-use Rattle.gmp_cli.specs.Plays.{Answers, AreParked, IsDealt, Stage, machines_of, parked}
+use Rattle.gmp_cli.specs.Plays.{AnswersBlock, AreParked, IsDealt, Stage, machines_of, parked}
 use Rattle.gmp_cli.specs.Staged.{IsManned, SameRun}
 
 -- going round so many, each comes
@@ -56,8 +56,8 @@ put_here : {X : Type 0} (xs : List X) (i : ℕ) (x : X) → slice_get xs i ≡ S
 put_here {X} xs i x is = ap (λ (y : X). set xs i y) (sym (get_or_from_slice_get xs i x x is)) ∙ set-get_or xs i x
 
 -- a blocking call leaves its body as it was
-pub answered : (k : Whole Commands) (clock : ClockState) (turn number : ℕ) (m : MNo) (body after : Commands) → IsBodyInHand k m body → number ≡ called_number body → after ≡ body
-    → Answers (record { system = k.system; bodies = k.stock; clock = clock; turn = turn }) m number
+pub answered : (k : Whole Commands) (clock : ClockState) (turn number : ℕ) (m : MNo) (body after : Commands) → IsBodyInHand k m body → number ≡ asked_last body → after ≡ body
+    → AnswersBlock (record { system = k.system; bodies = k.stock; clock = clock; turn = turn }) m number
     (record { system = k.system; bodies = (with_body_in_hand k m after).stock; clock = clock; turn = turn })
 answered k clock turn number m body after held is stays = record {
   g = held.g;

@@ -5,7 +5,7 @@ use Rattle.gmp_base.specs.declared.ask.Ask.{Ask}
 use Rattle.gmp_base.specs.declared.number.GNo.{GNo}
 use Rattle.gmp_base.specs.declared.number.MNo.{MNo}
 use Rattle.gmp_seq.specs.declared.call.Limits.{Limits}
-use Rattle.gmp_seq.specs.Machines.{is_parked}
+use Rattle.gmp_seq.specs.Machines.{is_parked_mode}
 use Rattle.gmp_acts.specs.declared.choice.Choice.{Choice}
 use Rattle.gmp_acts.specs.Acts.{Acts}
 use Rattle.gmp_acts.specs.Headline.{opening_system}
@@ -15,7 +15,7 @@ use Rattle.gmp_driver.specs.Table.{next_act}
 use Rattle.gmp_core.specs.declared.want.Want.{Want}
 use Rattle.gmp_core.specs.declared.want.Want.TheVariants as want
 use Rattle.gmp_core.specs.Whole.{TakesFixed, goroutine_in_hand, wanted_by}
-use Rattle.gmp_script.specs.Script.{AsksNext, Commands, called_number}
+use Rattle.gmp_script.specs.Script.{AsksNext, Commands, asked_last}
 use Rattle.gmp_cli.specs.Clock.{ClockState, clock_after, reading, unread}
 
 -- all machines together, the goroutines' bodies, the clock, and the machine whose turn it is
@@ -39,7 +39,7 @@ machines_of k = k.book.limits.machines
 
 -- the book has parked the machine
 abbrev pub parked : System → ℕ → Bool
-parked k m = option_map_or is_parked (slice_get k.book.state.machines.modes m) false
+parked k m = option_map_or is_parked_mode (slice_get k.book.state.machines.modes m) false
 
 -- a body is in the machine's hand
 abbrev pub has_body : System → MNo → Bool
@@ -48,7 +48,7 @@ has_body k m = is_some (held_at (machine_at k m).place (machine_at k m).hand.hel
 -- Turns
 
 -- It is the first machine that isn't parked, from the one whose turn it is on, going round by number.
-pub record IsNext (s : Stage) (m : MNo) : Type 0 where
+pub record HasTurn (s : Stage) (m : MNo) : Type 0 where
   pub passed : ℕ
   pub few : passed < machines_of s.system
   pub there : m.0 ≡ (s.turn + passed) % machines_of s.system
@@ -78,12 +78,12 @@ pub record Asks (s : Stage) (m : MNo) (asked : Ask) (s' : Stage) : Type 0 where
   pub clock : s'.clock ≡ s.clock
 
 -- the blocking call of the body in machine m's hand answers so, and the body stays
-pub record Answers (s : Stage) (m : MNo) (number : ℕ) (s' : Stage) : Type 0 where
+pub record AnswersBlock (s : Stage) (m : MNo) (number : ℕ) (s' : Stage) : Type 0 where
   pub g : GNo
   pub in_hand : goroutine_in_hand s.system m ≡ Some g
   pub body : Commands
   pub has : slice_get s.bodies g.0 ≡ Some (Some body)
-  pub answers : number ≡ called_number body
+  pub answers : number ≡ asked_last body
   pub bodies : s'.bodies ≡ s.bodies
   pub clock : s'.clock ≡ s.clock
 
@@ -101,7 +101,7 @@ pub record ReadsNothing (s s' : Stage) : Type 0 where
 -- what an act of machine m that wants this is dealt, and what is left of bodies and clock
 abbrev pub IsDealt : Want → Stage → MNo → Choice → Stage → Type 0
 IsDealt want.Ask s m choice s' = Asks s m choice.ask s'
-IsDealt want.Number s m choice s' = Answers s m choice.number s'
+IsDealt want.Number s m choice s' = AnswersBlock s m choice.number s'
 IsDealt (want.Moment minded) s m choice s' = Reads s minded choice.moment s'
 IsDealt want.Nothing s m choice s' = ReadsNothing s s'
 
@@ -115,9 +115,9 @@ pub record IsSettled (drawn : ℕ) (choice : Choice) : Type 0 where
 
 -- one act of the machine whose turn it is
 pub record PlaysOne (word : ℕ) (s s' : Stage) : Type 0 where
-  pub goes_on : ¬ (IsOver s.system)
+  pub lasts : ¬ (IsOver s.system)
   pub m : MNo
-  pub next : IsNext s m
+  pub next : HasTurn s m
   pub choice : Choice
   pub settled : IsSettled word choice
   pub deals : IsDealt (wanted_by (next_act (machine_at s.system m))) s m choice s'

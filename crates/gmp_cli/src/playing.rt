@@ -33,7 +33,7 @@ pub(crate) struct Player {
 
 impl Player {
     ghost use Rattle.gmp_cli.specs.Clock.{unread};
-    ghost use Rattle.gmp_cli.specs.Plays.{Answers, AreParked, Asks, IsDealt, IsNext, IsOver, IsPlayed, IsSettled, PlaysOne, has_body, opening_stage};
+    ghost use Rattle.gmp_cli.specs.Plays.{AnswersBlock, AreParked, Asks, IsDealt, HasTurn, IsOver, IsPlayed, IsSettled, PlaysOne, has_body, opening_stage};
     ghost use Rattle.gmp_cli.specs.Staged.{IsManned, SameRun, TriesOne, stage};
 
     /// The core before its first act.
@@ -98,7 +98,7 @@ impl Player {
     /// The first machine that isn't parked, from the one whose turn it is on.
     fn next(&self) -> Option<MNo>
         requires manned { IsManned self.now }
-        ensures next { IfSome result (IsNext (stage self.now)) }
+        ensures next { IfSome result (HasTurn (stage self.now)) }
         ensures none { result ≡ None → AreParked self.now.core.system }
     {
         for passed in 0..self.machines {
@@ -129,8 +129,8 @@ impl Player {
     /// The machine makes its act, and the next one's turn comes.
     fn advance(&mut self, m: MNo, word: u64)
         requires there { m.0 < self.old.machines }
-        requires goes_on { ¬ (IsOver self.old.core.system) }
-        requires next { IsNext (stage self.old) m }
+        requires lasts { ¬ (IsOver self.old.core.system) }
+        requires next { HasTurn (stage self.old) m }
         ensures plays { PlaysOne word (stage self.old) (stage self.new) }
         ensures same { SameRun self.old self.new }
     {
@@ -179,7 +179,7 @@ impl Player {
     /// What the blocking call of the body in the machine's hand answers.
     fn number(&mut self, m: MNo) -> u64
         requires { has_body self.old.core.system m ≡ true }
-        ensures answers { Answers (stage self.old) m result (stage self.new) }
+        ensures answers { AnswersBlock (stage self.old) m result (stage self.new) }
         ensures choice { self.new.choice ≡ self.old.choice }
         ensures system { self.new.core.system ≡ self.old.core.system }
         ensures machines { self.new.machines ≡ self.old.machines }

@@ -2,7 +2,7 @@
 
 ghost use Rattle.std.specs.Prelude.{◌≡◌, ◌<◌, ◌≤◌, ℕ, true, false, length, IfSome};
 ghost use Rattle.gmp_words.specs.declared.said.Said.TheVariants.{BadLine, InputTooLong, BadLimits, OutputFailed};
-ghost use Rattle.gmp_script.specs.Lines.{lines, IsFirstBad};
+ghost use Rattle.gmp_script.specs.Lines.{lines, IsFirstBadLine};
 ghost use Rattle.gmp_seq.specs.Fits.{AreLimits};
 ghost use Rattle.gmp_words.specs.Said.{is_before_writing, is_of_input, is_of_run, is_of_step};
 ghost use Rattle.gmp_words.specs.Runs.{limits_of, IsOutOfLimits, IsWithinLimits};
@@ -71,7 +71,7 @@ pub fn step<R: Read, W: Write>(
     ensures quiet { is_before_writing result.said ≡ true → W.contents writer.new ≡ W.contents writer.old }
 
     ensures first { (line : ℕ) → result.said ≡ BadLine line
-        → IfSome (R.remaining reader.old) (λ all. IsFirstBad (lines all) line) }
+        → IfSome (R.remaining reader.old) (λ all. IsFirstBadLine (lines all) line) }
     ensures too_long { result.said ≡ InputTooLong
         → IfSome (R.remaining reader.old) (λ all. MAX_SCRIPT < length all) }
     ensures short { is_of_input result.said ≡ false

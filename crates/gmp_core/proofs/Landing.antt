@@ -3,7 +3,7 @@ use Rattle.std.proofs.Common.{◌≡◌, ℕ, Bool, true, false, is_some, Option
 use Rattle.std.specs.Option.{option_map}
 use Rattle.gmp_base.specs.declared.number.Readiness.{Readiness}
 use Rattle.gmp_base.specs.declared.pass.Pass.{Pass}
-use Rattle.gmp_base.specs.Values.{readiness_of}
+use Rattle.gmp_base.specs.Values.{readiness_of, ticket_by}
 use Rattle.gmp_driver.proofs.Local.{can_be_told}
 use Rattle.gmp_driver.proofs.Parts.{whole}
 use Rattle.gmp_driver.specs.declared.act.Act.{Act}
@@ -12,11 +12,11 @@ use Rattle.gmp_driver.specs.declared.act.Told.{Told}
 use Rattle.gmp_driver.specs.declared.act.Told.TheVariants as told
 use Rattle.gmp_driver.specs.declared.load.Load.{Load}
 use Rattle.gmp_driver.specs.declared.registers.Registers.{Registers}
-use Rattle.gmp_driver.specs.Fits.{Fits}
-use Rattle.gmp_driver.specs.Loads.{called_of, called_parts, held_of, held_parts, load_of, parts_of, proc_of, proc_parts, ticket_of}
-use Rattle.gmp_driver.specs.Local.{Filled, MayCome, come_back, filled, with_stolen}
+use Rattle.gmp_driver.specs.Fits.{SuitsPlace}
+use Rattle.gmp_driver.specs.Loads.{called_of, called_parts, held_of, held_parts, load_of, parts_of, proc_of, proc_parts}
+use Rattle.gmp_driver.specs.Local.{Filled, MayCome, come_back, filled, filled_with_stolen}
 use Rattle.gmp_driver.specs.Machine.{Machine}
-use Rattle.gmp_driver.specs.Registers.{AreApart, joined, unused, used}
+use Rattle.gmp_driver.specs.Registers.{AreFilledOnce, joined, unused, used}
 use Rattle.gmp_driver.specs.Table.{after, next_act}
 use Rattle.gmp_core.specs.Local.{KeepsHand, with_ticket_in}
 
@@ -32,8 +32,8 @@ same_parts run pass hand =
       there_and_back (proc_of run) proc_parts (λ x. refl) hand.processor,
       there_and_back (held_of run) held_parts (λ x. refl) hand.held,
       there_and_back (called_of run) called_parts (λ x. refl) hand.called,
-      there_and_back (ticket_of run) readiness_of (λ x. refl) hand.to_claim,
-      there_and_back (ticket_of run) readiness_of (λ x. refl) hand.to_store,
+      there_and_back (ticket_by run) readiness_of (λ x. refl) hand.to_claim,
+      there_and_back (ticket_by run) readiness_of (λ x. refl) hand.to_store,
     )
     refl
 
@@ -51,7 +51,7 @@ module _ {T Q : Type 0} where
   taken_joined r false came left = refl
   taken_joined r true came left = refl
 
-  taken_filled : (r : Readiness) (has : Bool) (hand : Registers T Q) → filled (with_taken r has hand) ≡ with_stolen has (filled hand)
+  taken_filled : (r : Readiness) (has : Bool) (hand : Registers T Q) → filled (with_taken r has hand) ≡ filled_with_stolen has (filled hand)
   taken_filled r false hand = refl
   taken_filled r true hand = refl
 
@@ -69,16 +69,16 @@ left_of x = unused (next_act x) x.hand
 
 -- What came goes into free registers, and with what was left is this hand, which fits where the machine stands then.
 pub record Lands {T Q : Type 0} (x : Machine T Q) (came : Registers T Q) (what : Told) (hand : Registers T Q) : Type 0 where
-  pub apart : AreApart (left_of x) came
+  pub apart : AreFilledOnce (left_of x) came
   pub whole : joined came (left_of x) ≡ hand
-  pub fits : Fits (after (record x { hand = hand }) what).place hand
+  pub fits : SuitsPlace (after (record x { hand = hand }) what).place hand
 
-module _ {T Q : Type 0} (x : Machine T Q) (what : Told) (fits : Fits x.place x.hand) (may : MayCome (next_act x) what) where
+module _ {T Q : Type 0} (x : Machine T Q) (what : Told) (fits : SuitsPlace x.place x.hand) (may : MayCome (next_act x) what) where
   abbrev Can : Registers T Q → Type 0
-  Can came = AreApart (left_of x) came × Fits (after (record x { hand = joined came (left_of x) }) what).place (joined came (left_of x))
+  Can came = AreFilledOnce (left_of x) came × SuitsPlace (after (record x { hand = joined came (left_of x) }) what).place (joined came (left_of x))
 
   lands_by : (came hand : Registers T Q) → joined came (left_of x) ≡ hand → Can came → Lands x came what hand
-  lands_by came hand all can = record { apart = can.0; whole = all; fits = subst (λ (h : Registers T Q). Fits (after (record x { hand = h }) what).place h) all can.1 }
+  lands_by came hand all can = record { apart = can.0; whole = all; fits = subst (λ (h : Registers T Q). SuitsPlace (after (record x { hand = h }) what).place h) all can.1 }
 
   -- all that was handed out comes back
   pub all_lands : ((has : Bool) (f : Filled) → come_back what has f ≡ f) → Lands x (used (next_act x) x.hand) what x.hand
@@ -87,7 +87,7 @@ module _ {T Q : Type 0} (x : Machine T Q) (what : Told) (fits : Fits x.place x.h
       lands_by came x.hand (whole (next_act x) x.hand) (can_be_told x what came fits may (sym (same (is_some x.hand.to_claim) (filled came))))
 
   -- and a ticket besides
-  pub taken_lands : (r : Readiness) (has : Bool) → is_some x.hand.to_claim ≡ has → ((f : Filled) → come_back what has f ≡ with_stolen has f)
+  pub taken_lands : (r : Readiness) (has : Bool) → is_some x.hand.to_claim ≡ has → ((f : Filled) → come_back what has f ≡ filled_with_stolen has f)
       → Lands x (with_taken r has (used (next_act x) x.hand)) what (with_taken r has x.hand)
   taken_lands r has holds comes =
       let came = with_taken r has (used (next_act x) x.hand) in
@@ -103,7 +103,7 @@ module _ {T Q : Type 0} (x : Machine T Q) where
   stored_joined a is =
       subst (λ (b : Act). joined (without_stored (used b x.hand)) (unused b x.hand) ≡ without_stored x.hand) (sym is) (ap (λ (h : Registers T Q). without_stored h) (whole act.Push x.hand))
 
-  pub pushed_lands : Fits x.place x.hand → next_act x ≡ act.Push → Lands x (without_stored (used (next_act x) x.hand)) told.Pushed (without_stored x.hand)
+  pub pushed_lands : SuitsPlace x.place x.hand → next_act x ≡ act.Push → Lands x (without_stored (used (next_act x) x.hand)) told.Pushed (without_stored x.hand)
   pushed_lands fits is =
       let may : MayCome (next_act x) told.Pushed = subst (λ (a : Act). MayCome a told.Pushed) (sym is) tt in
       let came = without_stored (used (next_act x) x.hand) in
@@ -112,25 +112,25 @@ module _ {T Q : Type 0} (x : Machine T Q) where
 -- Back in the machine
 
 module _ {T Q : Type 0} (x : Machine T Q) (what : Told) (came hand : Registers T Q) (lands : Lands x came what hand) where
-  pub fits_told : Fits (after (record x { hand = joined came (left_of x) }) what).place (joined came (left_of x))
-  fits_told = subst (λ (h : Registers T Q). Fits (after (record x { hand = h }) what).place h) (sym lands.whole) lands.fits
+  pub fits_told : SuitsPlace (after (record x { hand = joined came (left_of x) }) what).place (joined came (left_of x))
+  fits_told = subst (λ (h : Registers T Q). SuitsPlace (after (record x { hand = h }) what).place h) (sym lands.whole) lands.fits
 
   pub told_so : (pass : Pass) (now : Machine T Q) → x.pass ≡ Some pass → now ≡ after (record x { pass = Some pass; hand = joined came (left_of x) }) what → now ≡ after (record x { hand = hand }) what
   told_so pass now has e =
       e ∙ ap (λ (p : Option Pass). after (record x { pass = p; hand = joined came (left_of x) }) what) (sym has) ∙ ap (λ (h : Registers T Q). after (record x { hand = h }) what) lands.whole
 
-  pub fits_now : (now : Machine T Q) → now ≡ after (record x { hand = hand }) what → Fits now.place now.hand
-  fits_now now e = subst (λ (y : Machine T Q). Fits y.place y.hand) (sym e) lands.fits
+  pub fits_now : (now : Machine T Q) → now ≡ after (record x { hand = hand }) what → SuitsPlace now.place now.hand
+  fits_now now e = subst (λ (y : Machine T Q). SuitsPlace y.place y.hand) (sym e) lands.fits
 
 -- As `Driver::got` asks, and as it ensures: y is the machine while the act is made.
 module _ {T Q : Type 0} (x y : Machine T Q) (what : Told) (load : Load T Q) (came hand : Registers T Q) (lands : Lands x came what hand) (parts : parts_of load ≡ came) (left : y ≡ record x { pass = None; hand = left_of x }) where
-  pub got_apart : AreApart y.hand (parts_of load)
-  got_apart = subst (λ (z : Machine T Q). AreApart z.hand (parts_of load)) (sym left) (subst (AreApart (left_of x)) (sym parts) lands.apart)
+  pub got_apart : AreFilledOnce y.hand (parts_of load)
+  got_apart = subst (λ (z : Machine T Q). AreFilledOnce z.hand (parts_of load)) (sym left) (subst (AreFilledOnce (left_of x)) (sym parts) lands.apart)
 
-  pub got_fits : Fits (after (record y { hand = joined (parts_of load) y.hand }) what).place (joined (parts_of load) y.hand)
+  pub got_fits : SuitsPlace (after (record y { hand = joined (parts_of load) y.hand }) what).place (joined (parts_of load) y.hand)
   got_fits =
-      subst (λ (z : Machine T Q). Fits (after (record z { hand = joined (parts_of load) z.hand }) what).place (joined (parts_of load) z.hand)) (sym left)
-      (subst (λ (c : Registers T Q). Fits (after (record x { hand = joined c (left_of x) }) what).place (joined c (left_of x))) (sym parts) (fits_told x what came hand lands))
+      subst (λ (z : Machine T Q). SuitsPlace (after (record z { hand = joined (parts_of load) z.hand }) what).place (joined (parts_of load) z.hand)) (sym left)
+      (subst (λ (c : Registers T Q). SuitsPlace (after (record x { hand = joined c (left_of x) }) what).place (joined c (left_of x))) (sym parts) (fits_told x what came hand lands))
 
   pub got_told : (now : Machine T Q) → x.pass ≡ Some load.pass → now ≡ after (record y { pass = Some load.pass; hand = joined (parts_of load) y.hand }) what → now ≡ after (record x { hand = hand }) what
   got_told now has e =

@@ -18,7 +18,7 @@ use Rattle.gmp_driver.specs.declared.registers.CalledParts.{CalledParts}
 use Rattle.gmp_driver.specs.declared.registers.HeldParts.{HeldParts}
 use Rattle.gmp_driver.specs.declared.registers.Registers.{Registers}
 use Rattle.gmp_driver.specs.Bodies.{body_at, with_body, with_body_at}
-use Rattle.gmp_driver.specs.Fits.{Fits}
+use Rattle.gmp_driver.specs.Fits.{SuitsPlace}
 use Rattle.gmp_driver.specs.Machine.{Machine, held_at}
 use Rattle.gmp_driver.specs.Registers.{first_of}
 use Rattle.gmp_acts.specs.Hands.{PlainMachine, plain, plain_called, plain_held, plain_machine}
@@ -98,7 +98,7 @@ at_block {T = T} hand c none e = record {
       ap (λ (o : Option (HeldParts T)). first_of (held_body o i) (called_body (option_map (λ (x : CalledParts T). record x { body = w }) hand.called) i)) none
       ∙ ap (λ (o : Option (CalledParts T)). called_body (option_map (λ (x : CalledParts T). record x { body = w }) o) i) e
 
-lends_or : {T Q : Type 0} (here : Place) (hand : Registers T Q) → Fits here hand → Lends here hand ⊎ LendsNone here hand
+lends_or : {T Q : Type 0} (here : Place) (hand : Registers T Q) → SuitsPlace here hand → Lends here hand ⊎ LendsNone here hand
 lends_or place.Run hand fits = (let h = some_of hand.held fits.has_held in inl (at_run hand h.0 h.1))
 lends_or place.Block hand fits = (let c = some_of hand.called fits.has_called in inl (at_block hand c.0 (none_of hand.held fits.has_held) c.1))
 lends_or here hand fits = inr (record { told = refl; in_hand = refl; none = refl; same = λ w. refl })
@@ -172,7 +172,7 @@ module _ {M X : Type 0} (f : M → ℕ → Option X) (ms : List M) (m : ℕ) (x 
 put_here : {M : Type 0} (ms : List M) (m : ℕ) (x : M) → slice_get ms m ≡ Some x → set ms m x ≡ ms
 put_here {M = M} ms m x is = ap (λ (y : M). set ms m y) (sym (get_or_from_slice_get ms m x x is)) ∙ set-get_or ms m x
 
-fits_in : {T : Type 0} (c : Parts T) (m : MNo) (x : Machine T Unit) → slice_get c.machines m.0 ≡ Some x → IsSound (system_of c) → Fits x.place x.hand
+fits_in : {T : Type 0} (c : Parts T) (m : MNo) (x : Machine T Unit) → slice_get c.machines m.0 ≡ Some x → IsSound (system_of c) → SuitsPlace x.place x.hand
 fits_in c m x is s = (let mine = agrees c m x is s in plain_fits x.hand x.place (mine.driver.fits (ap is_some mine.has_pass)))
 
 module _ {T : Type 0} (c : Parts T) (m : MNo) (x : Machine T Unit) (is : slice_get c.machines m.0 ≡ Some x) (core : IsCore c) where

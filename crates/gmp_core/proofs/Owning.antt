@@ -6,6 +6,7 @@ use Rattle.std.specs.Prelude.{IfSome}
 use Rattle.gmp_base.specs.declared.number.PNo.{PNo}
 use Rattle.gmp_base.specs.declared.number.Readiness.{Readiness}
 use Rattle.gmp_base.specs.declared.value.Proc.{Proc}
+use Rattle.gmp_base.specs.Values.{ticket_by}
 use Rattle.gmp_seq.specs.declared.call.Call.TheVariants as call
 use Rattle.gmp_driver.specs.declared.act.Act.{Act}
 use Rattle.gmp_driver.specs.declared.act.Act.TheVariants as act
@@ -17,8 +18,8 @@ use Rattle.gmp_driver.specs.declared.place.Place.TheVariants as place
 use Rattle.gmp_driver.specs.declared.registers.ProcParts.{ProcParts}
 use Rattle.gmp_driver.specs.declared.registers.Registers.{Registers}
 use Rattle.gmp_driver.specs.declared.seen.Seen.{Seen}
-use Rattle.gmp_driver.specs.Fits.{Fits}
-use Rattle.gmp_driver.specs.Loads.{load_of, proc_of, ticket_of}
+use Rattle.gmp_driver.specs.Fits.{SuitsPlace}
+use Rattle.gmp_driver.specs.Loads.{load_of, proc_of}
 use Rattle.gmp_driver.specs.Local.{MayCome}
 use Rattle.gmp_driver.specs.Machine.{Machine}
 use Rattle.gmp_driver.specs.Registers.{used}
@@ -38,7 +39,7 @@ module _ {T Q : Type 0} (s : Seen) (hand : Registers T Q) where
   Finds act.Push = (is_some hand.processor ≡ true) × (is_some hand.to_store ≡ true)
   Finds _ = Unit {0}
 
-  looks : (b : Bool) → Fits place.Look hand → Finds (if b then act.Clock None else act.Pop)
+  looks : (b : Bool) → SuitsPlace place.Look hand → Finds (if b then act.Clock None else act.Pop)
   looks true f = tt
   looks false f = (f.has_processor, f.has_to_claim)
 
@@ -51,7 +52,7 @@ module _ {T Q : Type 0} (s : Seen) (hand : Registers T Q) where
   claims false None = tt
   claims false (Some r) = tt
 
-  finds : (here : Place) → Fits here hand → Finds (act_at s here)
+  finds : (here : Place) → SuitsPlace here hand → Finds (act_at s here)
   finds place.Look f = looks (nat_le 16 s.turns) f
   finds (place.Hunt None) f = tt
   finds (place.Hunt (Some r)) f = tt
@@ -63,7 +64,7 @@ module _ {T Q : Type 0} (s : Seen) (hand : Registers T Q) where
   finds place.PutHave f = puts s.to_claim
   finds _ f = tt
 
-pub found_by : {T Q : Type 0} (x : Machine T Q) (a : Act) → next_act x ≡ a → Fits x.place x.hand → Finds (seen x) x.hand a
+pub found_by : {T Q : Type 0} (x : Machine T Q) (a : Act) → next_act x ≡ a → SuitsPlace x.place x.hand → Finds (seen x) x.hand a
 found_by x a is fits = subst (Finds (seen x) x.hand) is (finds (seen x) x.hand x.place fits)
 
 its_number : {Q : Type 0} (run : ℕ) (o : Option (ProcParts Q)) (p : PNo) → is_some o ≡ true → IfSome (option_map (proc_of run) o) (λ (y : Proc Q). y.p ≡ p) → number_of o ≡ Some p
@@ -76,7 +77,7 @@ some_of (Some r) some = (r, refl)
 
 -- What was handed out
 
-module _ {T Q : Type 0} (x : Machine T Q) (load : Load T Q) (is : load ≡ load_of x.run load.pass (used (next_act x) x.hand)) (fits : Fits x.place x.hand) where
+module _ {T Q : Type 0} (x : Machine T Q) (load : Load T Q) (is : load ≡ load_of x.run load.pass (used (next_act x) x.hand)) (fits : SuitsPlace x.place x.hand) where
   pub popped_own : (p : PNo) → next_act x ≡ act.Pop → IfSome load.proc (λ (y : Proc Q). y.p ≡ p) → own_processor x.hand ≡ Some p
   popped_own p next its =
       let at : load.proc ≡ option_map (proc_of x.run) x.hand.processor =
@@ -89,13 +90,13 @@ module _ {T Q : Type 0} (x : Machine T Q) (load : Load T Q) (is : load ≡ load_
       ap (λ (l : Load T Q). l.proc) is ∙ ap (λ (a : Act). option_map (proc_of x.run) (used a x.hand).processor) next in
       its_number x.run x.hand.processor p (found_by x act.Push next fits).0 (subst (λ (o : Option (Proc Q)). IfSome o (λ (y : Proc Q). y.p ≡ p)) at its)
 
-  pub pushed_ticket : (r : Readiness) → next_act x ≡ act.Push → x.hand.to_store ≡ Some r → load.to_store ≡ Some (ticket_of x.run r)
+  pub pushed_ticket : (r : Readiness) → next_act x ≡ act.Push → x.hand.to_store ≡ Some r → load.to_store ≡ Some (ticket_by x.run r)
   pushed_ticket r next has =
-      ap (λ (l : Load T Q). l.to_store) is ∙ ap (λ (a : Act). option_map (ticket_of x.run) (used a x.hand).to_store) next ∙ ap (λ (o : Option Readiness). option_map (ticket_of x.run) o) has
+      ap (λ (l : Load T Q). l.to_store) is ∙ ap (λ (a : Act). option_map (ticket_by x.run) (used a x.hand).to_store) next ∙ ap (λ (o : Option Readiness). option_map (ticket_by x.run) o) has
 
 -- What the machine holds then
 
-module _ {T Q : Type 0} (x : Machine T Q) (fits : Fits x.place x.hand) where
+module _ {T Q : Type 0} (x : Machine T Q) (fits : SuitsPlace x.place x.hand) where
   may : (a : Act) (what : Told) → next_act x ≡ a → MayCome a what → MayCome (next_act x) what
   may a what is m = subst (λ (b : Act). MayCome b what) (sym is) m
 
@@ -150,7 +151,7 @@ module _ {T Q : Type 0} (x now : Machine T Q) (queues queues' : List (List Readi
       ∙ ap (λ (qs : List (List Readiness)). let l : WithQueues = (after pusher told.Pushed, qs) in l) (put ∙ ap (λ (o : Option PNo). with_queue queues o (queue_of queues o ++ r ∷ [])) (sym own_plain))
       ∙ ap (λ (o : Option Readiness). pushed (plain_machine x) queues o false) (sym has)
 
-pub found_ticket : {T Q : Type 0} → (x : Machine T Q) → next_act x ≡ act.Push → Fits x.place x.hand → (r : Readiness) × (x.hand.to_store ≡ Some r)
+pub found_ticket : {T Q : Type 0} → (x : Machine T Q) → next_act x ≡ act.Push → SuitsPlace x.place x.hand → (r : Readiness) × (x.hand.to_store ≡ Some r)
 found_ticket x next fits = some_of x.hand.to_store (found_by x act.Push next fits).1
 
 pub was_refused : {T Q : Type 0} → (x now : Machine T Q) (queues : List (List Readiness)) → (r : Readiness) × (x.hand.to_store ≡ Some r) → now ≡ after x told.PushRefused

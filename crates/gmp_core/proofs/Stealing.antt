@@ -9,8 +9,8 @@ use Rattle.gmp_driver.specs.declared.act.Told.TheVariants as told
 use Rattle.gmp_driver.specs.declared.act.Tried.{Tried}
 use Rattle.gmp_driver.specs.declared.act.Tried.TheVariants as tried
 use Rattle.gmp_driver.specs.declared.registers.Registers.{Registers}
-use Rattle.gmp_driver.specs.Fits.{Fits}
-use Rattle.gmp_driver.specs.Local.{Filled, MayCome, come_back, with_stolen}
+use Rattle.gmp_driver.specs.Fits.{SuitsPlace}
+use Rattle.gmp_driver.specs.Local.{Filled, MayCome, come_back, filled_with_stolen}
 use Rattle.gmp_driver.specs.Machine.{Machine}
 use Rattle.gmp_driver.specs.Registers.{used}
 use Rattle.gmp_driver.specs.Table.{after, next_act}
@@ -39,7 +39,7 @@ steal_may (act.Steal v) None how is = tt
 steal_may (act.Steal v) (Some word) how is = absurd is
 steal_may _ drawn how is = absurd is
 
-pub steal_comes : (drawn : Option ℕ) (hint : ℕ) (has : Bool) (f : Filled) → come_back (tells drawn (tried.Got hint)) has f ≡ with_stolen has f
+pub steal_comes : (drawn : Option ℕ) (hint : ℕ) (has : Bool) (f : Filled) → come_back (tells drawn (tried.Got hint)) has f ≡ filled_with_stolen has f
 steal_comes None hint has f = refl
 steal_comes (Some word) hint has f = refl
 
@@ -87,7 +87,7 @@ module _ {T Q : Type 0} (x now : Machine T Q) (drawn : Option ℕ) (queues queue
 
 -- What the machine holds then
 
-module _ {T Q : Type 0} (x : Machine T Q) (drawn : Option ℕ) (what : Told) (fits : Fits x.place x.hand) (steals : IsSteal (next_act x) drawn) where
+module _ {T Q : Type 0} (x : Machine T Q) (drawn : Option ℕ) (what : Told) (fits : SuitsPlace x.place x.hand) (steals : IsSteal (next_act x) drawn) where
   may : (how : Tried) → what ≡ tells drawn how → MayCome (next_act x) what
   may how e = subst (MayCome (next_act x)) (sym e) (steal_may (next_act x) drawn how steals)
 

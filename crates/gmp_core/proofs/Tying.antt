@@ -22,7 +22,7 @@ use Rattle.gmp_driver.specs.declared.act.Told.TheVariants as told
 use Rattle.gmp_driver.specs.declared.act.Value.{Value}
 use Rattle.gmp_driver.specs.declared.place.Place.TheVariants as place
 use Rattle.gmp_driver.specs.declared.seen.Seen.{Seen}
-use Rattle.gmp_driver.specs.Fits.{Fits}
+use Rattle.gmp_driver.specs.Fits.{SuitsPlace}
 use Rattle.gmp_driver.specs.Hunt.{begun, victim_of}
 use Rattle.gmp_driver.specs.Machine.{Machine}
 use Rattle.gmp_driver.specs.Seen.{seen}
@@ -100,7 +100,7 @@ module _ {T : Type 0} (c : Parts T) (m : MNo) (x : Machine T Unit) (choice : Cho
   mine : Agrees k.book m (plain_machine x)
   mine = agrees c m x is s
 
-  fits : Fits x.place x.hand
+  fits : SuitsPlace x.place x.hand
   fits = plain_fits x.hand x.place (mine.driver.fits (ap is_some mine.has_pass))
 
   -- the system with this run, these queues, this machine and these calls

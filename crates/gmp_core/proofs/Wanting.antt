@@ -10,7 +10,7 @@ use Rattle.gmp_driver.specs.declared.place.Place.TheVariants as place
 use Rattle.gmp_driver.specs.declared.registers.HeldParts.{HeldParts}
 use Rattle.gmp_driver.specs.declared.registers.Registers.{Registers}
 use Rattle.gmp_driver.specs.declared.seen.Seen.{Seen}
-use Rattle.gmp_driver.specs.Fits.{Fits}
+use Rattle.gmp_driver.specs.Fits.{SuitsPlace}
 use Rattle.gmp_driver.specs.Machine.{Machine, held_at}
 use Rattle.gmp_driver.specs.Seen.{seen}
 use Rattle.gmp_driver.specs.Table.{act_at, claim_call, next_act, put_call}
@@ -38,7 +38,7 @@ runs None e = sym e
 runs (Some h) e = refl
 
 -- a body is in hand exactly where the act reads of it
-reads : {T Q : Type 0} (x : Seen) (here : Place) (hand : Registers T Q) → Fits here hand → is_of_body (wanted_by (act_at x here)) ≡ is_some (held_at here hand.held)
+reads : {T Q : Type 0} (x : Seen) (here : Place) (hand : Registers T Q) → SuitsPlace here hand → is_of_body (wanted_by (act_at x here)) ≡ is_some (held_at here hand.held)
 reads x place.Start hand f = refl
 reads x place.Look hand f = looks _
 reads x (place.Ticking now) hand f = refl

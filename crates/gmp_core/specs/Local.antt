@@ -1,11 +1,11 @@
 -- Acts on local queues, bodies and the clock: which they are, and what they leave of a machine's hand.
 use Rattle.std.specs.Prelude.{◌≡◌, ℕ, Bool, true, false, Option, Some, None}
 use Rattle.gmp_base.specs.declared.number.Readiness.{Readiness}
+use Rattle.gmp_base.specs.Values.{ticket_by}
 use Rattle.gmp_driver.specs.declared.act.Act.{Act}
 use Rattle.gmp_driver.specs.declared.act.Act.TheVariants as act
 use Rattle.gmp_driver.specs.declared.load.Load.{Load}
 use Rattle.gmp_driver.specs.declared.registers.Registers.{Registers}
-use Rattle.gmp_driver.specs.Loads.{ticket_of}
 
 -- an act of which the machine is only told: the body is resumed, or makes its blocking call, or the clock is read
 abbrev pub IsTold : Act → Type 0
@@ -28,5 +28,5 @@ pub record KeepsHand {T Q : Type 0} (before behind : Registers T Q) : Type 0 whe
 
 -- a ticket besides what an act was handed: one to claim, or, where there is one to claim, one to store
 abbrev pub with_ticket_in : {T Q : Type 0} → Readiness → Bool → Load T Q → Load T Q
-with_ticket_in r false load = record load { to_claim = Some (ticket_of load.pass.run r) }
-with_ticket_in r true load = record load { to_store = Some (ticket_of load.pass.run r) }
+with_ticket_in r false load = record load { to_claim = Some (ticket_by load.pass.run r) }
+with_ticket_in r true load = record load { to_store = Some (ticket_by load.pass.run r) }

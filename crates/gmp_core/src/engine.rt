@@ -3,7 +3,7 @@ ghost use Rattle.std.specs.Borrow.{sem};
 ghost use Rattle.std.specs.Prelude.{◌≡◌, ◌<◌, All, Some, false, is_some, length, map, slice_get, vec_capacity, IfErr, IfOk, IfSome, OnOk};
 ghost use Rattle.std.specs.Option.{option_map_or};
 ghost use Rattle.gmp_seq.specs.Fits.{AreLimits, Fits};
-ghost use Rattle.gmp_seq.specs.Machines.{is_parked};
+ghost use Rattle.gmp_seq.specs.Machines.{is_parked_mode};
 ghost use Rattle.gmp_book.specs.Book.{WhyUnopened};
 ghost use Rattle.gmp_core.specs.Doing.{with_made};
 ghost use Rattle.gmp_core.specs.Whole.{wanted_by};
@@ -208,7 +208,7 @@ impl<T> Core<T> {
 
     /// Whether the book has parked the machine.
     pub fn parked(&self, m: MNo) -> bool
-        ensures { result ≡ option_map_or is_parked (slice_get self.now.system.book.state.machines.modes m.0) false }
+        ensures { result ≡ option_map_or is_parked_mode (slice_get self.now.system.book.state.machines.modes m.0) false }
     {
         self.book.is_parked(m)
     }

@@ -4,7 +4,7 @@ ghost use Rattle.gmp_base.specs.declared.number.PNo.{PNo};
 ghost use Rattle.gmp_base.specs.declared.number.Readiness.{Readiness};
 ghost use Rattle.gmp_base.specs.Values.{readiness_of};
 ghost use Rattle.gmp_driver.specs.declared.act.Act.TheVariants as Act;
-ghost use Rattle.gmp_driver.specs.Fits.{Fits};
+ghost use Rattle.gmp_driver.specs.Fits.{SuitsPlace};
 ghost use Rattle.gmp_driver.specs.Local.{MayCome};
 ghost use Rattle.gmp_driver.specs.Seen.{own_processor};
 ghost use Rattle.gmp_driver.specs.Table.{after, next_act};
@@ -74,9 +74,9 @@ pub(crate) fn tell<T>(driver: &mut Driver<T, ()>, what: Told)
     requires next { IsTold (next_act driver.old) }
     requires may { MayCome (next_act driver.old) what }
     requires pass { IsSome driver.old.pass }
-    requires fits { Fits driver.old.place driver.old.hand }
+    requires fits { SuitsPlace driver.old.place driver.old.hand }
     ensures told { driver.new ≡ after driver.old what }
-    ensures fits { Fits driver.new.place driver.new.hand }
+    ensures fits { SuitsPlace driver.new.place driver.new.hand }
 {
     driver.tell(what);
 }
@@ -85,10 +85,10 @@ pub(crate) fn tell<T>(driver: &mut Driver<T, ()>, what: Told)
 pub(crate) fn pop<T>(driver: &mut Driver<T, ()>, queues: &mut Queues)
     requires next { next_act driver.old ≡ Act.Pop }
     requires pass { IsSome driver.old.pass }
-    requires fits { Fits driver.old.place driver.old.hand }
+    requires fits { SuitsPlace driver.old.place driver.old.hand }
     ensures acts { (plain_machine driver.new, queues.new.queues) ≡ popped (plain_machine driver.old) queues.old.queues }
     ensures hand { KeepsHand driver.old.hand driver.new.hand }
-    ensures fits { Fits driver.new.place driver.new.hand }
+    ensures fits { SuitsPlace driver.new.place driver.new.hand }
     ensures pass { driver.new.pass ≡ driver.old.pass }
     ensures room { queues.new.room ≡ queues.old.room }
 {
@@ -113,10 +113,10 @@ pub(crate) fn steal<T>(
 )
     requires next { IsSteal (next_act driver.old) drawn }
     requires pass { IsSome driver.old.pass }
-    requires fits { Fits driver.old.place driver.old.hand }
+    requires fits { SuitsPlace driver.old.place driver.old.hand }
     ensures acts { (plain_machine driver.new, queues.new.queues) ≡ stolen (plain_machine driver.old) drawn queues.old.queues victim unsure }
     ensures hand { KeepsHand driver.old.hand driver.new.hand }
-    ensures fits { Fits driver.new.place driver.new.hand }
+    ensures fits { SuitsPlace driver.new.place driver.new.hand }
     ensures pass { driver.new.pass ≡ driver.old.pass }
     ensures room { queues.new.room ≡ queues.old.room }
 {
@@ -140,12 +140,12 @@ pub(crate) fn steal<T>(
 pub(crate) fn push<T>(driver: &mut Driver<T, ()>, queues: &mut Queues, refused: bool)
     requires next { next_act driver.old ≡ Act.Push }
     requires pass { IsSome driver.old.pass }
-    requires fits { Fits driver.old.place driver.old.hand }
+    requires fits { SuitsPlace driver.old.place driver.old.hand }
     requires room { (r : Readiness) → driver.old.hand.to_store ≡ Some r → (p : PNo) → own_processor driver.old.hand ≡ Some p
         → (p.0 < length queues.old.queues) × (length (slice_index_or queues.old.queues p.0 []) < queues.old.room) }
     ensures acts { (plain_machine driver.new, queues.new.queues) ≡ pushed (plain_machine driver.old) queues.old.queues driver.old.hand.to_store refused }
     ensures hand { KeepsHand driver.old.hand driver.new.hand }
-    ensures fits { Fits driver.new.place driver.new.hand }
+    ensures fits { SuitsPlace driver.new.place driver.new.hand }
     ensures pass { driver.new.pass ≡ driver.old.pass }
     ensures room { queues.new.room ≡ queues.old.room }
 {

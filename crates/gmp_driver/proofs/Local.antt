@@ -6,7 +6,7 @@ use Rattle.std.specs.Option.{option_map}
 use Rattle.gmp_base.specs.declared.number.PNo.{PNo}
 use Rattle.gmp_base.specs.declared.number.Readiness.{Readiness}
 use Rattle.gmp_base.specs.declared.pass.Pass.{Pass}
-use Rattle.gmp_base.specs.Values.{readiness_of}
+use Rattle.gmp_base.specs.Values.{readiness_of, ticket_by}
 use Rattle.gmp_seq.specs.declared.call.Call.TheVariants as call
 use Rattle.gmp_driver.specs.declared.act.Act.{Act}
 use Rattle.gmp_driver.specs.declared.act.Act.TheVariants as act
@@ -18,12 +18,12 @@ use Rattle.gmp_driver.specs.declared.place.Place.{Place}
 use Rattle.gmp_driver.specs.declared.place.Place.TheVariants as place
 use Rattle.gmp_driver.specs.declared.place.Round.{Round}
 use Rattle.gmp_driver.specs.declared.registers.Registers.{Registers}
-use Rattle.gmp_driver.specs.Fits.{Fits, IsFilled}
+use Rattle.gmp_driver.specs.Fits.{SuitsPlace, IsFilled}
 use Rattle.gmp_driver.specs.Hunt.{more, victim_of}
-use Rattle.gmp_driver.specs.Loads.{called_of, called_parts, held_of, held_parts, load_of, parts_of, proc_of, proc_parts, ticket_of}
+use Rattle.gmp_driver.specs.Loads.{called_of, called_parts, held_of, held_parts, load_of, parts_of, proc_of, proc_parts}
 use Rattle.gmp_driver.specs.Local.{Filled, MayCome, come_back, filled}
 use Rattle.gmp_driver.specs.Machine.{Machine}
-use Rattle.gmp_driver.specs.Registers.{AreApart, first_of, joined, unused, used}
+use Rattle.gmp_driver.specs.Registers.{AreFilledOnce, first_of, joined, unused, used}
 use Rattle.gmp_driver.specs.Seen.{seen_of}
 use Rattle.gmp_driver.specs.Table.{act_at, after, claim_call, next_act, next_place, put_call}
 
@@ -94,7 +94,7 @@ module _ {T Q : Type 0} where
       rw (has_first came.processor left.processor, has_first came.held left.held, has_first came.called left.called, has_first came.to_claim left.to_claim, has_first came.to_store left.to_store)
       refl
 
-  are_apart : (came left : Registers T Q) (c l : Filled) → filled came ≡ c → filled left ≡ l → meet c l ≡ none → AreApart left came
+  are_apart : (came left : Registers T Q) (c l : Filled) → filled came ≡ c → filled left ≡ l → meet c l ≡ none → AreFilledOnce left came
   are_apart came left c l e d m = record {
     processor = one c.processor l.processor came.processor left.processor (ap (λ (y : Filled). y.processor) e) (ap (λ (y : Filled). y.processor) d) (ap (λ (y : Filled). y.processor) m);
     held = one c.held l.held came.held left.held (ap (λ (y : Filled). y.held) e) (ap (λ (y : Filled). y.held) d) (ap (λ (y : Filled). y.held) m);
@@ -105,13 +105,13 @@ module _ {T Q : Type 0} where
 
 module _ {T Q : Type 0} (procs : ℕ) (fresh : Bool) (turns : ℕ) (hand came : Registers T Q) where
   abbrev FitsAt : Place → Told → Registers T Q → Type 0
-  FitsAt here what hand' = Fits (next_place (seen_of procs fresh turns hand') here what) hand'
+  FitsAt here what hand' = SuitsPlace (next_place (seen_of procs fresh turns hand') here what) hand'
 
   abbrev Came : Act → Told → Type 0
   Came a what = filled came ≡ come_back what (is_some hand.to_claim) (filled (used a hand))
 
   abbrev Can : Act → Place → Told → Type 0
-  Can a here what = AreApart (unused a hand) came × FitsAt here what (joined came (unused a hand))
+  Can a here what = AreFilledOnce (unused a hand) came × FitsAt here what (joined came (unused a hand))
 
   -- the registers were filled so, and those that are filled now fit the next place
   at : (a : Act) (here : Place) (what : Told) (f : Filled) → filled hand ≡ f → filled (used a hand) ≡ given_by a (filled hand) → filled (unused a hand) ≡ left_by a (filled hand)
@@ -128,25 +128,25 @@ module _ {T Q : Type 0} (procs : ℕ) (fresh : Bool) (turns : ℕ) (hand came : 
 
   -- Each place
 
-  gone_on : (v : PNo) (goal : ℕ) (hand' : Registers T Q) → IsFilled true false false true false hand' → Fits (more v goal) hand'
+  gone_on : (v : PNo) (goal : ℕ) (hand' : Registers T Q) → IsFilled true false false true false hand' → SuitsPlace (more v goal) hand'
   gone_on v zero hand' f = record { has_processor = f.has_processor; has_held = f.has_held; has_called = f.has_called; has_to_claim = refl; has_to_store = f.has_to_store }
   gone_on v (suc goal) hand' f = f
 
-  unspun : (b : Bool) (hand' : Registers T Q) → IsFilled true false false b false hand' → Fits place.Unspin hand'
+  unspun : (b : Bool) (hand' : Registers T Q) → IsFilled true false false b false hand' → SuitsPlace place.Unspin hand'
   unspun b hand' f = record { has_processor = f.has_processor; has_held = f.has_held; has_called = f.has_called; has_to_claim = refl; has_to_store = f.has_to_store }
 
-  hunts_on : (b : Bool) (r : Round) (hand' : Registers T Q) → IsFilled true false false false false hand' → Fits (if b then place.Hunt (Some r) else place.Unspin) hand'
+  hunts_on : (b : Bool) (r : Round) (hand' : Registers T Q) → IsFilled true false false false false hand' → SuitsPlace (if b then place.Hunt (Some r) else place.Unspin) hand'
   hunts_on true r hand' f = f
   hunts_on false r hand' f = unspun false hand' f
 
-  scans_on : (b : Bool) (v : PNo) (hand' : Registers T Q) → IsFilled false false false false false hand' → Fits (if b then place.Scan v else place.Park) hand'
+  scans_on : (b : Bool) (v : PNo) (hand' : Registers T Q) → IsFilled false false false false false hand' → SuitsPlace (if b then place.Scan v else place.Park) hand'
   scans_on true v hand' f = f
   scans_on false v hand' f = f
 
   with_proc : IsFilled true false false false false hand → filled hand ≡ record none { processor = true }
   with_proc f = shape hand true false false false false f
 
-  at_look : (b : Bool) (what : Told) → Fits place.Look hand → MayCome (if b then act.Clock None else act.Pop) what → Came (if b then act.Clock None else act.Pop) what
+  at_look : (b : Bool) (what : Told) → SuitsPlace place.Look hand → MayCome (if b then act.Clock None else act.Pop) what → Came (if b then act.Clock None else act.Pop) what
       → Can (if b then act.Clock None else act.Pop) place.Look what
   at_look true (told.Moment now) f m e = at (act.Clock None) place.Look (told.Moment now) _ (with_proc f) refl refl e refl (λ h is. is_filled h _ is)
   at_look true _ f m e = absurd m
@@ -154,17 +154,17 @@ module _ {T Q : Type 0} (procs : ℕ) (fresh : Bool) (turns : ℕ) (hand came : 
   at_look false told.Empty f m e = at act.Pop place.Look told.Empty _ (with_proc f) refl refl e refl (λ h is. is_filled h _ is)
   at_look false _ f m e = absurd m
 
-  at_hunt : (word : ℕ) (how : Tried) → Fits (place.Hunt None) hand → Came act.Hunt (told.Drew word how) → Can act.Hunt (place.Hunt None) (told.Drew word how)
+  at_hunt : (word : ℕ) (how : Tried) → SuitsPlace (place.Hunt None) hand → Came act.Hunt (told.Drew word how) → Can act.Hunt (place.Hunt None) (told.Drew word how)
   at_hunt word (tried.Got hint) f e = at act.Hunt (place.Hunt None) (told.Drew word (tried.Got hint)) _ (with_proc f) refl refl e refl (λ h is. gone_on _ _ h (is_filled h _ is))
   at_hunt word tried.Empty f e = at act.Hunt (place.Hunt None) (told.Drew word tried.Empty) _ (with_proc f) refl refl e refl (λ h is. hunts_on _ _ h (is_filled h _ is))
   at_hunt word tried.Unsure f e = at act.Hunt (place.Hunt None) (told.Drew word tried.Unsure) _ (with_proc f) refl refl e refl (λ h is. is_filled h _ is)
 
-  at_victim : (r : Round) (v : PNo) (how : Tried) → Fits (place.Hunt (Some r)) hand → Came (act.Steal v) (told.Tried how) → Can (act.Steal v) (place.Hunt (Some r)) (told.Tried how)
+  at_victim : (r : Round) (v : PNo) (how : Tried) → SuitsPlace (place.Hunt (Some r)) hand → Came (act.Steal v) (told.Tried how) → Can (act.Steal v) (place.Hunt (Some r)) (told.Tried how)
   at_victim r v (tried.Got hint) f e = at (act.Steal v) (place.Hunt (Some r)) (told.Tried (tried.Got hint)) _ (with_proc f) refl refl e refl (λ h is. gone_on _ _ h (is_filled h _ is))
   at_victim r v tried.Empty f e = at (act.Steal v) (place.Hunt (Some r)) (told.Tried tried.Empty) _ (with_proc f) refl refl e refl (λ h is. hunts_on _ _ h (is_filled h _ is))
   at_victim r v tried.Unsure f e = at (act.Steal v) (place.Hunt (Some r)) (told.Tried tried.Unsure) _ (with_proc f) refl refl e refl (λ h is. is_filled h _ is)
 
-  at_more : (v w : PNo) (goal : ℕ) (how : Tried) → Fits (place.More v goal) hand → Came (act.Steal w) (told.Tried how) → Can (act.Steal w) (place.More v goal) (told.Tried how)
+  at_more : (v w : PNo) (goal : ℕ) (how : Tried) → SuitsPlace (place.More v goal) hand → Came (act.Steal w) (told.Tried how) → Can (act.Steal w) (place.More v goal) (told.Tried how)
   at_more v w goal how f e = by how e where
     was : filled hand ≡ record none { processor = true; to_claim = true }
     was = shape hand true false false true false f
@@ -174,7 +174,7 @@ module _ {T Q : Type 0} (procs : ℕ) (fresh : Bool) (turns : ℕ) (hand came : 
     by tried.Empty e = at (act.Steal w) (place.More v goal) (told.Tried tried.Empty) _ was refl refl e refl (λ h is. unspun true h (is_filled h _ is))
     by tried.Unsure e = at (act.Steal w) (place.More v goal) (told.Tried tried.Unsure) _ was refl refl e refl (λ h is. unspun true h (is_filled h _ is))
 
-  at_scan : (v w : PNo) (how : Tried) → Fits (place.Scan v) hand → Came (act.Steal w) (told.Tried how) → Can (act.Steal w) (place.Scan v) (told.Tried how)
+  at_scan : (v w : PNo) (how : Tried) → SuitsPlace (place.Scan v) hand → Came (act.Steal w) (told.Tried how) → Can (act.Steal w) (place.Scan v) (told.Tried how)
   at_scan v w how f e = by how e where
     was : filled hand ≡ none
     was = shape hand false false false false false f
@@ -184,7 +184,7 @@ module _ {T Q : Type 0} (procs : ℕ) (fresh : Bool) (turns : ℕ) (hand came : 
     by tried.Empty e = at (act.Steal w) (place.Scan v) (told.Tried tried.Empty) _ was refl refl e refl (λ h is. scans_on _ _ h (is_filled h _ is))
     by tried.Unsure e = at (act.Steal w) (place.Scan v) (told.Tried tried.Unsure) _ was refl refl e refl (λ h is. is_filled h _ is)
 
-  pub at_place : (here : Place) (what : Told) → Fits here hand → MayCome (act_at (seen_of procs fresh turns hand) here) what → Came (act_at (seen_of procs fresh turns hand) here) what
+  pub at_place : (here : Place) (what : Told) → SuitsPlace here hand → MayCome (act_at (seen_of procs fresh turns hand) here) what → Came (act_at (seen_of procs fresh turns hand) here) what
       → Can (act_at (seen_of procs fresh turns hand) here) here what
   at_place place.Look what f m e = at_look (nat_le 16 turns) what f m e
   at_place (place.Hunt None) (told.Drew word how) f m e = at_hunt word how f e
@@ -228,14 +228,14 @@ loaded run pass hand =
       mapped (held_of run) hand.held,
       mapped called_parts (option_map (called_of run) hand.called),
       mapped (called_of run) hand.called,
-      mapped readiness_of (option_map (ticket_of run) hand.to_claim),
-      mapped (ticket_of run) hand.to_claim,
-      mapped readiness_of (option_map (ticket_of run) hand.to_store),
-      mapped (ticket_of run) hand.to_store,
+      mapped readiness_of (option_map (ticket_by run) hand.to_claim),
+      mapped (ticket_by run) hand.to_claim,
+      mapped readiness_of (option_map (ticket_by run) hand.to_store),
+      mapped (ticket_by run) hand.to_store,
     )
     refl
 
-pub can_be_told : {T Q : Type 0} (x : Machine T Q) (what : Told) (came : Registers T Q) → Fits x.place x.hand → MayCome (next_act x) what
+pub can_be_told : {T Q : Type 0} (x : Machine T Q) (what : Told) (came : Registers T Q) → SuitsPlace x.place x.hand → MayCome (next_act x) what
     → filled came ≡ come_back what (is_some x.hand.to_claim) (filled (used (next_act x) x.hand))
-    → AreApart (unused (next_act x) x.hand) came × Fits (after (record x { hand = joined came (unused (next_act x) x.hand) }) what).place (joined came (unused (next_act x) x.hand))
+    → AreFilledOnce (unused (next_act x) x.hand) came × SuitsPlace (after (record x { hand = joined came (unused (next_act x) x.hand) }) what).place (joined came (unused (next_act x) x.hand))
 can_be_told x what came f m e = at_place x.procs x.fresh x.turns x.hand came x.place what f m e

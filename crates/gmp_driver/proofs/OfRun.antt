@@ -3,7 +3,8 @@ use Rattle.std.proofs.Common.{◌≡◌, ℕ, Option, None, Some, IfSome, refl}
 use Rattle.std.specs.Option.{option_map}
 use Rattle.gmp_base.specs.declared.number.Readiness.{Readiness}
 use Rattle.gmp_base.specs.declared.pass.Pass.{Pass}
-use Rattle.gmp_driver.specs.Loads.{IsOfRun, called_of, held_of, load_of, proc_of, ticket_of}
+use Rattle.gmp_base.specs.Values.{ticket_by}
+use Rattle.gmp_driver.specs.Loads.{IsOfRun, called_of, held_of, load_of, proc_of}
 use Rattle.gmp_driver.specs.declared.registers.CalledParts.{CalledParts}
 use Rattle.gmp_driver.specs.declared.registers.HeldParts.{HeldParts}
 use Rattle.gmp_driver.specs.declared.registers.ProcParts.{ProcParts}
@@ -17,7 +18,7 @@ called_is : {T : Type 0} (run : ℕ) (o : Option (CalledParts T)) → IfSome (op
 called_is run None = tt
 called_is run (Some x) = refl
 
-ticket_is : (run : ℕ) (o : Option Readiness) → IfSome (option_map (ticket_of run) o) (λ x. x.run ≡ run)
+ticket_is : (run : ℕ) (o : Option Readiness) → IfSome (option_map (ticket_by run) o) (λ x. x.run ≡ run)
 ticket_is run None = tt
 ticket_is run (Some x) = refl
 

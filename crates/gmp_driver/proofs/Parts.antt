@@ -4,7 +4,7 @@ use Rattle.gmp_driver.specs.declared.act.Act.{Act}
 use Rattle.gmp_driver.specs.declared.act.Value.{Value}
 use Rattle.gmp_driver.specs.declared.act.Value.TheVariants as value
 use Rattle.gmp_driver.specs.declared.registers.Registers.{Registers}
-use Rattle.gmp_driver.specs.Registers.{AreApart, but, first_of, joined, only, one_used, unused, used, uses_processor, with_processor, without_processor}
+use Rattle.gmp_driver.specs.Registers.{AreFilledOnce, but, first_of, joined, only, one_used, unused, used, uses_processor, with_processor, without_processor}
 
 first_none : {X : Type 0} (o : Option X) → first_of o None ≡ o
 first_none None = refl
@@ -30,7 +30,7 @@ module _ {T Q : Type 0} where
   whole act hand = all_joined (uses_processor act) (one_used act hand) hand
 
   all_apart : (both : Bool) (which : Option Value) (hand : Registers T Q)
-      → AreApart (without_processor both (but which hand)) (with_processor both hand (only which hand))
+      → AreFilledOnce (without_processor both (but which hand)) (with_processor both hand (only which hand))
   all_apart false None hand = record { processor = inr refl; held = inr refl; called = inr refl; to_claim = inr refl; to_store = inr refl }
   all_apart true None hand = record { processor = inl refl; held = inr refl; called = inr refl; to_claim = inr refl; to_store = inr refl }
   all_apart false (Some value.Held) hand = record { processor = inr refl; held = inl refl; called = inr refl; to_claim = inr refl; to_store = inr refl }
@@ -44,5 +44,5 @@ module _ {T Q : Type 0} where
   all_apart false (Some value.Proc) hand = record { processor = inl refl; held = inr refl; called = inr refl; to_claim = inr refl; to_store = inr refl }
   all_apart true (Some value.Proc) hand = record { processor = inl refl; held = inr refl; called = inr refl; to_claim = inr refl; to_store = inr refl }
 
-  pub apart : (act : Act) (hand : Registers T Q) → AreApart (unused act hand) (used act hand)
+  pub apart : (act : Act) (hand : Registers T Q) → AreFilledOnce (unused act hand) (used act hand)
   apart act hand = all_apart (uses_processor act) (one_used act hand) hand

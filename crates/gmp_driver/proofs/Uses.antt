@@ -10,7 +10,7 @@ use Rattle.gmp_driver.specs.declared.act.Act.TheVariants as act
 use Rattle.gmp_driver.specs.declared.place.Place.{Place}
 use Rattle.gmp_driver.specs.declared.place.Place.TheVariants as place
 use Rattle.gmp_driver.specs.declared.registers.Registers.{Registers}
-use Rattle.gmp_driver.specs.Fits.{Fits, Runs}
+use Rattle.gmp_driver.specs.Fits.{SuitsPlace, Runs}
 use Rattle.gmp_driver.specs.Machine.{Machine}
 use Rattle.gmp_driver.specs.Registers.{first_of}
 use Rattle.gmp_driver.specs.Seen.{seen_of}
@@ -67,7 +67,7 @@ module _ {T Q : Type 0} (procs : ℕ) (fresh : Bool) (turns : ℕ) (hand : Regis
   stored None at is = absurd (false≢true is)
   stored (Some r) at is = rw (← at) refl
 
-  pub uses_at : (here : Place) (c : Call) → act_at (seen_of procs fresh turns hand) here ≡ act.Call c → Fits here hand → Uses c hand
+  pub uses_at : (here : Place) (c : Call) → act_at (seen_of procs fresh turns hand) here ≡ act.Call c → SuitsPlace here hand → Uses c hand
   uses_at place.Start c is f = is_the call.Acquire c is (none_of hand.processor f.has_processor)
   uses_at place.Look c is f = absurd (look_calls (nat_le 16 turns) c is)
   uses_at (place.Ticking now) c is f = is_the (call.Tick now) c is tt
@@ -99,5 +99,5 @@ module _ {T Q : Type 0} (procs : ℕ) (fresh : Bool) (turns : ℕ) (hand : Regis
   uses_at place.Over c is f = absurd (let no : ⊥ = cc in no)
   uses_at place.Done c is f = absurd (let no : ⊥ = cc in no)
 
-pub uses : {T Q : Type 0} (x : Machine T Q) (c : Call) → next_act x ≡ act.Call c → Fits x.place x.hand → Uses c x.hand
+pub uses : {T Q : Type 0} (x : Machine T Q) (c : Call) → next_act x ≡ act.Call c → SuitsPlace x.place x.hand → Uses c x.hand
 uses x c is f = uses_at x.procs x.fresh x.turns x.hand x.place c is f

@@ -44,36 +44,36 @@ abbrev pub HasFound : {T Q : Type 0} → Registers T Q → Type 0
 HasFound hand = IsFilled false false false true false hand
 
 -- what a machine holds at a place
-abbrev pub Fits : {T Q : Type 0} → Place → Registers T Q → Type 0
-Fits place.Start hand = HasNothing hand
-Fits place.Look hand = HasProcessor hand
-Fits (place.Ticking now) hand = HasProcessor hand
-Fits place.Global hand = HasProcessor hand
-Fits place.Spin hand = HasProcessor hand
-Fits (place.Hunt r) hand = HasProcessor hand
-Fits (place.More v goal) hand = HasTicket hand
-Fits (place.StoreMore v goal) hand = HasTickets hand
-Fits (place.PutMore v goal) hand = HasTickets hand
-Fits place.Unspin hand = IsFilled true false false (is_some hand.to_claim) false hand
-Fits place.Claim hand = HasTicket hand
-Fits place.Run hand = Runs hand
-Fits (place.Do asked) hand = Runs hand
-Fits place.Store hand = RunsAndStores hand
-Fits place.PutStore hand = RunsAndStores hand
-Fits place.Poke hand = Runs hand
-Fits place.Block hand = Calls hand
-Fits (place.Leave number) hand = Calls hand
-Fits place.Drop hand = HasProcessor hand
-Fits place.Bare hand = HasNothing hand
-Fits (place.Scan v) hand = HasNothing hand
-Fits place.Have hand = HasFound hand
-Fits place.PutHave hand = HasFound hand
-Fits place.Park hand = HasNothing hand
-Fits place.Rest hand = HasNothing hand
-Fits (place.Mind deadline) hand = HasNothing hand
-Fits (place.MindTick now) hand = HasNothing hand
-Fits place.Over hand = Unit {0}
-Fits place.Done hand = HasNothing hand
+abbrev pub SuitsPlace : {T Q : Type 0} → Place → Registers T Q → Type 0
+SuitsPlace place.Start hand = HasNothing hand
+SuitsPlace place.Look hand = HasProcessor hand
+SuitsPlace (place.Ticking now) hand = HasProcessor hand
+SuitsPlace place.Global hand = HasProcessor hand
+SuitsPlace place.Spin hand = HasProcessor hand
+SuitsPlace (place.Hunt r) hand = HasProcessor hand
+SuitsPlace (place.More v goal) hand = HasTicket hand
+SuitsPlace (place.StoreMore v goal) hand = HasTickets hand
+SuitsPlace (place.PutMore v goal) hand = HasTickets hand
+SuitsPlace place.Unspin hand = IsFilled true false false (is_some hand.to_claim) false hand
+SuitsPlace place.Claim hand = HasTicket hand
+SuitsPlace place.Run hand = Runs hand
+SuitsPlace (place.Do asked) hand = Runs hand
+SuitsPlace place.Store hand = RunsAndStores hand
+SuitsPlace place.PutStore hand = RunsAndStores hand
+SuitsPlace place.Poke hand = Runs hand
+SuitsPlace place.Block hand = Calls hand
+SuitsPlace (place.Leave number) hand = Calls hand
+SuitsPlace place.Drop hand = HasProcessor hand
+SuitsPlace place.Bare hand = HasNothing hand
+SuitsPlace (place.Scan v) hand = HasNothing hand
+SuitsPlace place.Have hand = HasFound hand
+SuitsPlace place.PutHave hand = HasFound hand
+SuitsPlace place.Park hand = HasNothing hand
+SuitsPlace place.Rest hand = HasNothing hand
+SuitsPlace (place.Mind deadline) hand = HasNothing hand
+SuitsPlace (place.MindTick now) hand = HasNothing hand
+SuitsPlace place.Over hand = Unit {0}
+SuitsPlace place.Done hand = HasNothing hand
 
 -- What a driver keeps: it has as many processors as there may be, its pass is of its run, and while nothing is given out it holds what its
 -- place says.
@@ -82,4 +82,4 @@ pub record IsDriver {T Q : Type 0} (x : Machine T Q) : Type 0 where
   pub few_procs : x.procs ≤ 32
   pub few_turns : x.turns ≤ 16
   pub pass : IfSome x.pass (λ p. p.run ≡ x.run)
-  pub fits : IsSome x.pass → Fits x.place x.hand
+  pub fits : IsSome x.pass → SuitsPlace x.place x.hand

@@ -1,13 +1,11 @@
 -- What an act is handed, from the parts that the machine keeps, and the parts of what comes back.
 use Rattle.std.specs.Prelude.{◌≡◌, ℕ, IfSome}
 use Rattle.std.specs.Option.{option_map}
-use Rattle.gmp_base.specs.declared.number.Readiness.{Readiness}
 use Rattle.gmp_base.specs.declared.pass.Pass.{Pass}
 use Rattle.gmp_base.specs.declared.value.Called.{Called}
 use Rattle.gmp_base.specs.declared.value.Held.{Held}
 use Rattle.gmp_base.specs.declared.value.Proc.{Proc}
-use Rattle.gmp_base.specs.declared.value.Ticket.{Ticket}
-use Rattle.gmp_base.specs.Values.{readiness_of}
+use Rattle.gmp_base.specs.Values.{readiness_of, ticket_by}
 use Rattle.gmp_driver.specs.declared.load.Load.{Load}
 use Rattle.gmp_driver.specs.declared.registers.CalledParts.{CalledParts}
 use Rattle.gmp_driver.specs.declared.registers.HeldParts.{HeldParts}
@@ -25,17 +23,14 @@ called_of run x = record { run = run; g = x.g; body = x.body }
 abbrev pub proc_of : {Q : Type 0} → ℕ → ProcParts Q → Proc Q
 proc_of run x = record { run = run; p = x.p; owner = x.owner }
 
-abbrev pub ticket_of : ℕ → Readiness → Ticket
-ticket_of run r = record { run = run; g = r.g; epoch = r.epoch }
-
 -- what an act is handed
 abbrev pub load_of : {T Q : Type 0} → ℕ → Pass → Registers T Q → Load T Q
 load_of run pass hand = record {
   pass = pass;
   held = option_map (held_of run) hand.held;
   called = option_map (called_of run) hand.called;
-  to_claim = option_map (ticket_of run) hand.to_claim;
-  to_store = option_map (ticket_of run) hand.to_store;
+  to_claim = option_map (ticket_by run) hand.to_claim;
+  to_store = option_map (ticket_by run) hand.to_store;
   proc = option_map (proc_of run) hand.processor;
 }
 

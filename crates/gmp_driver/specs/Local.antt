@@ -32,14 +32,14 @@ MayCome (act.Clock minded) (told.Moment now) = Unit {0}
 MayCome _ _ = ⊥
 
 -- a ticket that is stolen is one to claim, and where the machine has one to claim already, one to store
-abbrev pub with_stolen : Bool → Filled → Filled
-with_stolen true f = record f { to_store = true }
-with_stolen false f = record f { to_claim = true }
+abbrev pub filled_with_stolen : Bool → Filled → Filled
+filled_with_stolen true f = record f { to_store = true }
+filled_with_stolen false f = record f { to_claim = true }
 
 -- what comes back: all that was handed out, but for a ticket that was pushed, and a ticket that was popped or stolen besides
 abbrev pub come_back : Told → Bool → Filled → Filled
 come_back told.Pushed has f = record f { to_store = false }
 come_back told.Got has f = record f { to_claim = true }
-come_back (told.Tried (tried.Got hint)) has f = with_stolen has f
-come_back (told.Drew word (tried.Got hint)) has f = with_stolen has f
+come_back (told.Tried (tried.Got hint)) has f = filled_with_stolen has f
+come_back (told.Drew word (tried.Got hint)) has f = filled_with_stolen has f
 come_back what has f = f

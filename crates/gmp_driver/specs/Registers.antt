@@ -28,7 +28,7 @@ joined came left = record {
 }
 
 -- no register is filled twice
-pub record AreApart {T Q : Type 0} (left came : Registers T Q) : Type 0 where
+pub record AreFilledOnce {T Q : Type 0} (left came : Registers T Q) : Type 0 where
   pub processor : IsNone left.processor ⊎ IsNone came.processor
   pub held : IsNone left.held ⊎ IsNone came.held
   pub called : IsNone left.called ⊎ IsNone came.called

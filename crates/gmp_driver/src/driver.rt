@@ -39,11 +39,11 @@ impl<T, Q> Model for Driver<T, Q> {
 
 impl<T, Q> Driver<T, Q> {
     ghost use Rattle.gmp_driver.specs.Bodies.{body_at, lends_body};
-    ghost use Rattle.gmp_driver.specs.Fits.{Fits, IsDriver};
+    ghost use Rattle.gmp_driver.specs.Fits.{SuitsPlace, IsDriver};
     ghost use Rattle.gmp_driver.specs.Hunt.{begun, victim_of};
     ghost use Rattle.gmp_driver.specs.Loads.{IsOfRun, load_of, parts_of};
     ghost use Rattle.gmp_driver.specs.Machine.{held_at, is_done};
-    ghost use Rattle.gmp_driver.specs.Registers.{AreApart, joined, nothing, unused, used};
+    ghost use Rattle.gmp_driver.specs.Registers.{AreFilledOnce, joined, nothing, unused, used};
     ghost use Rattle.gmp_driver.specs.Seen.{seen};
     ghost use Rattle.gmp_driver.specs.Table.{after, next_act};
 
@@ -125,7 +125,7 @@ impl<T, Q> Driver<T, Q> {
     /// Is told what came of an act, and goes on to the next place, where it must hold what that place says.
     #[inline(always)]
     pub fn tell(&mut self, told: Told)
-        requires { Fits (after self.old told).place self.old.hand }
+        requires { SuitsPlace (after self.old told).place self.old.hand }
         ensures { self.new ≡ after self.old told }
     {
         let seen = self.seen();
@@ -154,8 +154,8 @@ impl<T, Q> Driver<T, Q> {
     pub fn got(&mut self, load: Load<T, Q>, told: Told)
         requires out { IsNone self.old.pass }
         requires run { IsOfRun self.old.run load }
-        requires apart { AreApart self.old.hand (parts_of load) }
-        requires fits { Fits (after (record self.old { hand = joined (parts_of load) self.old.hand }) told).place (joined (parts_of load) self.old.hand) }
+        requires apart { AreFilledOnce self.old.hand (parts_of load) }
+        requires fits { SuitsPlace (after (record self.old { hand = joined (parts_of load) self.old.hand }) told).place (joined (parts_of load) self.old.hand) }
         ensures { self.new ≡ after (record self.old { pass = Some load.pass; hand = joined (parts_of load) self.old.hand }) told }
     {
         let pass = self.hand.take_back(load);

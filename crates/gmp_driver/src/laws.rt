@@ -5,31 +5,31 @@ ghost use Rattle.gmp_driver.specs.declared.act.Act.{Act};
 ghost use Rattle.gmp_driver.specs.declared.act.Act.TheVariants as Act;
 ghost use Rattle.gmp_driver.specs.declared.act.Told.{Told};
 ghost use Rattle.gmp_driver.specs.declared.registers.Registers.{Registers};
-ghost use Rattle.gmp_driver.specs.Fits.{Fits};
+ghost use Rattle.gmp_driver.specs.Fits.{SuitsPlace};
 ghost use Rattle.gmp_driver.specs.Local.{MayCome, come_back, filled};
 ghost use Rattle.gmp_driver.specs.Machine.{Machine};
-ghost use Rattle.gmp_driver.specs.Registers.{AreApart, joined, unused, used};
+ghost use Rattle.gmp_driver.specs.Registers.{AreFilledOnce, joined, unused, used};
 ghost use Rattle.gmp_driver.specs.Table.{after, next_act};
 ghost use Rattle.gmp_driver.specs.Uses.{Uses};
 
 /// A call that a machine is to make finds the registers that it uses filled, and those that its reply fills free.
 pub fn calls_find_what_they_use<T, Q>()
-    ensures { (x : Machine T Q) (call : Call) → next_act x ≡ Act.Call call → Fits x.place x.hand → Uses call x.hand }
+    ensures { (x : Machine T Q) (call : Call) → next_act x ≡ Act.Call call → SuitsPlace x.place x.hand → Uses call x.hand }
 {}
 
 /// No value is lost, and none is twice: what an act is handed and what it leaves are together what the machine held.
 pub fn nothing_is_lost<T, Q>()
-    ensures apart { (act : Act) (hand : Registers T Q) → AreApart (unused act hand) (used act hand) }
+    ensures apart { (act : Act) (hand : Registers T Q) → AreFilledOnce (unused act hand) (used act hand) }
     ensures whole { (act : Act) (hand : Registers T Q) → joined (used act hand) (unused act hand) ≡ hand }
 {}
 
 /// What came of a pop, a push, a steal, a resumed body, a blocking call or a reading of the clock can be told: it fills no register twice, and the machine holds then what its next place says.
 /// Bodies and owners may have changed meanwhile.
 pub fn acts_lead_on<T, Q>()
-    ensures apart { (x : Machine T Q) (what : Told) (came : Registers T Q) → Fits x.place x.hand → MayCome (next_act x) what
+    ensures apart { (x : Machine T Q) (what : Told) (came : Registers T Q) → SuitsPlace x.place x.hand → MayCome (next_act x) what
         → filled came ≡ come_back what (is_some x.hand.to_claim) (filled (used (next_act x) x.hand))
-        → AreApart (unused (next_act x) x.hand) came }
-    ensures fits { (x : Machine T Q) (what : Told) (came : Registers T Q) → Fits x.place x.hand → MayCome (next_act x) what
+        → AreFilledOnce (unused (next_act x) x.hand) came }
+    ensures fits { (x : Machine T Q) (what : Told) (came : Registers T Q) → SuitsPlace x.place x.hand → MayCome (next_act x) what
         → filled came ≡ come_back what (is_some x.hand.to_claim) (filled (used (next_act x) x.hand))
-        → Fits (after (record x { hand = joined came (unused (next_act x) x.hand) }) what).place (joined came (unused (next_act x) x.hand)) }
+        → SuitsPlace (after (record x { hand = joined came (unused (next_act x) x.hand) }) what).place (joined came (unused (next_act x) x.hand)) }
 {}

@@ -1,9 +1,9 @@
 //! What an act is handed, and what comes back of it.
 ghost use Rattle.std.specs.Prelude.{◌≡◌};
 ghost use Rattle.std.specs.Option.{option_map};
-ghost use Rattle.gmp_base.specs.Values.{readiness_of};
-ghost use Rattle.gmp_driver.specs.Registers.{AreApart, but, joined, nothing, only, unused, used};
-ghost use Rattle.gmp_driver.specs.Loads.{called_of, called_parts, held_of, held_parts, load_of, parts_of, proc_of, proc_parts, ticket_of};
+ghost use Rattle.gmp_base.specs.Values.{readiness_of, ticket_by};
+ghost use Rattle.gmp_driver.specs.Registers.{AreFilledOnce, but, joined, nothing, only, unused, used};
+ghost use Rattle.gmp_driver.specs.Loads.{called_of, called_parts, held_of, held_parts, load_of, parts_of, proc_of, proc_parts};
 
 use crate::act::{Act, Value};
 use crate::registers::{CalledParts, HeldParts, ProcParts, Registers, fill_if};
@@ -78,7 +78,7 @@ impl<T, Q> Registers<T, Q> {
     /// Puts what came into its registers, and answers the pass.
     #[inline(always)]
     pub(crate) fn take_back(&mut self, load: Load<T, Q>) -> Pass
-        requires { AreApart self.old (parts_of load) }
+        requires { AreFilledOnce self.old (parts_of load) }
         ensures hand { self.new ≡ joined (parts_of load) self.old }
         ensures pass { result ≡ load.pass }
     {
@@ -93,8 +93,8 @@ impl<T, Q> Registers<T, Q> {
         fill_if(&mut self.processor, ProcParts::of(proc));
         fill_if(&mut self.held, HeldParts::of(held));
         fill_if(&mut self.called, CalledParts::of(called));
-        fill_if(&mut self.to_claim, spent(to_claim));
-        fill_if(&mut self.to_store, spent(to_store));
+        fill_if(&mut self.to_claim, opened(to_claim));
+        fill_if(&mut self.to_store, opened(to_store));
         pass
     }
 }
@@ -162,15 +162,14 @@ impl<Q> ProcParts<Q> {
 /// The ticket of a readiness, where there is one.
 #[inline(always)]
 fn ticket(run: u64, readiness: Option<Readiness>) -> Option<Ticket>
-    ensures { result ≡ option_map (ticket_of run) readiness }
+    ensures { result ≡ option_map (ticket_by run) readiness }
 {
-    let r = readiness?;
-    Some(Ticket::of(run, r.g, r.epoch))
+    readiness.map(|r| Ticket::by(run, r))
 }
 
 /// The readiness of a ticket, where there is one, which is spent.
 #[inline(always)]
-fn spent(ticket: Option<Ticket>) -> Option<Readiness>
+fn opened(ticket: Option<Ticket>) -> Option<Readiness>
     ensures { result ≡ option_map readiness_of ticket }
 {
     let (_, g, epoch) = ticket?.open();

@@ -20,6 +20,8 @@ use Rattle.gmp_seq.specs.Step.{served_by}
 use Rattle.gmp_seq.specs.Table.{IsOffShelf, RunsNothing, epoch_at, is_parked, is_running_on, is_waiting, made_wait, some_status}
 use Rattle.gmp_seq.specs.Waits.{Channel, Proceeds}
 use Rattle.gmp_table.proofs.Listing.{slice_get-set_same, slice_get-set_other}
+use Rattle.std.proofs.lemmas.Bool.{eq-eqb}
+use Rattle.std.specs.Option.{option_map_or}
 use Rattle.gmp_goroutines.specs.Tied.{IsTied}
 use Rattle.gmp_goroutines.proofs.Arrivals.{OffersNone, later_now, none_listed, unwaiting_none, wait_waiters, written_waiters}
 
@@ -189,15 +191,21 @@ running_on m _ h = absurd (false≢true h)
 
 -- it runs one where it runs the last that it ran
 pub runs_told : {t : Table} {records : List Waiter} {bodies : ℕ} {runners : List GNo} (m : MNo) (o : Option GNo) (b : Bool) → IsTied t records bodies runners
-    → slice_get runners m.0 ≡ o → IfNone o (b ≡ false) → IfSome o (λ g. (b ≡ true → IsRunning t g m) × (IsRunning t g m → b ≡ true)) → b ≡ some_status (is_running_on m) t
+    → slice_get runners m.0 ≡ o → IfNone o (b ≡ false) → IfSome o (λ g. b ≡ option_map_or (is_running_on m) (status_at t g) false) → b ≡ some_status (is_running_on m) t
 runs_told {t = t} m o b tied at none some = by_test (some_status (is_running_on m) t) b refl refl where
-  runs_all : (p : Option GNo) (h : GNo) → IfSome p (λ g. (b ≡ true → IsRunning t g m) × (IsRunning t g m → b ≡ true)) → p ≡ Some h → IsRunning t h m → b ≡ true
-  runs_all None h some e runs = absurd cc
-  runs_all (Some g) h some e runs = let same : g ≡ h = cc in some.1 (subst (λ (k : GNo). IsRunning t k m) (sym same) runs)
+  runs_it : (s : Option Status) → option_map_or (is_running_on m) s false ≡ true → s ≡ Some (Running m)
+  runs_it None e = absurd (false≢true e)
+  runs_it (Some s) e = ap Some (running_on m s e)
 
-  free : (p : Option GNo) → IfNone p (b ≡ false) → IfSome p (λ g. (b ≡ true → IsRunning t g m) × (IsRunning t g m → b ≡ true)) → RunsNothing t m → b ≡ true → ⊥
+  runs_all : (p : Option GNo) (h : GNo) → IfSome p (λ g. b ≡ option_map_or (is_running_on m) (status_at t g) false) → p ≡ Some h → IsRunning t h m → b ≡ true
+  runs_all None h some e runs = absurd cc
+  runs_all (Some g) h some e runs =
+      let same : g ≡ h = cc in
+      some ∙ ap (λ (s : Option Status). option_map_or (is_running_on m) s false) (subst (λ (k : GNo). IsRunning t k m) (sym same) runs) ∙ eq-eqb m.0 m.0 refl
+
+  free : (p : Option GNo) → IfNone p (b ≡ false) → IfSome p (λ g. b ≡ option_map_or (is_running_on m) (status_at t g) false) → RunsNothing t m → b ≡ true → ⊥
   free None none some nobody e = false≢true (sym none ∙ e)
-  free (Some g) none some nobody e = free_runs_none t m m g.0 nobody (some.0 e) refl
+  free (Some g) none some nobody e = free_runs_none t m m g.0 nobody (runs_it (status_at t g) (sym some ∙ e)) refl
 
   by_test : (c d : Bool) → some_status (is_running_on m) t ≡ c → b ≡ d → d ≡ c
   by_test true true is e = refl

@@ -1,5 +1,6 @@
 //! The goroutines, the channels on which they wait, and who runs on each machine.
-ghost use Rattle.std.specs.Prelude.{◌≡◌, ◌<◌, ◌≤◌, ◌^◌, ◌++◌, ◌∷◌, [], true, Some, IfOk, IsTrue, ◌↔◌, option_copied, length, slice_get};
+ghost use Rattle.std.specs.Prelude.{◌≡◌, ◌<◌, ◌≤◌, ◌^◌, ◌++◌, ◌∷◌, [], true, false, Some, IfOk, option_copied, length, slice_get};
+ghost use Rattle.std.specs.Option.{option_map_or};
 ghost use Rattle.gmp_base.specs.declared.number.GNo.{GNo};
 ghost use Rattle.gmp_base.specs.declared.number.MNo.{MNo};
 ghost use Rattle.gmp_seq.specs.declared.call.Reply.{Reply};
@@ -108,10 +109,7 @@ impl Goroutines {
         ensures { result ≡ stored_at self.now.table g }
     {
         match self.table.get(g) {
-            Some(row) => match row.status {
-                Status::Ready(_, woke) => woke,
-                _ => Woke::Done,
-            },
+            Some(row) => row.status.answer().unwrap_or(Woke::Done),
             None => Woke::Done,
         }
     }
@@ -125,7 +123,7 @@ impl Goroutines {
 
     /// Whether m runs g.
     pub fn runs(&self, m: MNo, g: GNo) -> bool
-        ensures { IsTrue result ↔ (status_at self.now.table g ≡ Some (Status.Running m)) }
+        ensures { result ≡ option_map_or (is_running_on m) (status_at self.now.table g) false }
     {
         self.table.runs(m, g)
     }

@@ -9,13 +9,13 @@ use Rattle.std.proofs.lemmas.Option.{get_or_from_slice_get, slice_get_within, un
 use Rattle.gmp_base.specs.declared.number.MNo.{MNo}
 use Rattle.gmp_seq.specs.declared.status.Mode.{Mode}
 use Rattle.gmp_seq.specs.declared.status.Mode.TheVariants.{Awake, Calling}
-use Rattle.gmp_seq.specs.Machines.{is_held_by, is_parked}
+use Rattle.gmp_seq.specs.Machines.{is_held_by, is_parked_mode}
 use Rattle.gmp_seq.proofs.Epochs.{at_set}
-use Rattle.gmp_idle.specs.Kept.{IsKept, flag_of}
+use Rattle.gmp_idle.specs.Kept.{HaveFlags, flag_of}
 
-pub not_parked : (mode : Mode) → (mode ≡ Awake) ⊎ (mode ≡ Calling) → is_parked mode ≡ false
-not_parked mode (inl is) = ap is_parked is
-not_parked mode (inr is) = ap is_parked is
+pub not_parked : (mode : Mode) → (mode ≡ Awake) ⊎ (mode ≡ Calling) → is_parked_mode mode ≡ false
+not_parked mode (inl is) = ap is_parked_mode is
+not_parked mode (inr is) = ap is_parked_mode is
 
 -- 1 where it holds
 abbrev pub number_of : Bool → ℕ
@@ -40,7 +40,7 @@ number_of_told true = refl
 number_of_told false = refl
 
 -- the flag says whether the machine is among the holders
-pub flag_told : (holders : List (Option MNo)) (modes : List Mode) (holding spinning : List Bool) (m : MNo) → IsKept holders modes holding spinning
+pub flag_told : (holders : List (Option MNo)) (modes : List Mode) (holding spinning : List Bool) (m : MNo) → HaveFlags holders modes holding spinning
     → flag_of holding m ≡ list_any (is_held_by m) holders
 flag_told holders modes holding spinning m kept =
     sym (list_any-count_by (is_held_by m) holders ∙ (ap (λ n. not (n == 0)) (kept.held m) ∙ number_of_told (flag_of holding m)))
@@ -76,11 +76,11 @@ held_set holders i x y n at =
     let read : get_or holders i x ≡ x = get_or_from_slice_get holders i x x at in
     ap (λ h. count_by (is_held_by n) (set holders i y) + f h) (sym read) ∙ sum_by-set f holders i y x (slice_get_within holders i x at)
 
-module _ (holders : List (Option MNo)) (modes : List Mode) (holding spinning : List Bool) (kept : IsKept holders modes holding spinning) where
+module _ (holders : List (Option MNo)) (modes : List Mode) (holding spinning : List Bool) (kept : HaveFlags holders modes holding spinning) where
   -- the machine holds no processor, takes an idle one, and is in no blocking call
   pub taken : (m : MNo) (i : ℕ) → slice_get holders i ≡ Some None → flag_of holding m ≡ false → m.0 < length modes
       → ((n : MNo) → slice_get modes n.0 ≡ Some Calling → n.0 ≡ m.0 → ⊥)
-      → IsKept (set holders i (Some m)) modes (set holding m.0 true) spinning
+      → HaveFlags (set holders i (Some m)) modes (set holding m.0 true) spinning
   taken m i idle bare within awake = record {
     flags = length-set holding m.0 true ∙ kept.flags;
     spinners = kept.spinners;
@@ -115,7 +115,7 @@ module _ (holders : List (Option MNo)) (modes : List Mode) (holding spinning : L
   holder_within m i holds = flagged_within holding m (holder_flagged m m i holds refl)
 
   -- the machine gives up a processor that it holds
-  pub given_up : (m : MNo) (i : ℕ) → slice_get holders i ≡ Some (Some m) → IsKept (set holders i None) modes (set holding m.0 false) spinning
+  pub given_up : (m : MNo) (i : ℕ) → slice_get holders i ≡ Some (Some m) → HaveFlags (set holders i None) modes (set holding m.0 false) spinning
   given_up m i holds = record {
     flags = length-set holding m.0 false ∙ kept.flags;
     spinners = kept.spinners;
@@ -141,7 +141,7 @@ module _ (holders : List (Option MNo)) (modes : List Mode) (holding spinning : L
       callers n calls (inr other) = flag-set_other holding m.0 n false other ∙ kept.callers n calls
 
   -- a machine does something else; it holds no processor where that is a blocking call
-  pub turned : (m : MNo) (mode : Mode) → (mode ≡ Calling → flag_of holding m ≡ false) → IsKept holders (set modes m.0 mode) holding spinning
+  pub turned : (m : MNo) (mode : Mode) → (mode ≡ Calling → flag_of holding m ≡ false) → HaveFlags holders (set modes m.0 mode) holding spinning
   turned m mode bare = record {
     flags = kept.flags ∙ sym (length-set modes m.0 mode);
     spinners = kept.spinners ∙ sym (length-set modes m.0 mode);
@@ -152,5 +152,5 @@ module _ (holders : List (Option MNo)) (modes : List Mode) (holding spinning : L
       here : (n : MNo) → m.0 ≡ n.0 → Some mode ≡ Some Calling → flag_of holding n ≡ false
       here n same calls = same_flag holding n m (sym same) ∙ bare cc
 
-  pub spun : (other : List Bool) → length other ≡ length spinning → IsKept holders modes holding other
+  pub spun : (other : List Bool) → length other ≡ length spinning → HaveFlags holders modes holding other
   spun other same = record { flags = kept.flags; spinners = same ∙ kept.spinners; held = kept.held; callers = kept.callers }

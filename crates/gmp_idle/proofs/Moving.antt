@@ -12,8 +12,8 @@ use Rattle.gmp_base.specs.declared.number.PNo.{PNo}
 use Rattle.gmp_seq.specs.declared.call.Reply.TheVariants as reply
 use Rattle.gmp_seq.specs.declared.status.Mode.{Mode}
 use Rattle.gmp_seq.specs.declared.status.Mode.TheVariants.{Awake, Parked, Calling}
-use Rattle.gmp_seq.specs.Machines.{Machines, Enters, Holds, IsAwake, IsParked, Pokes, how_many_spin, is_held_by, is_parked, set_holder, set_mode, some_idle, some_parked, wants_poke}
-use Rattle.gmp_idle.specs.Kept.{IsKept, flag_of}
+use Rattle.gmp_seq.specs.Machines.{Machines, Enters, Holds, IsAwake, IsParked, Pokes, how_many_spin, is_held_by, is_parked_mode, set_holder, set_mode, some_idle, some_parked, wants_poke}
+use Rattle.gmp_idle.specs.Kept.{HaveFlags, flag_of}
 use Rattle.gmp_idle.specs.Replies.{poke_reply}
 use Rattle.gmp_idle.specs.Tables.{WakesLeast}
 use Rattle.gmp_idle.proofs.Holding.{flag-set_same, flag_told, given_up, holder_within, list_any-count_by, number_of, taken, turned}
@@ -31,24 +31,24 @@ first_idle holders i first =
     let there = position-Some is_none holders i none first in
     slice_get-get_or holders i none there.0 ∙ ap Some (nobody (get_or holders i none) there.1)
 
-parked_mode : (mode : Mode) → is_parked mode ≡ true → mode ≡ Parked
+parked_mode : (mode : Mode) → is_parked_mode mode ≡ true → mode ≡ Parked
 parked_mode Parked e = refl
 parked_mode _ e = absurd cc
 
-pub first_parked : (modes : List Mode) (i : ℕ) → position is_parked modes ≡ Some i → slice_get modes i ≡ Some Parked
+pub first_parked : (modes : List Mode) (i : ℕ) → position is_parked_mode modes ≡ Some i → slice_get modes i ≡ Some Parked
 first_parked modes i first =
-    let there = position-Some is_parked modes i Parked first in
+    let there = position-Some is_parked_mode modes i Parked first in
     slice_get-get_or modes i Parked there.0 ∙ ap Some (parked_mode (get_or modes i Parked) there.1)
 
-some_is_parked : (modes : List Mode) (i : ℕ) → position is_parked modes ≡ Some i → list_any is_parked modes ≡ true
+some_is_parked : (modes : List Mode) (i : ℕ) → position is_parked_mode modes ≡ Some i → list_any is_parked_mode modes ≡ true
 some_is_parked modes i first =
-    let there = position-Some is_parked modes i Parked first in
-    list_any_at is_parked modes i Parked there.0 there.1
+    let there = position-Some is_parked_mode modes i Parked first in
+    list_any_at is_parked_mode modes i Parked there.0 there.1
 
 -- What is kept
 
 -- nobody holds a processor, and no machine is in a blocking call
-pub kept_at_first : (procs machines : ℕ) → IsKept (replicate procs None) (replicate machines Awake) (replicate machines false) (replicate machines false)
+pub kept_at_first : (procs machines : ℕ) → HaveFlags (replicate procs None) (replicate machines Awake) (replicate machines false) (replicate machines false)
 kept_at_first procs machines = record {
   flags = length-replicate machines false ∙ sym (length-replicate machines Awake);
   spinners = length-replicate machines false ∙ sym (length-replicate machines Awake);
@@ -71,10 +71,10 @@ kept_at_first procs machines = record {
             let long = length-replicate machines false in
             get_or_past (replicate machines false) m.0 false (omega arith)
 
-module _ (holders : List (Option MNo)) (modes : List Mode) (holding spinning : List Bool) (kept : IsKept holders modes holding spinning) where
+module _ (holders : List (Option MNo)) (modes : List Mode) (holding spinning : List Bool) (kept : HaveFlags holders modes holding spinning) where
   -- a machine that is awake and holds no processor takes the first idle one
   pub kept_taken : (m : MNo) (i : ℕ) → slice_get modes m.0 ≡ Some Awake → list_any (is_held_by m) holders ≡ false → position is_none holders ≡ Some i
-      → IsKept (set holders i (Some m)) modes (set holding m.0 true) spinning
+      → HaveFlags (set holders i (Some m)) modes (set holding m.0 true) spinning
   kept_taken m i awake bare first =
       taken holders modes holding spinning kept m i (first_idle holders i first) (flag_told holders modes holding spinning m kept ∙ bare)
       (slice_get_within modes m.0 Awake awake) busy
@@ -84,7 +84,7 @@ module _ (holders : List (Option MNo)) (modes : List Mode) (holding spinning : L
           let here : slice_get modes m.0 ≡ Some Calling = ap (slice_get modes) (sym same) ∙ calls in
           cc
 
-  pub kept_woken : (r : Option MNo) (woken : List Mode) → WakesLeast r modes woken → IsKept holders woken holding spinning
+  pub kept_woken : (r : Option MNo) (woken : List Mode) → WakesLeast r modes woken → HaveFlags holders woken holding spinning
   kept_woken None woken wakes = rw wakes.1 kept
   kept_woken (Some n) woken wakes = rw wakes.1 (turned holders modes holding spinning kept n Awake (λ e. absurd cc))
 
@@ -97,7 +97,7 @@ module _ (holders : List (Option MNo)) (modes : List Mode) (holding spinning : L
 
   -- a machine that holds no processor goes into a blocking call, and another may have woken
   pub kept_entered : (m : MNo) (r : Option MNo) (woken : List Mode) → list_any (is_held_by m) holders ≡ false → WakesLeast r modes woken
-      → IsKept holders (set woken m.0 Calling) holding spinning
+      → HaveFlags holders (set woken m.0 Calling) holding spinning
   kept_entered m r woken bare wakes =
       turned holders woken holding spinning (kept_woken r woken wakes) m Calling (λ e. flag_told holders modes holding spinning m kept ∙ bare)
 

@@ -10,7 +10,7 @@ abbrev pub flag_of : List Bool → MNo → Bool
 flag_of flags m = unwrap_or (slice_get flags m.0) false
 
 -- each machine has a flag that says whether it holds a processor, and another that says whether it spins
-pub record IsKept (holders : List (Option MNo)) (modes : List Mode) (holding spinning : List Bool) : Type 0 where
+pub record HaveFlags (holders : List (Option MNo)) (modes : List Mode) (holding spinning : List Bool) : Type 0 where
   pub flags : length holding ≡ length modes
   pub spinners : length spinning ≡ length modes
   -- a machine holds one processor where its flag is true, and else none

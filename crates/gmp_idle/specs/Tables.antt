@@ -5,7 +5,7 @@ use Rattle.gmp_base.specs.declared.number.MNo.{MNo}
 use Rattle.gmp_base.specs.declared.number.PNo.{PNo}
 use Rattle.gmp_seq.specs.declared.status.Mode.{Mode}
 use Rattle.gmp_seq.specs.declared.status.Mode.TheVariants.{Awake}
-use Rattle.gmp_seq.specs.Machines.{is_parked}
+use Rattle.gmp_seq.specs.Machines.{is_parked_mode}
 
 -- the machine holds the least idle processor from now on, or none is idle
 abbrev pub TakesLeast : MNo → Option PNo → List (Option MNo) → List (Option MNo) → Type 0
@@ -14,5 +14,5 @@ TakesLeast m None old new = (list_any is_none old ≡ false) × (new ≡ old)
 
 -- the least parked machine is awake from now on, or none is parked
 abbrev pub WakesLeast : Option MNo → List Mode → List Mode → Type 0
-WakesLeast (Some m) old new = (position is_parked old ≡ Some m.0) × (new ≡ slice_set old m.0 Awake)
-WakesLeast None old new = (list_any is_parked old ≡ false) × (new ≡ old)
+WakesLeast (Some m) old new = (position is_parked_mode old ≡ Some m.0) × (new ≡ slice_set old m.0 Awake)
+WakesLeast None old new = (list_any is_parked_mode old ≡ false) × (new ≡ old)

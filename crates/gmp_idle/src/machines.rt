@@ -4,8 +4,8 @@ ghost use Rattle.std.specs.Option.{option_map_or};
 ghost use Rattle.gmp_base.specs.declared.number.Readiness.{Readiness};
 ghost use Rattle.gmp_seq.specs.declared.call.Reply.{Reply};
 ghost use Rattle.gmp_seq.specs.declared.status.Mode.{Mode};
-ghost use Rattle.gmp_seq.specs.Machines.{Acquires, Declares, Enters, Holds, IsAwake, IsParked, Looks, Pokes, Returns, Spins, Unspins, has_processor, how_many_spin, is_held_by, is_parked, may_spin, set_holder, set_mode, some_idle, spins};
-ghost use Rattle.gmp_idle.specs.Replies.{acquire_reply, is_awake_mode, is_calling_mode, poke_reply};
+ghost use Rattle.gmp_seq.specs.Machines.{Acquires, Declares, Enters, Holds, IsAwake, IsParked, Looks, Pokes, Returns, Spins, Unspins, has_processor, how_many_spin, is_held_by, is_parked_mode, may_spin, set_holder, set_mode, some_idle, spins, is_awake_mode, is_calling_mode};
+ghost use Rattle.gmp_idle.specs.Replies.{acquire_reply, poke_reply};
 
 use crate::modes::Modes;
 use crate::processors::Processors;
@@ -17,7 +17,7 @@ use std::marker::Model;
 
 /// Who holds each processor, what each machine does, and which of them spin. A contract sees the three lists.
 ///
-/// A machine holds one processor at most. Each call but `opening` is constant.
+/// A machine holds one processor at most.
 #[derive(Drop)]
 pub struct Machines {
     processors: Processors,
@@ -29,13 +29,13 @@ pub struct Machines {
 
 impl Model for Machines {
     ghost use Rattle.gmp_seq.specs.Machines.{Machines as MachinesValue};
-    ghost use Rattle.gmp_idle.specs.Kept.{IsKept};
+    ghost use Rattle.gmp_idle.specs.Kept.{HaveFlags};
 
     ghost Value = { MachinesValue };
 
     ghost view = { λ w. record { holders = w.processors; modes = w.modes; spinning = w.spinning } };
 
-    ghost invariant = { λ w. IsKept w.processors w.modes w.holding w.spinning };
+    ghost invariant = { λ w. HaveFlags w.processors w.modes w.holding w.spinning };
 }
 
 impl Machines {
@@ -70,7 +70,7 @@ impl Machines {
 
     /// Whether m is parked.
     pub fn is_parked(&self, m: MNo) -> bool
-        ensures { result ≡ option_map_or is_parked (slice_get self.now.modes m.0) false }
+        ensures { result ≡ option_map_or is_parked_mode (slice_get self.now.modes m.0) false }
     {
         matches!(self.modes.of(m), Some(Mode::Parked))
     }
@@ -147,7 +147,7 @@ impl Machines {
         requires awake { IsAwake self.old m }
         requires holds { Holds self.old m p }
         ensures enters { Enters m (Reply.Entered p result) self.old self.new }
-        ensures least { IfSome result (λ n. position is_parked self.old.modes ≡ Some n.0) }
+        ensures least { IfSome result (λ n. position is_parked_mode self.old.modes ≡ Some n.0) }
     {
         self.release(m, p);
         let woken = self.modes.wake_least();
@@ -204,7 +204,7 @@ impl Machines {
     pub fn poke(&mut self, m: MNo) -> Option<MNo>
         requires { IsAwake self.old m }
         ensures pokes { Pokes m (poke_reply result) self.old self.new }
-        ensures least { IfSome result (λ n. position is_parked self.old.modes ≡ Some n.0) }
+        ensures least { IfSome result (λ n. position is_parked_mode self.old.modes ≡ Some n.0) }
     {
         if !self.may_wake() {
             return None;

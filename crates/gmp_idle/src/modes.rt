@@ -22,13 +22,13 @@ pub(crate) struct Modes {
 impl Model for Modes {
     ghost use Rattle.std.specs.Prelude.{◌≡◌, List, map};
     ghost use Rattle.gmp_seq.specs.declared.status.Mode.{Mode};
-    ghost use Rattle.gmp_seq.specs.Machines.{is_parked};
+    ghost use Rattle.gmp_seq.specs.Machines.{is_parked_mode};
 
     ghost Value = { List Mode };
 
     ghost view = { λ w. w.modes.items };
 
-    ghost invariant = { λ w. w.parked ≡ map is_parked w.modes.items };
+    ghost invariant = { λ w. w.parked ≡ map is_parked_mode w.modes.items };
 }
 
 impl Modes {

@@ -5,7 +5,6 @@ use Rattle.std.specs.Option.{unwrap_or}
 use Rattle.gmp_base.specs.declared.ask.Woke.{Woke}
 use Rattle.gmp_base.specs.declared.ask.Woke.TheVariants as woke
 use Rattle.gmp_base.specs.declared.cases.Case.TheVariants as case
-use Rattle.gmp_seq.specs.State.{SameChannels}
 use Rattle.gmp_seq.proofs.Counts.{asleep_where_said}
 use Rattle.gmp_ledger.specs.Done.{IsDoneTo}
 use Rattle.gmp_seq.specs.declared.call.Call.TheVariants as call
@@ -15,7 +14,7 @@ use Rattle.gmp_seq.specs.declared.status.Status.TheVariants as status
 use Rattle.gmp_seq.proofs.Asleep.{fails_at}
 use Rattle.gmp_seq.proofs.Needed.{some_place}
 use Rattle.gmp_seq.specs.Machines.{Declares}
-use Rattle.gmp_seq.specs.Step.{ByRunning, Claims, Deals, Exits, Goparks, OnTable, Parks, Resumes, Selects, Sleeps, Yields}
+use Rattle.gmp_seq.specs.Step.{ByRunning, Claims, Deals, EntersBy, Exits, Goparks, LeavesBy, OnTable, Parks, Selects, Sleeps, Yields}
 use Rattle.gmp_seq.specs.Table.{answer_of_ready, deadline_of, is_astir, is_ready_or_running, is_shelved, least_deadline, least_of, minded, set_status, stored_at}
 use Rattle.gmp_ledger.specs.Laws.{StepsAre}
 
@@ -67,9 +66,9 @@ select cases has_default until limits m g p answer old new order grants (ongoing
 entered : StepsAre call.Enter (λ m g p answer old new. (woken : Option MNo) × (answer ≡ reply.Entered p woken))
 entered limits m g p answer old new order (runs, holds, awake) (ongoing, (h, here, (table, done, same)), counted, ended) = enters limits m p answer old new order holds done
 
-leave : (number : ℕ) → StepsAre (call.Leave number) (λ m g p answer old new. Resumes g m number answer old.table new.table)
-leave number limits m g p answer old new order (calls, free, mode) (ongoing, (h, here, done, returns, same), counted, ended) =
-    by_caller limits m g h old (λ (k : GNo). Resumes k m number answer old.table new.table) order calls here done
+leave : (number : ℕ) → StepsAre (call.Leave number) (λ m g p answer old new. LeavesBy m g number answer old new)
+leave number limits m g p answer old new order (calls, free, mode) (ongoing, (h, here, done), counted, ended) =
+    by_caller limits m g h old (λ (k : GNo). LeavesBy m k number answer old new) order calls here done
 
 declare : StepsAre call.Declare (λ m g p answer old new. answer ≡ reply.Idle p)
 declare limits m g p answer old new order (free, calm, holds) (ongoing, (nothing, done), counted, ended) = declares limits m p answer old new order holds done.0
@@ -145,12 +144,11 @@ done (call.Sleep until) limits m g p answer old new order grants step = (by_this
 done call.Gopark limits m g p answer old new order grants step = (by_this limits m g old (λ (h : GNo). OnTable (Goparks h answer) old new) order grants step.1).0
 done call.Enter limits m g p answer old new order grants step =
     let woken = entered limits m g p answer old new order grants step in (
-      (by_this limits m g old (λ (h : GNo). (new.table ≡ set_status old.table h (status.Calling m)) × Enters m answer old.machines new.machines × SameChannels old new) order grants.0 step.1).0,
+      (by_this limits m g old (λ (h : GNo). EntersBy m h answer old new) order grants.0 step.1).0,
       woken.0,
       woken.1,
     )
-done (call.Leave number) limits m g p answer old new order grants step =
-    (leave number limits m g p answer old new order grants step, step.1.3, step.1.4)
+done (call.Leave number) limits m g p answer old new order grants step = leave number limits m g p answer old new order grants step
 done call.Declare limits m g p answer old new order grants step = declare limits m g p answer old new order grants step
 done call.Park limits m g p answer old new order grants step =
     (asleep_where_said limits m answer old new step, λ until. park_minds until limits m g p answer old new order grants step)

@@ -5,11 +5,10 @@ use Rattle.std.proofs.lemmas.Bool.Decides.{nat_tests}
 use Rattle.gmp_seq.specs.declared.call.Call.TheVariants as call
 use Rattle.gmp_seq.specs.declared.status.Mode.TheVariants as mode
 use Rattle.gmp_seq.specs.declared.status.Status.TheVariants as status
-use Rattle.gmp_seq.specs.Machines.{Machines, is_held_by}
+use Rattle.gmp_seq.specs.Machines.{Machines, is_held_by, is_awake_mode, is_calling_mode}
 use Rattle.gmp_seq.specs.Needs.{IsOut}
 use Rattle.gmp_seq.specs.Table.{is_out, is_outstanding}
 use Rattle.gmp_table.proofs.Moves.{given_out}
-use Rattle.gmp_idle.specs.Replies.{is_awake_mode, is_calling_mode}
 use Rattle.gmp_ledger.specs.Handed.{held_handed}
 use Rattle.gmp_ledger.specs.Laws.{NeedsOf}
 use Rattle.gmp_ledger.specs.Log.{calls_of}

@@ -11,9 +11,8 @@ use Rattle.gmp_seq.specs.declared.call.Reply.TheVariants as reply
 use Rattle.gmp_seq.specs.declared.status.Place.TheVariants.{Out}
 use Rattle.gmp_seq.specs.declared.status.Status.TheVariants.{Calling}
 use Rattle.gmp_seq.specs.State.{State}
-use Rattle.gmp_seq.specs.Step.{Deals, Exits, Goparks, Selects, Sleeps, Yields}
+use Rattle.gmp_seq.specs.Step.{Deals, Exits, Goparks, Selects, Sleeps, Yields, LeavesBy}
 use Rattle.gmp_seq.specs.Table.{IsAsleep, IsReady, minded, set_status, stored_at}
-use Rattle.gmp_ledger.specs.Grants.{Leaves}
 
 -- A call of m that was handed the goroutine g or the processor p, and was answered so: who yields is ready, who exits is dead, who waits does
 -- so until the moment and for the offers that the call names, and whose blocking call begins or ends is that goroutine.
@@ -28,7 +27,7 @@ IsDoneTo (call.Select cases has_default until) m g p answer old new = Selects g 
 IsDoneTo (call.Sleep until) m g p answer old new = Sleeps g until answer old.table new.table
 IsDoneTo call.Gopark m g p answer old new = Goparks g answer old.table new.table
 IsDoneTo call.Enter m g p answer old new = (new.table ≡ set_status old.table g (Calling m)) × (woken : Option MNo) × (answer ≡ reply.Entered p woken)
-IsDoneTo (call.Leave number) m g p answer old new = Leaves m g number answer old new
+IsDoneTo (call.Leave number) m g p answer old new = LeavesBy m g number answer old new
 IsDoneTo call.Declare m g p answer old new = answer ≡ reply.Idle p
 -- all are asleep exactly where a park says so, and it tells a moment exactly where nobody is ready or running and that is the least deadline
 IsDoneTo call.Park m g p answer old new = (answer ≡ reply.AllAsleep ↔ IsAsleep old.table) × ((until : ℕ) → answer ≡ reply.Mind until ↔ (minded old.table ≡ Some until))

@@ -9,9 +9,9 @@ use Rattle.gmp_seq.specs.declared.call.Call.TheVariants as call
 use Rattle.gmp_seq.specs.declared.call.Reply.{Reply}
 use Rattle.gmp_seq.specs.declared.call.Reply.TheVariants as reply
 use Rattle.gmp_seq.specs.declared.status.Mode.TheVariants as mode
-use Rattle.gmp_seq.specs.Machines.{Holds, IsAwake, IsBare, IsParked, has_processor, Returns, is_parked, spins}
-use Rattle.gmp_seq.specs.State.{State, SameChannels}
-use Rattle.gmp_seq.specs.Step.{IsFree, Resumes}
+use Rattle.gmp_seq.specs.Machines.{Holds, IsAwake, IsBare, IsParked, has_processor, is_parked_mode, spins}
+use Rattle.gmp_seq.specs.State.{State}
+use Rattle.gmp_seq.specs.Step.{IsFree}
 use Rattle.gmp_seq.specs.Table.{IsCalling, IsRunning, RunsNothing, is_outstanding}
 use Rattle.gmp_ledger.specs.declared.handed.Handed.{Handed}
 use Rattle.gmp_ledger.specs.Handed.{nothing_handed, ticket_handed, held_handed, held_and_proc_handed, called_handed, proc_handed}
@@ -69,11 +69,7 @@ abbrev pub Chooses : Call → ℕ → Reply → State → List GNo → Type 0
 Chooses call.Acquire word (reply.Proc p) s shelf = position is_none s.machines.holders ≡ Some p.0
 Chooses (call.Leave number) word (reply.Runs p) s shelf = position is_none s.machines.holders ≡ Some p.0
 Chooses call.Take word (reply.Ticket r) s shelf = slice_get shelf 0 ≡ Some r.g
-Chooses call.Enter word (reply.Entered p (Some n)) s shelf = position is_parked s.machines.modes ≡ Some n.0
-Chooses call.Poke word (reply.Wakes n) s shelf = position is_parked s.machines.modes ≡ Some n.0
+Chooses call.Enter word (reply.Entered p (Some n)) s shelf = position is_parked_mode s.machines.modes ≡ Some n.0
+Chooses call.Poke word (reply.Wakes n) s shelf = position is_parked_mode s.machines.modes ≡ Some n.0
 Chooses (call.Select cases has_default until) word answer s shelf = IsChoice s cases word answer
 Chooses _ word answer s shelf = Unit {0}
-
--- g comes back from the blocking call that m makes
-abbrev pub Leaves : MNo → GNo → ℕ → Reply → State → State → Type 0
-Leaves m g number reply old new = Resumes g m number reply old.table new.table × Returns m reply old.machines new.machines × SameChannels old new

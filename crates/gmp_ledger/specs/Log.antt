@@ -7,7 +7,7 @@ use Rattle.gmp_seq.specs.declared.call.Entry.{Entry}
 use Rattle.gmp_seq.specs.declared.call.Call.{Call}
 use Rattle.gmp_seq.specs.declared.call.Limits.{Limits}
 use Rattle.gmp_seq.specs.declared.call.Reply.{Reply}
-use Rattle.gmp_seq.specs.State.{State, opening}
+use Rattle.gmp_seq.specs.State.{State, main, opening}
 use Rattle.gmp_seq.specs.Step.{Step}
 use Rattle.gmp_goroutines.specs.Shelf.{Shelves}
 
@@ -32,7 +32,7 @@ opening_log run limits bodies capacities = record {
   start = opening limits bodies capacities;
   history = [];
   state = opening limits bodies capacities;
-  shelf = record { 0 = 0 } ∷ [];
+  shelf = main ∷ [];
 }
 
 -- how many calls were accepted, of all machines and since the opening

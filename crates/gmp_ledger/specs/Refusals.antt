@@ -11,10 +11,9 @@ use Rattle.gmp_base.specs.declared.refusal.Refusal.TheVariants.{Over, WrongRun, 
 use Rattle.gmp_base.specs.declared.refusal.Refused.{Refused}
 use Rattle.gmp_seq.specs.declared.call.Call.{Call}
 use Rattle.gmp_seq.specs.declared.call.Call.TheVariants as call
-use Rattle.gmp_seq.specs.Machines.{has_processor, is_held_by, spins}
+use Rattle.gmp_seq.specs.Machines.{has_processor, is_held_by, spins, is_awake_mode, is_calling_mode}
 use Rattle.gmp_seq.specs.State.{State}
 use Rattle.gmp_seq.specs.Table.{is_calling_on, is_outstanding, is_running_on, some_status, status_at}
-use Rattle.gmp_idle.specs.Replies.{is_awake_mode, is_calling_mode}
 use Rattle.gmp_ledger.specs.declared.handed.Handed.{Handed}
 use Rattle.gmp_ledger.specs.Handed.{names_other}
 use Rattle.gmp_ledger.specs.Log.{Log, calls_of, entries_made}
@@ -77,8 +76,8 @@ pub record Line : Type 0 where
   pub test : Bool
   pub why : Refusal
 
-abbrev pub line : Bool → Refusal → Line
-line test why = record { test = test; why = why }
+abbrev pub refusal_line : Bool → Refusal → Line
+refusal_line test why = record { test = test; why = why }
 
 -- the refusal of the first line that holds
 abbrev pub first_refusal : List Line → Option Refusal
@@ -89,19 +88,19 @@ first_refusal (l ∷ ls) = if l.test then Some l.why else first_refusal ls
 -- is over
 abbrev pub turn_lines : Log → Pass → Handed → List Line
 turn_lines log pass values =
-    line (is_foreign log pass values) WrongRun
-    ∷ line (not (pass.calls == calls_of log pass.m)) (OutOfTurn (calls_of log pass.m))
-    ∷ line (nat_lt (entries_made log) pass.seen) (Behind (entries_made log) pass.seen)
-    ∷ line (is_some log.state.outcome) Over
+    refusal_line (is_foreign log pass values) WrongRun
+    ∷ refusal_line (not (pass.calls == calls_of log pass.m)) (OutOfTurn (calls_of log pass.m))
+    ∷ refusal_line (nat_lt (entries_made log) pass.seen) (Behind (entries_made log) pass.seen)
+    ∷ refusal_line (is_some log.state.outcome) Over
     ∷ []
 
 -- when the state does not allow what the machine asks
 abbrev pub need_lines : State → MNo → Call → Handed → List Line
 need_lines s m asked values =
-    line (is_busy s m asked) Busy
-    ∷ line (lacks_processor s m asked) NoProcessor
-    ∷ line (is_spent s values) NotOutstanding
-    ∷ line (is_anothers s m values) NotHeld
+    refusal_line (is_busy s m asked) Busy
+    ∷ refusal_line (lacks_processor s m asked) NoProcessor
+    ∷ refusal_line (is_spent s values) NotOutstanding
+    ∷ refusal_line (is_anothers s m values) NotHeld
     ∷ []
 
 -- Why a call with these values is refused, if it is: by the first line that holds.

@@ -2,7 +2,7 @@
 ghost use Rattle.std.specs.Prelude.{◌≡◌, ◌<◌, All, List, None, false, slice_get, IfNone, IfOk, OnErr, OnOk};
 ghost use Rattle.gmp_seq.specs.declared.call.Entry.{Entry};
 ghost use Rattle.gmp_seq.specs.Fits.{AreLimits, Fits};
-ghost use Rattle.gmp_seq.specs.Machines.{is_parked};
+ghost use Rattle.gmp_seq.specs.Machines.{is_parked_mode};
 ghost use Rattle.gmp_seq.specs.Run.{IsLegal, Run};
 ghost use Rattle.gmp_seq.specs.State.{opening};
 ghost use Rattle.gmp_seq.specs.Table.{is_outstanding, is_shelved};
@@ -117,7 +117,7 @@ impl Ledger {
 
     /// Whether the machine is parked.
     pub fn is_parked(&self, m: MNo) -> bool
-        ensures { result ≡ option_map_or is_parked (slice_get self.now.state.machines.modes m.0) false }
+        ensures { result ≡ option_map_or is_parked_mode (slice_get self.now.state.machines.modes m.0) false }
     {
         self.scheduler.machines.is_parked(m)
     }
@@ -230,10 +230,8 @@ impl Ledger {
         if let Some(why) = self.refusal(pass, &call, values) {
             return Err(why);
         }
-        match self.accept(memory, pass, call, values, word) {
-            Ok(reply) => Ok(reply),
-            Err(_) => Err(Refusal::OutOfMemory),
-        }
+        self.accept(memory, pass, call, values, word)
+            .map_err(|_| Refusal::OutOfMemory)
     }
 
     /// The limits, what the channels of the opening could hold, and the history.

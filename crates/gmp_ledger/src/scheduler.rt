@@ -6,14 +6,14 @@ ghost use Rattle.gmp_seq.specs.declared.status.Mode.{Mode};
 ghost use Rattle.gmp_seq.specs.declared.status.Status.{Status};
 ghost use Rattle.gmp_seq.specs.Fits.{AreLimits};
 ghost use Rattle.gmp_seq.specs.Machines.{Enters, Holds, IsAwake, IsBare};
-ghost use Rattle.gmp_seq.specs.State.{SameChannels, opening};
-ghost use Rattle.gmp_seq.specs.Step.{Effect, Exits, OnTable, Parks, counted_one};
+ghost use Rattle.gmp_seq.specs.State.{SameChannels, main, opening};
+ghost use Rattle.gmp_seq.specs.Step.{Effect, Exits, OnTable, Parks, counted_one, LeavesBy};
 ghost use Rattle.gmp_seq.specs.Table.{IsCalling, IsRunning, RunsNothing, set_status};
 ghost use Rattle.gmp_goroutines.specs.Shelf.{Shelves};
 ghost use Rattle.gmp_seq.specs.Needs.{WantsMemory};
-ghost use Rattle.gmp_ledger.specs.Grants.{Chooses, Grants, Leaves, NeedsMemory};
+ghost use Rattle.gmp_ledger.specs.Grants.{Chooses, Grants, NeedsMemory};
 ghost use Rattle.gmp_ledger.specs.Kept.{IsSized};
-ghost use Rattle.gmp_ledger.specs.Scene.{IsYoung, SameRest, scheduler_state};
+ghost use Rattle.gmp_ledger.specs.Scene.{IsYoung, KeepsCounts, scheduler_state};
 
 mod refusing;
 
@@ -43,7 +43,7 @@ impl Scheduler {
     ) -> Result<Self, AllocError>
         requires { AreLimits limits bodies capacities.now }
         ensures state { IfOk result (λ s. scheduler_state s ≡ opening limits bodies capacities.now) }
-        ensures shelf { IfOk result (λ s. s.goroutines.shelf ≡ record { 0 = 0 } ∷ []) }
+        ensures shelf { IfOk result (λ s. s.goroutines.shelf ≡ main ∷ []) }
         ensures sized { IfOk result (IsSized limits) }
     {
         let (machines, channels) = (limits.machines, limits.channels);
@@ -76,7 +76,7 @@ impl Scheduler {
         ensures effect { IfOk result (λ reply. (counts : List ℕ) (outcome : Option Outcome) → Effect limits m call.now reply (scheduler_state self.old) (record (scheduler_state self.new) { counts = counts; outcome = outcome })) }
         ensures shelf { IfOk result (λ reply. Shelves call.now reply self.old.goroutines.table self.new.goroutines.table self.old.goroutines.shelf self.new.goroutines.shelf) }
         ensures choice { IfOk result (λ reply. Chooses call.now word reply (scheduler_state self.old) self.old.goroutines.shelf) }
-        ensures rest { SameRest self.old self.new }
+        ensures rest { KeepsCounts self.old self.new }
         ensures err { OnErr result (self.new ≡ self.old) }
         ensures wanted { OnErr result (WantsMemory limits call.now (scheduler_state self.old)) }
     {
@@ -142,7 +142,7 @@ impl Scheduler {
         requires runs { IsRunning self.old.goroutines.table g m }
         ensures exits { OnTable (Exits g result) (scheduler_state self.old) (scheduler_state self.new) }
         ensures shelf { self.new.goroutines.shelf ≡ self.old.goroutines.shelf }
-        ensures rest { SameRest self.old self.new }
+        ensures rest { KeepsCounts self.old self.new }
     {
         self.goroutines.exit(g);
         if g.0 == 0 {
@@ -182,7 +182,7 @@ impl Scheduler {
         ensures channels { SameChannels (scheduler_state self.old) (scheduler_state self.new) }
         ensures shelf { self.new.goroutines.shelf ≡ self.old.goroutines.shelf }
         ensures choice { Chooses Call.Enter 0 result (scheduler_state self.old) self.old.goroutines.shelf }
-        ensures rest { SameRest self.old self.new }
+        ensures rest { KeepsCounts self.old self.new }
     {
         self.goroutines.enter(m, g);
         Reply::Entered(p, self.machines.enter(m, p))
@@ -196,10 +196,10 @@ impl Scheduler {
         requires mode { slice_get self.old.machines.modes m.0 ≡ Some Mode.Calling }
         requires young { IsYoung (scheduler_state self.old) }
         requires there { m.0 < self.old.goroutines.machines }
-        ensures leaves { Leaves m g number result (scheduler_state self.old) (scheduler_state self.new) }
+        ensures leaves { LeavesBy m g number result (scheduler_state self.old) (scheduler_state self.new) }
         ensures shelf { Shelves (Call.Leave number) result self.old.goroutines.table self.new.goroutines.table self.old.goroutines.shelf self.new.goroutines.shelf }
         ensures choice { Chooses (Call.Leave number) 0 result (scheduler_state self.old) self.old.goroutines.shelf }
-        ensures rest { SameRest self.old self.new }
+        ensures rest { KeepsCounts self.old self.new }
     {
         match self.machines.leave(m) {
             Some(p) => {
@@ -212,7 +212,7 @@ impl Scheduler {
 
     /// m made one entry more, which was answered so.
     pub(crate) fn count_one(&mut self, limits: Limits, m: MNo, reply: Reply)
-        requires counted { m.0 < length self.old.counts }
+        requires there { m.0 < length self.old.counts }
         requires few { sum self.old.counts < 2 ^ 63 }
         ensures counted { scheduler_state self.new ≡ counted_one limits m reply (scheduler_state self.old) }
         ensures rest { self.new ≡ record self.old { counts = self.new.counts; outcome = self.new.outcome } }

@@ -15,7 +15,7 @@ use Rattle.gmp_queue.specs.Ends.{owner_view, thief_view, SameOwner, IsThiefOf, A
 use Rattle.std.specs.List.{slice_index_or}
 use Rattle.gmp_queue.specs.declared.ends.Thief.{Thief}
 use Rattle.gmp_queue.specs.Queue.{view_with, all_parts, taken, AreBefore, PoppedFirst, TookAll, FoundNone}
-use Rattle.gmp_queue.specs.Closed.{parts_of, IsRising, Appends, Closes, GivesBack, Drains, Gathers}
+use Rattle.gmp_queue.specs.Closed.{pair_taken, IsRising, Appends, ClosesQueue, GivesBack, Drains, Gathers}
 
 pub all_left : (P : Taken → Type 0) (xs ys : List Taken) → All P (xs ++ ys) → All P xs
 all_left P xs ys h = subst (All P) (take-append_seam xs ys) (All-take P (length xs) (xs ++ ys) h)
@@ -56,7 +56,7 @@ drains_more v w u old mid new r d first more =
     let before : AreBefore first.0 (v.took ++ popped) = subst (λ (x : View). AreBefore first.0 x.took) d.1 first.1.1 in (
       popped ++ t ∷ [],
       first.1.0 ∙ ap (λ (x : View). view_with x.owner x.parts x.put (x.took ++ t ∷ [])) d.1 ∙ ap (view_with v.owner v.parts v.put) (append_assoc v.took popped (t ∷ [])),
-      more ∙ ap (λ (l : List (GNo × ℕ)). l ++ parts_of t ∷ []) d.2 ∙ append_assoc old (map parts_of popped) (parts_of t ∷ []) ∙ ap (λ (l : List (GNo × ℕ)). old ++ l) (sym (map-append parts_of popped (t ∷ []))),
+      more ∙ ap (λ (l : List (GNo × ℕ)). l ++ pair_taken t ∷ []) d.2 ∙ append_assoc old (map pair_taken popped) (pair_taken t ∷ []) ∙ ap (λ (l : List (GNo × ℕ)). old ++ l) (sym (map-append pair_taken popped (t ∷ []))),
       rising_push popped t d.3 (all_right (λ (x : Taken). x.at < first.0) v.took popped before),
       All-push (λ (x : Taken). AreBefore x.at v.took) popped t d.4 (all_left (λ (x : Taken). x.at < first.0) v.took popped before),
     )
@@ -104,7 +104,7 @@ two_drains h v w u thieves old mid new one gifts two =
     let late : All (λ (t : Taken). AreBefore t.at ((h.took ++ one.0) ++ theirs)) two.0 = subst (λ (x : View). All (λ (t : Taken). AreBefore t.at x.took) two.0) w_is two.4 in (
       one.0 ++ two.0,
       (
-        two.2 ∙ ap (λ (l : List (GNo × ℕ)). l ++ map parts_of two.0) one.2 ∙ append_assoc old (map parts_of one.0) (map parts_of two.0) ∙ ap (λ (l : List (GNo × ℕ)). old ++ l) (sym (map-append parts_of one.0 two.0)),
+        two.2 ∙ ap (λ (l : List (GNo × ℕ)). l ++ map pair_taken two.0) one.2 ∙ append_assoc old (map pair_taken one.0) (map pair_taken two.0) ∙ ap (λ (l : List (GNo × ℕ)). old ++ l) (sym (map-append pair_taken one.0 two.0)),
         rising_append one.0 two.0 one.3 two.3
             (λ k d lt. (let P : Taken → Type 0 = λ t. t.at < (slice_index_or two.0 k d).at in all_right P h.took one.0 (all_left P (h.took ++ one.0) theirs (late k d lt)))),
       ),
@@ -114,7 +114,7 @@ two_drains h v w u thieves old mid new one gifts two =
     )
 
 -- the second finds none
-pub closes : (o : Owner) (thieves : List Thief) (v w u : View) (old mid new : List (GNo × ℕ)) → Drains (owner_view o) v old mid → Gathers v thieves w → Drains w u mid new → FoundNone u → Closes o thieves old new
+pub closes : (o : Owner) (thieves : List Thief) (v w u : View) (old mid new : List (GNo × ℕ)) → Drains (owner_view o) v old mid → Gathers v thieves w → Drains w u mid new → FoundNone u → ClosesQueue o thieves old new
 closes o thieves v w u old mid new one gifts two none =
     let d = two_drains (owner_view o) v w u thieves old mid new one gifts two in
     let all : TookAll (owner_view o).put u.took = subst (λ put. TookAll put u.took) d.3 (none d.4) in

@@ -9,8 +9,8 @@ use Rattle.gmp_queue.specs.Queue.{all_parts, TookAll, AreBefore}
 use Rattle.gmp_queue.specs.Ends.{owner_view, thief_view, SameOwner, AreTheEnds, taken_by}
 
 -- goroutine and epoch of what was taken
-abbrev pub parts_of : Taken → GNo × ℕ
-parts_of t = (t.readiness.g, t.readiness.epoch)
+abbrev pub pair_taken : Taken → GNo × ℕ
+pair_taken t = (t.readiness.g, t.readiness.epoch)
 
 -- taken one after another
 abbrev pub IsRising : List Taken → Type 0
@@ -19,11 +19,11 @@ IsRising (t ∷ ts) = All (λ (u : Taken). t.at < u.at) ts × IsRising ts
 
 -- these were appended, one after another
 abbrev pub Appends : List Taken → List (GNo × ℕ) → List (GNo × ℕ) → Type 0
-Appends left old new = (new ≡ old ++ map parts_of left) × IsRising left
+Appends left old new = (new ≡ old ++ map pair_taken left) × IsRising left
 
 -- what was appended and what the ends had taken is all that was put, from each position once
-abbrev pub Closes : Owner → List Thief → List (GNo × ℕ) → List (GNo × ℕ) → Type 0
-Closes o thieves old new = (left : List Taken) × Appends left old new × TookAll (owner_view o).put (taken_by o thieves ++ left)
+abbrev pub ClosesQueue : Owner → List Thief → List (GNo × ℕ) → List (GNo × ℕ) → Type 0
+ClosesQueue o thieves old new = (left : List Taken) × Appends left old new × TookAll (owner_view o).put (taken_by o thieves ++ left)
 
 -- all ends come back, and what was appended is what they have taken beside what they had
 pub record GivesBack (o : Owner) (thieves : List Thief) (old new : List (GNo × ℕ)) (p : Owner) (back : List Thief) : Type 0 where
@@ -37,7 +37,7 @@ pub record GivesBack (o : Owner) (thieves : List Thief) (old new : List (GNo × 
 -- what was taken, after all that the view had taken from before, is appended
 abbrev pub Drains : View → View → List (GNo × ℕ) → List (GNo × ℕ) → Type 0
 Drains v w old new =
-    (popped : List Taken) × (w ≡ record v { took = v.took ++ popped }) × (new ≡ old ++ map parts_of popped)
+    (popped : List Taken) × (w ≡ record v { took = v.took ++ popped }) × (new ≡ old ++ map pair_taken popped)
     × IsRising popped × All (λ (t : Taken). AreBefore t.at v.took) popped
 
 -- the view of an owner to which its thieves gave theirs

@@ -2,7 +2,7 @@
 ghost use Rattle.std.specs.Prelude.{◌≡◌, [], IfErr, IfOk};
 ghost use Rattle.gmp_queue.specs.Queue.{FoundNone};
 ghost use Rattle.gmp_queue.specs.Ends.{owner_view, AreTheEnds, SameOwner};
-ghost use Rattle.gmp_queue.specs.Closed.{Closes, Drains, Gathers, GivesBack};
+ghost use Rattle.gmp_queue.specs.Closed.{ClosesQueue, Drains, Gathers, GivesBack};
 
 use crate::ends::{Owner, Thief};
 use gmp_base::GNo;
@@ -16,7 +16,7 @@ pub fn close(
     out: &mut Vec<(GNo, u64)>,
 ) -> Result<(), (Owner, Vec<Thief>)>
     requires { AreTheEnds owner thieves.items }
-    ensures closed { IfOk result (λ _. Closes owner thieves.items out.old.items out.new.items) }
+    ensures closed { IfOk result (λ _. ClosesQueue owner thieves.items out.old.items out.new.items) }
     ensures back { IfErr result (λ ends. GivesBack owner thieves.items out.old.items out.new.items ends.0 ends.1.items) }
 {
     if drain(&mut owner, out).is_err() {

@@ -15,29 +15,29 @@ use Rattle.gmp_queue.specs.declared.ends.Owner.{Owner}
 use Rattle.gmp_queue.specs.declared.ends.Thief.{Thief}
 use Rattle.gmp_queue.specs.Ends.{KeepsOwner, KeepsThief, owner_run, owner_view}
 use Rattle.gmp_queue.specs.Queue.{FoundNone, PoppedFirst, PutLast}
-use Rattle.gmp_queue_turn.specs.Turns.{Pops, Pushes, UsesThief, owner_in, with_owner, with_stolen}
+use Rattle.gmp_queue_turn.specs.Turns.{PopsOwn, Pushes, UsesThief, owner_held, with_own_queue, with_stolen}
 
 -- the own queue's end: the processor x was taken out, and is back with the end p
 module _ {T : Type 0} (load : Load T Owner) (x : Proc Owner) (p : Owner) (back : Option (Proc Owner)) (has : load.proc ≡ Some x) (is : back ≡ Some (record x { owner = p })) (same : KeepsOwner x.owner p) where
-  own : owner_in (parts_of load) ≡ Some x.owner
+  own : owner_held (parts_of load) ≡ Some x.owner
   own = ap (λ (o : Option (Proc Owner)). option_map (λ (y : ProcParts Owner). y.owner) (option_map proc_parts o)) has
 
-  kept : parts_of (record load { proc = back }) ≡ with_owner p (parts_of load)
+  kept : parts_of (record load { proc = back }) ≡ with_own_queue p (parts_of load)
   kept = rw (is, has) refl
 
   pub was_got : (t : Ticket) (to_claim : Option Ticket) → to_claim ≡ Some t → (t.run ≡ load.pass.run) × (owner_run x.owner ≡ load.pass.run) × PoppedFirst (owner_view x.owner) (readiness_of t ∷ []) (owner_view p)
-      → Pops load.pass.run (parts_of load) told.Got (parts_of (record load { proc = back; to_claim = to_claim }))
+      → PopsOwn load.pass.run (parts_of load) told.Got (parts_of (record load { proc = back; to_claim = to_claim }))
   was_got t to_claim filled step =
-      let e : parts_of (record load { proc = back; to_claim = to_claim }) ≡ record (with_owner p (parts_of load)) { to_claim = Some (readiness_of t) } = rw (is, has, filled) refl in
+      let e : parts_of (record load { proc = back; to_claim = to_claim }) ≡ record (with_own_queue p (parts_of load)) { to_claim = Some (readiness_of t) } = rw (is, has, filled) refl in
       (readiness_of t, record { before = x.owner; behind = p; own = own; same = same; step = (step.1, step.2, e) })
 
-  pub was_empty : (owner_view p ≡ owner_view x.owner) × (owner_run x.owner ≡ load.pass.run → FoundNone (owner_view x.owner)) → Pops load.pass.run (parts_of load) told.Empty (parts_of (record load { proc = back }))
+  pub was_empty : (owner_view p ≡ owner_view x.owner) × (owner_run x.owner ≡ load.pass.run → FoundNone (owner_view x.owner)) → PopsOwn load.pass.run (parts_of load) told.Empty (parts_of (record load { proc = back }))
   was_empty step = record { before = x.owner; behind = p; own = own; same = same; step = (step.0, step.1, kept) }
 
   pub was_pushed : (t : Ticket) (to_store : Option Ticket) → load.to_store ≡ Some t → to_store ≡ None → IfSome load.to_store (λ (u : Ticket). u.run ≡ load.pass.run) → (t.run ≡ owner_run x.owner) × PutLast (owner_view x.owner) (readiness_of t ∷ []) (owner_view p)
       → Pushes load.pass.run (parts_of load) told.Pushed (parts_of (record load { proc = back; to_store = to_store }))
   was_pushed t to_store held left its step =
-      let e : parts_of (record load { proc = back; to_store = to_store }) ≡ record (with_owner p (parts_of load)) { to_store = None } = rw (is, has, left) refl in
+      let e : parts_of (record load { proc = back; to_store = to_store }) ≡ record (with_own_queue p (parts_of load)) { to_store = None } = rw (is, has, left) refl in
       let of_run : t.run ≡ load.pass.run = subst (λ (o : Option Ticket). IfSome o (λ (u : Ticket). u.run ≡ load.pass.run)) held its in
       (readiness_of t, ap (λ (o : Option Ticket). option_map readiness_of o) held, record { before = x.owner; behind = p; own = own; same = same; step = (sym step.0 ∙ of_run, step.1, e) })
 
@@ -45,7 +45,7 @@ module _ {T : Type 0} (load : Load T Owner) (x : Proc Owner) (p : Owner) (back :
       → Pushes load.pass.run (parts_of load) told.PushRefused (parts_of (record load { proc = back; to_store = to_store }))
   was_refused t u to_store held filled step =
       let again : to_store ≡ load.to_store = filled ∙ ap (λ (v : Ticket). Some v) step.0 ∙ sym held in
-      let e : parts_of (record load { proc = back; to_store = to_store }) ≡ with_owner p (parts_of load) = ap (λ (o : Option Ticket). parts_of (record load { proc = back; to_store = o })) again ∙ kept in
+      let e : parts_of (record load { proc = back; to_store = to_store }) ≡ with_own_queue p (parts_of load) = ap (λ (o : Option Ticket). parts_of (record load { proc = back; to_store = o })) again ∙ kept in
       record { before = x.owner; behind = p; own = own; same = same; step = (step.1, e) }
 
 -- the victim's thief

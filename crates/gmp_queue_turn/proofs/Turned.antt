@@ -4,7 +4,7 @@ use Rattle.std.specs.Option.{option_map}
 use Rattle.gmp_base.specs.declared.number.PNo.{PNo}
 use Rattle.gmp_base.specs.declared.number.Readiness.{Readiness}
 use Rattle.gmp_base.specs.declared.pass.Pass.{Pass}
-use Rattle.gmp_base.specs.Values.{readiness_of}
+use Rattle.gmp_base.specs.Values.{readiness_of, ticket_by}
 use Rattle.gmp_driver.proofs.Local.{can_be_told}
 use Rattle.gmp_driver.proofs.Parts.{whole}
 use Rattle.gmp_driver.specs.declared.act.Act.{Act}
@@ -16,18 +16,18 @@ use Rattle.gmp_driver.specs.declared.act.Tried.TheVariants as tried
 use Rattle.gmp_driver.specs.declared.load.Load.{Load}
 use Rattle.gmp_driver.specs.declared.registers.ProcParts.{ProcParts}
 use Rattle.gmp_driver.specs.declared.registers.Registers.{Registers}
-use Rattle.gmp_driver.specs.Fits.{Fits}
+use Rattle.gmp_driver.specs.Fits.{SuitsPlace}
 use Rattle.gmp_driver.specs.Hunt.{begun, victim_of}
-use Rattle.gmp_driver.specs.Loads.{called_of, called_parts, held_of, held_parts, load_of, parts_of, proc_of, proc_parts, ticket_of}
-use Rattle.gmp_driver.specs.Local.{Filled, MayCome, come_back, filled, with_stolen}
+use Rattle.gmp_driver.specs.Loads.{called_of, called_parts, held_of, held_parts, load_of, parts_of, proc_of, proc_parts}
+use Rattle.gmp_driver.specs.Local.{Filled, MayCome, come_back, filled, filled_with_stolen}
 use Rattle.gmp_driver.specs.Machine.{Machine}
-use Rattle.gmp_driver.specs.Registers.{AreApart, joined, nothing, unused, used}
+use Rattle.gmp_driver.specs.Registers.{AreFilledOnce, joined, nothing, unused, used}
 use Rattle.gmp_driver.specs.Seen.{seen}
 use Rattle.gmp_driver.specs.Table.{after, next_act}
 use Rattle.gmp_queue.specs.declared.ends.Owner.{Owner}
 use Rattle.gmp_queue.specs.declared.ends.Thief.{Thief}
 use Rattle.gmp_queue_turn.specs.Turns as turns
-use Rattle.gmp_queue_turn.specs.Turns.{Pops, Pushes, Steals, Tries, Turns, with_owner}
+use Rattle.gmp_queue_turn.specs.Turns.{PopsOwn, Pushes, Steals, Tries, TurnsOnQueue, with_own_queue}
 
 still : {A B : Type 0} (f : A → B) (o : Option A) → is_some (option_map f o) ≡ is_some o
 still f None = refl
@@ -43,8 +43,8 @@ same_parts run pass hand =
       there_and_back (proc_of run) proc_parts (λ x. refl) hand.processor,
       there_and_back (held_of run) held_parts (λ x. refl) hand.held,
       there_and_back (called_of run) called_parts (λ x. refl) hand.called,
-      there_and_back (ticket_of run) readiness_of (λ x. refl) hand.to_claim,
-      there_and_back (ticket_of run) readiness_of (λ x. refl) hand.to_store,
+      there_and_back (ticket_by run) readiness_of (λ x. refl) hand.to_claim,
+      there_and_back (ticket_by run) readiness_of (λ x. refl) hand.to_store,
     )
     refl
 
@@ -54,23 +54,23 @@ module _ {T : Type 0} (run : ℕ) (hand came : Registers T Owner) where
   abbrev replaced : Owner → ProcParts Owner → ProcParts Owner
   replaced p y = record y { owner = p }
 
-  popped : (what : Told) → Pops run (used act.Pop hand) what came → Pops run hand what (joined came (unused act.Pop hand))
+  popped : (what : Told) → PopsOwn run (used act.Pop hand) what came → PopsOwn run hand what (joined came (unused act.Pop hand))
   popped told.Got k =
       let u = k.1 in
-      let e : joined came (unused act.Pop hand) ≡ record (with_owner u.behind hand) { to_claim = Some k.0 } =
-      ap (λ (c : Registers T Owner). joined c (unused act.Pop hand)) u.step.2 ∙ ap (λ (h : Registers T Owner). record h { to_claim = Some k.0 }) (whole act.Pop (with_owner u.behind hand)) in
+      let e : joined came (unused act.Pop hand) ≡ record (with_own_queue u.behind hand) { to_claim = Some k.0 } =
+      ap (λ (c : Registers T Owner). joined c (unused act.Pop hand)) u.step.2 ∙ ap (λ (h : Registers T Owner). record h { to_claim = Some k.0 }) (whole act.Pop (with_own_queue u.behind hand)) in
       (k.0, record { before = u.before; behind = u.behind; own = u.own; same = u.same; step = (u.step.0, u.step.1, e) })
   popped told.Empty k =
-      let e : joined came (unused act.Pop hand) ≡ with_owner k.behind hand = ap (λ (c : Registers T Owner). joined c (unused act.Pop hand)) k.step.2 ∙ whole act.Pop (with_owner k.behind hand) in
+      let e : joined came (unused act.Pop hand) ≡ with_own_queue k.behind hand = ap (λ (c : Registers T Owner). joined c (unused act.Pop hand)) k.step.2 ∙ whole act.Pop (with_own_queue k.behind hand) in
       record { before = k.before; behind = k.behind; own = k.own; same = k.same; step = (k.step.0, k.step.1, e) }
   popped _ k = absurd k
 
-  pops_may : (what : Told) → Pops run (used act.Pop hand) what came → MayCome act.Pop what
+  pops_may : (what : Told) → PopsOwn run (used act.Pop hand) what came → MayCome act.Pop what
   pops_may told.Got k = tt
   pops_may told.Empty k = tt
   pops_may _ k = absurd k
 
-  pops_fill : (what : Told) (has : Bool) → Pops run (used act.Pop hand) what came → filled came ≡ come_back what has (filled (used act.Pop hand))
+  pops_fill : (what : Told) (has : Bool) → PopsOwn run (used act.Pop hand) what came → filled came ≡ come_back what has (filled (used act.Pop hand))
   pops_fill told.Got has k =
       let u = k.1 in
       ap (λ (c : Registers T Owner). filled c) u.step.2 ∙ ap (λ (b : Bool). record (filled (used act.Pop hand)) { processor = b; to_claim = true }) (still (replaced u.behind) hand.processor)
@@ -81,11 +81,11 @@ module _ {T : Type 0} (run : ℕ) (hand came : Registers T Owner) where
   pushed : (what : Told) → Pushes run (used act.Push hand) what came → Pushes run hand what (joined came (unused act.Push hand))
   pushed told.Pushed k =
       let u = k.2 in
-      let e : joined came (unused act.Push hand) ≡ record (with_owner u.behind hand) { to_store = None } =
-      ap (λ (c : Registers T Owner). joined c (unused act.Push hand)) u.step.2 ∙ ap (λ (h : Registers T Owner). record h { to_store = None }) (whole act.Push (with_owner u.behind hand)) in
+      let e : joined came (unused act.Push hand) ≡ record (with_own_queue u.behind hand) { to_store = None } =
+      ap (λ (c : Registers T Owner). joined c (unused act.Push hand)) u.step.2 ∙ ap (λ (h : Registers T Owner). record h { to_store = None }) (whole act.Push (with_own_queue u.behind hand)) in
       (k.0, k.1, record { before = u.before; behind = u.behind; own = u.own; same = u.same; step = (u.step.0, u.step.1, e) })
   pushed told.PushRefused k =
-      let e : joined came (unused act.Push hand) ≡ with_owner k.behind hand = ap (λ (c : Registers T Owner). joined c (unused act.Push hand)) k.step.1 ∙ whole act.Push (with_owner k.behind hand) in
+      let e : joined came (unused act.Push hand) ≡ with_own_queue k.behind hand = ap (λ (c : Registers T Owner). joined c (unused act.Push hand)) k.step.1 ∙ whole act.Push (with_own_queue k.behind hand) in
       record { before = k.before; behind = k.behind; own = k.own; same = k.same; step = (k.step.0, e) }
   pushed _ k = absurd k
 
@@ -109,7 +109,7 @@ module _ {T : Type 0} (run : ℕ) (v : PNo) (thieves : List Thief) (has : Bool) 
   taken_joined r false = refl
   taken_joined r true = refl
 
-  taken_filled : (r : Readiness) (has : Bool) → let h : Registers T Owner = turns.with_stolen r has nothing in let n : Registers T Owner = nothing in filled h ≡ with_stolen has (filled n)
+  taken_filled : (r : Readiness) (has : Bool) → let h : Registers T Owner = turns.with_stolen r has nothing in let n : Registers T Owner = nothing in filled h ≡ filled_with_stolen has (filled n)
   taken_filled r false = refl
   taken_filled r true = refl
 
@@ -166,20 +166,20 @@ module _ {T : Type 0} (x : Machine T Owner) (word : ℕ) (thieves : List Thief) 
       steals_fill x.run v thieves has x.hand came thieves' k.0 k.2 ∙ ap (λ (w : Told). come_back w has (filled n)) (sym k.1)
   fill _ k = absurd k
 
-  module _ (fits : Fits x.place x.hand) (tries : Came (next_act x)) where
+  module _ (fits : SuitsPlace x.place x.hand) (tries : Came (next_act x)) where
     abbrev left : Registers T Owner
     left = unused (next_act x) x.hand
 
-    can : AreApart left came × Fits (after (record x { hand = joined came left }) what).place (joined came left)
+    can : AreFilledOnce left came × SuitsPlace (after (record x { hand = joined came left }) what).place (joined came left)
     can = can_be_told x what came fits (may (next_act x) tries) (fill (next_act x) tries)
 
     -- y is the machine while the act is made
     module _ (y : Machine T Owner) (without : y ≡ record x { pass = None; hand = left }) where
-      pub got_apart : AreApart y.hand came
-      got_apart = subst (λ (z : Machine T Owner). AreApart z.hand came) (sym without) can.0
+      pub got_apart : AreFilledOnce y.hand came
+      got_apart = subst (λ (z : Machine T Owner). AreFilledOnce z.hand came) (sym without) can.0
 
-      pub got_fits : Fits (after (record y { hand = joined came y.hand }) what).place (joined came y.hand)
-      got_fits = subst (λ (z : Machine T Owner). Fits (after (record z { hand = joined came z.hand }) what).place (joined came z.hand)) (sym without) can.1
+      pub got_fits : SuitsPlace (after (record y { hand = joined came y.hand }) what).place (joined came y.hand)
+      got_fits = subst (λ (z : Machine T Owner). SuitsPlace (after (record z { hand = joined came z.hand }) what).place (joined came z.hand)) (sym without) can.1
 
       module _ (x' : Machine T Owner) (pass : Pass) (has_pass : x.pass ≡ Some pass) (told : x' ≡ after (record y { pass = Some pass; hand = joined came y.hand }) what) where
         is_after : x' ≡ after (record x { hand = joined came left }) what
@@ -188,7 +188,7 @@ module _ {T : Type 0} (x : Machine T Owner) (word : ℕ) (thieves : List Thief) 
             subst (λ (z : Machine T Owner). x' ≡ after (record z { pass = Some pass; hand = joined came z.hand }) what) without told in
             at ∙ ap (λ (o : Option Pass). after (record x { pass = o; hand = joined came left }) what) (sym has_pass)
 
-        pub turned : Turns x thieves word x' thieves'
+        pub turned : TurnsOnQueue x thieves word x' thieves'
         turned = record { what = what; hand = joined came left; tries = tried_so (next_act x) tries; machine = is_after }
 
         pub same_pass : x'.pass ≡ x.pass
@@ -197,8 +197,8 @@ module _ {T : Type 0} (x : Machine T Owner) (word : ℕ) (thieves : List Thief) 
         pub same_run : x'.run ≡ x.run
         same_run = ap (λ (z : Machine T Owner). z.run) is_after
 
-        pub fits_now : Fits x'.place x'.hand
-        fits_now = subst (λ (z : Machine T Owner). Fits z.place z.hand) (sym is_after) can.1
+        pub fits_now : SuitsPlace x'.place x'.hand
+        fits_now = subst (λ (z : Machine T Owner). SuitsPlace z.place z.hand) (sym is_after) can.1
 
 -- what came of what was handed out
 module _ {T : Type 0} (x : Machine T Owner) (word : ℕ) (thieves : List Thief) (load : Load T Owner) (is : load ≡ load_of x.run load.pass (used (next_act x) x.hand)) (its : load.pass.run ≡ x.run) (what : Told) (load' : Load T Owner) (thieves' : List Thief) where
@@ -220,7 +220,7 @@ module _ {T : Type 0} (x : Machine T Owner) (word : ℕ) (thieves : List Thief) 
   abbrev pub Came_back : Type 0
   Came_back = Came x word thieves what (parts_of load') thieves' (next_act x)
 
-  pub pop_came : next_act x ≡ act.Pop → (said : Told) (back : Load T Owner) → what ≡ said → load' ≡ back → thieves' ≡ thieves → Pops load.pass.run (parts_of load) said (parts_of back) → Came_back
+  pub pop_came : next_act x ≡ act.Pop → (said : Told) (back : Load T Owner) → what ≡ said → load' ≡ back → thieves' ≡ thieves → PopsOwn load.pass.run (parts_of load) said (parts_of back) → Came_back
   pop_came next said back e f h k = came_by act.Pop next said back thieves e f h (k, refl)
 
   pub push_came : next_act x ≡ act.Push → (said : Told) (back : Load T Owner) → what ≡ said → load' ≡ back → thieves' ≡ thieves → Pushes load.pass.run (parts_of load) said (parts_of back) → Came_back

@@ -32,24 +32,24 @@ IsQueueAct (act.Steal victim) = Unit {0}
 IsQueueAct _ = ⊥
 
 -- the word that an act draws, of two of the generator's 32 bits, the low half first, and the generator after it; an act that draws none leaves the generator
-abbrev pub drawn : Act → Lcg → ℕ × Lcg
-drawn act.Hunt g = u64_via_u32 pcg32 g
-drawn what g = (0, g)
+abbrev pub drawn_for : Act → Lcg → ℕ × Lcg
+drawn_for act.Hunt g = u64_via_u32 pcg32 g
+drawn_for what g = (0, g)
 
 -- The own queue
 
 -- its end, which is in hand with the processor
-abbrev pub owner_in : {T : Type 0} → Registers T Owner → Option Owner
-owner_in hand = option_map (λ (x : ProcParts Owner). x.owner) hand.processor
+abbrev pub owner_held : {T : Type 0} → Registers T Owner → Option Owner
+owner_held hand = option_map (λ (x : ProcParts Owner). x.owner) hand.processor
 
-abbrev pub with_owner : {T : Type 0} → Owner → Registers T Owner → Registers T Owner
-with_owner o hand = record hand { processor = option_map (λ (x : ProcParts Owner). record x { owner = o }) hand.processor }
+abbrev pub with_own_queue : {T : Type 0} → Owner → Registers T Owner → Registers T Owner
+with_own_queue o hand = record hand { processor = option_map (λ (x : ProcParts Owner). record x { owner = o }) hand.processor }
 
 -- The own end before and behind, of the same queue and with the same parts: this step was made.
 pub record UsesOwn {T : Type 0} (hand : Registers T Owner) (Step : Owner → Owner → Type 0) : Type 0 where
   pub before : Owner
   pub behind : Owner
-  pub own : owner_in hand ≡ Some before
+  pub own : owner_held hand ≡ Some before
   pub same : KeepsOwner before behind
   pub step : Step before behind
 
@@ -57,18 +57,18 @@ pub record UsesOwn {T : Type 0} (hand : Registers T Owner) (Step : Owner → Own
 abbrev pub Pushes : {T : Type 0} → ℕ → Registers T Owner → Told → Registers T Owner → Type 0
 Pushes run hand told.Pushed hand' =
     (r : Readiness) × (hand.to_store ≡ Some r)
-    × UsesOwn hand (λ o p. (owner_run o ≡ run) × PutLast (owner_view o) (r ∷ []) (owner_view p) × (hand' ≡ record (with_owner p hand) { to_store = None }))
-Pushes run hand told.PushRefused hand' = UsesOwn hand (λ o p. (owner_view p ≡ owner_view o) × (hand' ≡ with_owner p hand))
+    × UsesOwn hand (λ o p. (owner_run o ≡ run) × PutLast (owner_view o) (r ∷ []) (owner_view p) × (hand' ≡ record (with_own_queue p hand) { to_store = None }))
+Pushes run hand told.PushRefused hand' = UsesOwn hand (λ o p. (owner_view p ≡ owner_view o) × (hand' ≡ with_own_queue p hand))
 Pushes run hand _ hand' = ⊥
 
 -- Got: the first ticket was taken, and is in hand, to claim. Empty: none was taken; in a queue of another run there is none for the machine.
-abbrev pub Pops : {T : Type 0} → ℕ → Registers T Owner → Told → Registers T Owner → Type 0
-Pops run hand told.Got hand' =
+abbrev pub PopsOwn : {T : Type 0} → ℕ → Registers T Owner → Told → Registers T Owner → Type 0
+PopsOwn run hand told.Got hand' =
     (r : Readiness)
-    × UsesOwn hand (λ o p. (owner_run o ≡ run) × PoppedFirst (owner_view o) (r ∷ []) (owner_view p) × (hand' ≡ record (with_owner p hand) { to_claim = Some r }))
-Pops run hand told.Empty hand' =
-    UsesOwn hand (λ o p. (owner_view p ≡ owner_view o) × (owner_run o ≡ run → FoundNone (owner_view o)) × (hand' ≡ with_owner p hand))
-Pops run hand _ hand' = ⊥
+    × UsesOwn hand (λ o p. (owner_run o ≡ run) × PoppedFirst (owner_view o) (r ∷ []) (owner_view p) × (hand' ≡ record (with_own_queue p hand) { to_claim = Some r }))
+PopsOwn run hand told.Empty hand' =
+    UsesOwn hand (λ o p. (owner_view p ≡ owner_view o) × (owner_run o ≡ run → FoundNone (owner_view o)) × (hand' ≡ with_own_queue p hand))
+PopsOwn run hand _ hand' = ⊥
 
 -- Others' queues
 
@@ -99,7 +99,7 @@ Steals run v thieves has hand tried.Unsure hand' thieves' =
 
 -- by the act that is next: what is told, and what is in hand then
 abbrev pub Tries : {T : Type 0} → Act → Machine T Owner → ℕ → Registers T Owner → List Thief → Told → Registers T Owner → List Thief → Type 0
-Tries act.Pop x word hand thieves what hand' thieves' = Pops x.run hand what hand' × (thieves' ≡ thieves)
+Tries act.Pop x word hand thieves what hand' thieves' = PopsOwn x.run hand what hand' × (thieves' ≡ thieves)
 Tries act.Push x word hand thieves what hand' thieves' = Pushes x.run hand what hand' × (thieves' ≡ thieves)
 Tries act.Hunt x word hand thieves what hand' thieves' =
     (how : Tried) × (what ≡ told.Drew word how) × Steals x.run (victim_of x.procs (begun (seen x) word)) thieves (is_some x.hand.to_claim) hand how hand' thieves'
@@ -108,7 +108,7 @@ Tries (act.Steal v) x word hand thieves what hand' thieves' =
 Tries _ x word hand thieves what hand' thieves' = ⊥
 
 -- The push, pop or steal that the machine names was tried once, and the machine was told exactly what came of it.
-pub record Turns {T : Type 0} (x : Machine T Owner) (thieves : List Thief) (word : ℕ) (x' : Machine T Owner) (thieves' : List Thief) : Type 0 where
+pub record TurnsOnQueue {T : Type 0} (x : Machine T Owner) (thieves : List Thief) (word : ℕ) (x' : Machine T Owner) (thieves' : List Thief) : Type 0 where
   pub what : Told
   pub hand : Registers T Owner
   pub tries : Tries (next_act x) x word x.hand thieves what hand thieves'

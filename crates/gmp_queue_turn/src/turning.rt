@@ -1,8 +1,8 @@
 //! One act of a machine at the local queues.
 ghost use Rattle.std.specs.Prelude.{◌≡◌, IsSome};
-ghost use Rattle.gmp_driver.specs.Fits.{Fits};
+ghost use Rattle.gmp_driver.specs.Fits.{SuitsPlace};
 ghost use Rattle.gmp_driver.specs.Table.{next_act};
-ghost use Rattle.gmp_queue_turn.specs.Turns.{IsQueueAct, Turns, drawn};
+ghost use Rattle.gmp_queue_turn.specs.Turns.{IsQueueAct, TurnsOnQueue, drawn_for};
 
 use crate::trying::{pop, push, steal};
 use gmp_driver::{Act, Driver, Told};
@@ -17,9 +17,9 @@ use rand_pcg::Lcg64Xsh32;
 pub fn queue_turn<T>(driver: &mut Driver<T, Owner>, thieves: &mut [Thief], random: &mut Lcg64Xsh32)
     requires act { IsQueueAct (next_act driver.old) }
     requires pass { IsSome driver.old.pass }
-    ensures turns { Turns driver.old thieves.old (drawn (next_act driver.old) random.old).0 driver.new thieves.new }
-    ensures random { random.new ≡ (drawn (next_act driver.old) random.old).1 }
-    ensures fits { Fits driver.new.place driver.new.hand }
+    ensures turns { TurnsOnQueue driver.old thieves.old (drawn_for (next_act driver.old) random.old).0 driver.new thieves.new }
+    ensures random { random.new ≡ (drawn_for (next_act driver.old) random.old).1 }
+    ensures fits { SuitsPlace driver.new.place driver.new.hand }
     ensures pass { driver.new.pass ≡ driver.old.pass }
     ensures run { driver.new.run ≡ driver.old.run }
 {
@@ -29,7 +29,7 @@ pub fn queue_turn<T>(driver: &mut Driver<T, Owner>, thieves: &mut [Thief], rando
 
 /// The word that an act draws, the low half first; 0 where it draws none.
 fn draw_for(act: &Act, random: &mut Lcg64Xsh32) -> u64
-    ensures word { (result, random.new) ≡ drawn act.now random.old }
+    ensures word { (result, random.new) ≡ drawn_for act.now random.old }
 {
     match act {
         Act::Hunt => next_u64_via_u32(random),
@@ -41,8 +41,8 @@ fn draw_for(act: &Act, random: &mut Lcg64Xsh32) -> u64
 fn turn_by<T>(driver: &mut Driver<T, Owner>, thieves: &mut [Thief], word: u64)
     requires act { IsQueueAct (next_act driver.old) }
     requires pass { IsSome driver.old.pass }
-    ensures turns { Turns driver.old thieves.old word driver.new thieves.new }
-    ensures fits { Fits driver.new.place driver.new.hand }
+    ensures turns { TurnsOnQueue driver.old thieves.old word driver.new thieves.new }
+    ensures fits { SuitsPlace driver.new.place driver.new.hand }
     ensures pass { driver.new.pass ≡ driver.old.pass }
     ensures run { driver.new.run ≡ driver.old.run }
 {

@@ -139,7 +139,7 @@ handing_off_after_4 =
 handing_off_4_goes : Run (limits 1 2 16 10000) handing_off_after_3 handing_off_4 handing_off_after_4
 handing_off_4_goes = (
   _,
-  (refl, (refl, (goroutine 0, refl, (refl, refl), (refl, refl), refl), refl, refl)),
+  (refl, (refl, (goroutine 0, refl, ((refl, refl), (refl, refl), refl)), refl, refl)),
   (
     _,
     (refl, (refl, (((refl, refl, refl), refl), refl, refl), refl, refl)),
@@ -243,7 +243,7 @@ blocking_is_legal = (
         (refl, (refl, (goroutine 0, refl, (refl, (refl, refl, refl), refl)), refl, refl)),
         (
           _,
-          (refl, (refl, (goroutine 0, refl, refl, (refl, refl), refl), refl, refl)),
+          (refl, (refl, (goroutine 0, refl, (refl, (refl, refl), refl)), refl, refl)),
           (
             _,
             (refl, (refl, (goroutine 0, refl, ((refl, refl), refl, refl)), refl, refl)),

@@ -2,7 +2,7 @@
 ghost use Rattle.std.specs.Prelude.{◌≡◌, ◌≤◌, true, is_some};
 ghost use Rattle.gmp_driver.specs.Table.{next_act};
 ghost use Rattle.gmp_queue_turn.specs.Turns.{IsQueueAct};
-ghost use Rattle.gmp_worker.specs.Local.{IsLocal};
+ghost use Rattle.gmp_worker.specs.Local.{IsOfBodyOrClock};
 ghost use Rattle.gmp_run.specs.Counts.{calls_in};
 
 use crate::desk::RunLedger;
@@ -89,11 +89,11 @@ impl<T: Drop, L: RunLedger> Machine<T, L> {
 pub(crate) trait Runs: Drop {
     ghost use Rattle.std.specs.Prelude.{◌≡◌, IsSome};
     ghost use Rattle.gmp_driver.specs.Table.{next_act};
-    ghost use Rattle.gmp_worker.specs.Local.{IsLocal};
+    ghost use Rattle.gmp_worker.specs.Local.{IsOfBodyOrClock};
 
     /// Makes the act on a body or the clock that the driver names next. The moment is the clock's reading.
     fn local_turn(driver: &mut Driver<Self, Owner>, moment: u64)
-        requires act { IsLocal (next_act driver.old) }
+        requires act { IsOfBodyOrClock (next_act driver.old) }
         requires pass { IsSome driver.old.pass }
         ensures pass { driver.new.pass ≡ driver.old.pass }
         ensures run { driver.new.run ≡ driver.old.run };
@@ -108,7 +108,7 @@ impl Runs for Boxed {
 impl<T: Runs, L: RunLedger> Machine<T, L> {
     /// Makes the act on a body or the clock that the driver names next. The moment is the clock's reading.
     pub fn local_turn(&mut self, moment: u64)
-        requires { IsLocal (next_act self.old.driver) }
+        requires { IsOfBodyOrClock (next_act self.old.driver) }
     {
         let Machine { driver, .. } = self;
         T::local_turn(driver, moment);

@@ -1,7 +1,7 @@
 //! Runs the machines of a run.
 ghost use Rattle.std.specs.Prelude.{◌≡◌, ◌≤◌, [], All, length, vec_capacity, IfErr, IfOk};
 ghost use Rattle.gmp_run.specs.Counts.{all_calls};
-ghost use Rattle.gmp_run.specs.Reports.{AreLogs, IsReport, WhyUnrun};
+ghost use Rattle.gmp_run.specs.Reports.{AreLogs, IsRunReport, WhyUnrun};
 ghost use Rattle.gmp_run.specs.Seats.{IsUnused};
 
 use crate::desk::{Desk, RunLedger};
@@ -42,7 +42,7 @@ pub fn run<R: Threads + Wait + Sync, C: Clock + Sync, G: Gate + Sync>(
     gate: &G,
     random: u64,
 ) -> Result<Report<Boxed>, Unrun<Boxed>>
-    ensures report { IfOk result (IsReport limits capacities.now (length bodies.items)) }
+    ensures report { IfOk result (IsRunReport limits capacities.now (length bodies.items)) }
     ensures why { IfErr result (λ u. WhyUnrun limits (length bodies.items) capacities.now u.why) }
     ensures back { IfErr result (λ u. u.bodies.items ≡ bodies.items) }
 {
@@ -76,7 +76,7 @@ fn run_as<L: RunLedger + Send + Sync, R: Threads + Wait + Sync, C: Clock + Sync,
     requires name { blank.name ≡ L.name }
     requires parts { (blank.parts ≡ L.parts) × (blank.parts ≡ limits.machines) }
     requires run { run ≡ L.run }
-    ensures report { IfOk result (IsReport limits capacities.now (length bodies.items)) }
+    ensures report { IfOk result (IsRunReport limits capacities.now (length bodies.items)) }
     ensures why { IfErr result (λ u. WhyUnrun limits (length bodies.items) capacities.now u.why) }
     ensures back { IfErr result (λ u. u.bodies.items ≡ bodies.items) }
 {

@@ -12,13 +12,13 @@ use Rattle.gmp_trace.specs.Text.{end_of}
 use Rattle.gmp_trace.proofs.Numbered.{legal_text}
 use Rattle.gmp_run.specs.declared.ending.Report.{Report}
 use Rattle.gmp_run.specs.declared.ending.Unrun.{Unrun}
-use Rattle.gmp_run.specs.Reports.{IsReport, WhyUnrun}
+use Rattle.gmp_run.specs.Reports.{IsRunReport, WhyUnrun}
 use Rattle.gmp_words.specs.declared.options.Settings.{Settings}
 use Rattle.gmp_words.specs.declared.said.Said.{Said}
 use Rattle.gmp_words.specs.declared.said.Said.TheVariants.{BadLimits, Nothing, OutOfMemory, OutputFailed}
 use Rattle.gmp_words.specs.Runs.{IsTraceOf, limits_of, status_of}
-use Rattle.gmp_run_cli.specs.Runs.{WritesRun}
-use Rattle.gmp_run_cli.specs.Told.{Tells, said_of_unrun, trace_of}
+use Rattle.gmp_run_cli.specs.Runs.{WritesTraceOrSummary}
+use Rattle.gmp_run_cli.specs.Told.{TellsEnd, said_of_unrun, trace_of}
 
 -- a run that has an outcome has ended
 over : (o : Outcome) → end_of (Some o) ≢ Running
@@ -41,7 +41,7 @@ two_ways limits bodies capacities refusal.Busy h = absurd h
 two_ways limits bodies capacities refusal.NotHeld h = absurd h
 two_ways limits bodies capacities refusal.NotOver h = absurd h
 
-module _ {T : Type 0} (s : Settings) (capacities : List ℕ) (bodies : ℕ) (r : Report T) (report : IsReport (limits_of s) capacities bodies r) where
+module _ {T : Type 0} (s : Settings) (capacities : List ℕ) (bodies : ℕ) (r : Report T) (report : IsRunReport (limits_of s) capacities bodies r) where
   is_trace : IsTraceOf (limits_of s) (trace_of capacities r)
   is_trace = record {
     opened = report.opened;
@@ -55,7 +55,7 @@ module _ {T : Type 0} (s : Settings) (capacities : List ℕ) (bodies : ℕ) (r :
   unfolding is_trace
   has_text = legal_text (trace_of capacities r) report.last is_trace.within is_trace.legal report.fits
 
-  writes : (status : ℕ) (old new : Option (List ℕ)) → Tells s.trace capacities r status old new → WritesRun s capacities bodies status old new
+  writes : (status : ℕ) (old new : Option (List ℕ)) → TellsEnd s.trace capacities r status old new → WritesTraceOrSummary s capacities bodies status old new
   writes status old new t = record {
     trace = trace_of capacities r;
     legal = is_trace;
@@ -82,24 +82,24 @@ not_failed why (inr e) n = let told : OutOfMemory ≡ OutputFailed = ap said_of_
 
 -- where the output failed, the run was begun, within the limits
 pub tried_last : {T : Type 0} (s : Settings) (capacities : List ℕ) (boxes bodies : ℕ) (said : Said) (ran : Result (Report T) (Unrun T)) → boxes ≡ bodies
-    → IfOk ran (IsReport (limits_of s) capacities boxes) → IfErr ran (λ (u : Unrun T). WhyUnrun (limits_of s) boxes capacities u.why)
+    → IfOk ran (IsRunReport (limits_of s) capacities boxes) → IfErr ran (λ (u : Unrun T). WhyUnrun (limits_of s) boxes capacities u.why)
     → IfErr ran (λ (u : Unrun T). said ≡ said_of_unrun u.why) → said ≡ OutputFailed → AreLimits (limits_of s) bodies capacities
 tried_last s capacities boxes bodies said (Ok r) counted report why unrun failed = subst (λ (n : ℕ). AreLimits (limits_of s) n capacities) counted report.within
 tried_last s capacities boxes bodies said (Err u) counted report why unrun failed =
     absurd (not_failed u.why (two_ways (limits_of s) boxes capacities u.why why) (sym unrun ∙ failed))
 
 pub wrote : {T : Type 0} (s : Settings) (capacities : List ℕ) (boxes bodies : ℕ) (said : Said) (ran : Result (Report T) (Unrun T)) → boxes ≡ bodies
-    → IfOk ran (IsReport (limits_of s) capacities boxes) → IfErr ran (λ (u : Unrun T). WhyUnrun (limits_of s) boxes capacities u.why)
+    → IfOk ran (IsRunReport (limits_of s) capacities boxes) → IfErr ran (λ (u : Unrun T). WhyUnrun (limits_of s) boxes capacities u.why)
     → IfErr ran (λ (u : Unrun T). said ≡ said_of_unrun u.why)
-    → (status : ℕ) (old new : Option (List ℕ)) → IfOk ran (λ (r : Report T). said ≡ Nothing → Tells s.trace capacities r status old new) → said ≡ Nothing
-    → WritesRun s capacities bodies status old new
+    → (status : ℕ) (old new : Option (List ℕ)) → IfOk ran (λ (r : Report T). said ≡ Nothing → TellsEnd s.trace capacities r status old new) → said ≡ Nothing
+    → WritesTraceOrSummary s capacities bodies status old new
 wrote s capacities boxes bodies said (Ok r) counted report why unrun status old new printed nothing =
-    writes s capacities bodies r (subst (λ (n : ℕ). IsReport (limits_of s) capacities n r) counted report) status old new (printed nothing)
+    writes s capacities bodies r (subst (λ (n : ℕ). IsRunReport (limits_of s) capacities n r) counted report) status old new (printed nothing)
 wrote s capacities boxes bodies said (Err u) counted report why unrun status old new printed nothing =
     absurd (not_nothing u.why (two_ways (limits_of s) boxes capacities u.why why) (sym unrun ∙ nothing))
 
 pub out : {T : Type 0} (s : Settings) (capacities : List ℕ) (boxes bodies : ℕ) (said : Said) (ran : Result (Report T) (Unrun T)) → boxes ≡ bodies
-    → IfOk ran (IsReport (limits_of s) capacities boxes) → IfErr ran (λ (u : Unrun T). WhyUnrun (limits_of s) boxes capacities u.why)
+    → IfOk ran (IsRunReport (limits_of s) capacities boxes) → IfErr ran (λ (u : Unrun T). WhyUnrun (limits_of s) boxes capacities u.why)
     → IfErr ran (λ (u : Unrun T). said ≡ said_of_unrun u.why)
     → IfOk ran (λ (r : Report T). said ≡ BadLimits → 65535 < length r.bodies.items) → said ≡ BadLimits → AreLimits (limits_of s) bodies capacities → ⊥
 out s capacities boxes bodies said (Ok r) counted report why unrun many bad are =

@@ -13,7 +13,7 @@ use Rattle.gmp_words.specs.Runs.{IsTraceOf, limits_of, status_of}
 use Rattle.gmp_run_cli.specs.Told.{IsPrinted}
 
 -- What was written is the text or the summary of the trace of a legal run by so many bodies, which ended, and the status tells how.
-pub record WritesRun (s : Settings) (capacities : List ℕ) (bodies status : ℕ) (old new : Option (List ℕ)) : Type 0 where
+pub record WritesTraceOrSummary (s : Settings) (capacities : List ℕ) (bodies status : ℕ) (old new : Option (List ℕ)) : Type 0 where
   pub trace : Content
   pub legal : IsTraceOf (limits_of s) trace
   pub rooms : trace.capacities ≡ capacities
@@ -29,7 +29,7 @@ pub record WritesReport (s : Settings) (input : Option (List ℕ)) (status : ℕ
   pub readings : List ℕ
   pub bodies : List Commands
   pub script : IfSome input (λ all. IsScript (lines all) capacities readings bodies)
-  pub writes : WritesRun s capacities (length bodies) status old new
+  pub writes : WritesTraceOrSummary s capacities (length bodies) status old new
 
 -- what may be said by `run`
 abbrev pub is_of_threads : Said → Bool

@@ -1,11 +1,11 @@
 //! One run of a script in threads.
 
 ghost use Rattle.std.specs.Prelude.{◌≡◌, ◌<◌, ◌≤◌, ℕ, true, false, length, IfSome};
-ghost use Rattle.gmp_script.specs.Lines.{lines, IsFirstBad};
+ghost use Rattle.gmp_script.specs.Lines.{lines, IsFirstBadLine};
 ghost use Rattle.gmp_words.specs.declared.said.Said.TheVariants.{BadLine, BadLimits, InputTooLong, Nothing, OutputFailed};
 ghost use Rattle.gmp_words.specs.Said.{is_before_writing, is_of_input};
 ghost use Rattle.gmp_words.specs.Runs.{IsOutOfLimits, IsWithinLimits, limits_of};
-ghost use Rattle.gmp_run_cli.specs.Runs.{WritesReport, WritesRun, is_of_threads};
+ghost use Rattle.gmp_run_cli.specs.Runs.{WritesReport, WritesTraceOrSummary, is_of_threads};
 ghost use Rattle.gmp_run_cli.specs.Told.{is_of_report};
 ghost use Rattle.gmp_seq.specs.Fits.{AreLimits};
 
@@ -32,7 +32,7 @@ fn threaded<H: Threads + Wait + Sync, W: Write, C: Clock + Sync>(
     clock: &C,
 ) -> Ended
     ensures written { result.said ≡ Nothing
-        → WritesRun settings.now script.capacities.items (length script.bodies.items) result.status (W.contents writer.old) (W.contents writer.new) }
+        → WritesTraceOrSummary settings.now script.capacities.items (length script.bodies.items) result.status (W.contents writer.old) (W.contents writer.new) }
     ensures kinds { is_of_report result.said ≡ true }
     ensures quiet { is_before_writing result.said ≡ true → W.contents writer.new ≡ W.contents writer.old }
     ensures limits { result.said ≡ BadLimits → ¬ (AreLimits (limits_of settings.now) (length script.bodies.items) script.capacities.items) }
@@ -71,8 +71,8 @@ fn threaded<H: Threads + Wait + Sync, W: Write, C: Clock + Sync>(
 /// Reads a script, runs its bodies by machines in threads, audits the run, and writes its trace or its summary, as the settings say.
 ///
 /// It ends with what is wrong where something is: the input, the script's first bad line, the limits, the audit, the output, or memory. The
-/// script's readings of the clock are passed over. Where main waits for good among goroutines that go on for good, it comes back once the
-/// history is full.
+/// script's readings of the clock are passed over. Where main waits for good among goroutines that go on for good, the run ends once the
+/// history is full. That it comes back no clause says, since it waits for threads.
 pub fn run<H: Threads + Wait + Sync, R: Read, W: Write, C: Clock + Sync>(
     rt: &H,
     alloc: Global,
@@ -89,7 +89,7 @@ pub fn run<H: Threads + Wait + Sync, R: Read, W: Write, C: Clock + Sync>(
     ensures quiet { is_before_writing result.said ≡ true → W.contents writer.new ≡ W.contents writer.old }
 
     ensures first { (line : ℕ) → result.said ≡ BadLine line
-        → IfSome (R.remaining reader.old) (λ all. IsFirstBad (lines all) line) }
+        → IfSome (R.remaining reader.old) (λ all. IsFirstBadLine (lines all) line) }
     ensures too_long { result.said ≡ InputTooLong
         → IfSome (R.remaining reader.old) (λ all. MAX_SCRIPT < length all) }
     ensures short { is_of_input result.said ≡ false

@@ -4,7 +4,7 @@ ghost use Rattle.std.specs.Prelude.{◌≡◌, ◌<◌, IfOk, IfErr, length, tru
 ghost use Rattle.gmp_base.specs.declared.number.MNo.{MNo};
 ghost use Rattle.gmp_words.specs.Said.{is_before_writing};
 ghost use Rattle.gmp_words.specs.declared.said.Said.TheVariants.{BadLimits, Mismatch, Nothing};
-ghost use Rattle.gmp_run_cli.specs.Told.{IsLeast, IsPrinted, Prints, Tells, is_of_print, is_of_report, is_short, said_of_unrun, trace_of};
+ghost use Rattle.gmp_run_cli.specs.Told.{IsLeast, IsPrinted, Prints, TellsEnd, is_of_print, is_of_report, is_short, said_of_unrun, trace_of};
 ghost use Rattle.gmp_trace.specs.Text.{content};
 
 use gmp_base::Refusal;
@@ -106,7 +106,7 @@ pub fn told<T: Drop, W: Write>(
     writer: &mut W,
 ) -> Ended
     ensures printed { IfOk ran (λ report. result.said ≡ Nothing
-        → Tells settings.now.trace capacities.now report result.status (W.contents writer.old) (W.contents writer.new)) }
+        → TellsEnd settings.now.trace capacities.now report result.status (W.contents writer.old) (W.contents writer.new)) }
     ensures kinds { IfOk ran (λ report. is_of_report result.said ≡ true) }
     ensures limits { IfOk ran (λ report. result.said ≡ BadLimits → 65535 < length report.bodies.items) }
     ensures mismatch { IfOk ran (λ report. (m : MNo) → result.said ≡ Mismatch m → IsLeast report m) }

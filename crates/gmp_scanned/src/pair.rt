@@ -40,9 +40,9 @@ impl Pair {
         })
     }
 
-    fn is_waiting(&self, g: GNo) -> Result<bool, Short> {
-        let waits = self.linked.is_waiting(g);
-        if self.scanned.is_waiting(g) == waits {
+    fn has_offer(&self, g: GNo) -> Result<bool, Short> {
+        let waits = self.linked.has_offer(g);
+        if self.scanned.has_offer(g) == waits {
             Ok(waits)
         } else {
             Err(Short::Differ)
@@ -79,7 +79,7 @@ impl Pair {
         let arrival = self.arrivals;
         self.arrivals = arrival.wrapping_add(1);
         let suits = g.0 < self.linked.bodies()
-            && !self.linked.is_waiting(g)
+            && !self.linked.has_offer(g)
             && self.linked.is_later(arrival)
             && self.linked.has_all(offers)
             && cases_rise(offers);
@@ -163,14 +163,14 @@ impl Pair {
             self.agree_on(CNo(c))?;
         }
         for g in 0..BODIES {
-            self.is_waiting(GNo(g))?;
+            self.has_offer(GNo(g))?;
         }
         Ok(())
     }
 
     /// What comes of what g asks, or, where it waits, of the end of its wait.
     pub fn ask(&mut self, g: GNo, asked: &Asked, word: u64) -> Result<Came, Short> {
-        if self.is_waiting(g)? {
+        if self.has_offer(g)? {
             self.withdraw(g);
             return Ok(Came::Left);
         }

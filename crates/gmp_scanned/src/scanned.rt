@@ -42,7 +42,7 @@ impl Scanned {
         self.waiters.iter().copied().find(|w| w.offer.channel == c)
     }
 
-    pub fn is_waiting(&self, g: GNo) -> bool {
+    pub fn has_offer(&self, g: GNo) -> bool {
         self.waiters.iter().any(|w| w.g == g)
     }
 

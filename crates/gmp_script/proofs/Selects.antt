@@ -7,7 +7,7 @@ use Rattle.std.proofs.lemmas.Simd.{map-map}
 use Rattle.std.specs.Option.{option_map}
 use Rattle.std.specs.Str.{bytes_eq}
 use Rattle.gmp_base.specs.declared.cases.Case.{Case}
-use Rattle.gmp_script.specs.Lines.{all_there, case_of, cases_of, select_of, offered, selected, value}
+use Rattle.gmp_script.specs.Lines.{all_there, case_of, cases_of, select_of, select_offered, selected, value}
 
 pub all_there-somes : {X : Type 0} (xs : List X) → all_there (map Some xs) ≡ Some xs
 all_there-somes [] = refl
@@ -59,13 +59,13 @@ module _ {W : Type 0} (text : W → List ℕ) where
   word_at words i d within = slice_get-map text words i ∙ ap (option_map text) (slice_get-get_or words i d within)
 
   pub offered-default : (words : List W) (until : Option ℕ) (d : W) → 0 < length words → bytes_eq (text (get_or words (length words - 1) d)) (codes "default") ≡ true
-      → offered (map text words) until ≡ select_of (map text (take (length words - 1) words)) true until
+      → select_offered (map text words) until ≡ select_of (map text (take (length words - 1) words)) true until
   offered-default words until d some is =
       let last = word_at words (length words - 1) d (omega (arith, some)) in
       rw (length-map words text, last, is, take-map text (length words - 1) words) refl
 
   pub offered-plain : (words : List W) (until : Option ℕ) (d : W) → (0 < length words → bytes_eq (text (get_or words (length words - 1) d)) (codes "default") ≡ false)
-      → offered (map text words) until ≡ select_of (map text words) false until
+      → select_offered (map text words) until ≡ select_of (map text words) false until
   offered-plain [] until d other = refl
   offered-plain (w ∷ words) until d other =
       let all : List W = w ∷ words in
@@ -73,7 +73,7 @@ module _ {W : Type 0} (text : W → List ℕ) where
       rw (length-map all text, last, other (omega arith)) refl
 
   pub selected-until : (words : List W) (moment : ℕ) (d : W) → 2 ≤ length words → bytes_eq (text (get_or words (length words - 2) d)) (codes "until") ≡ true
-      → value (text (get_or words (length words - 1) d)) ≡ Some moment → selected (map text words) ≡ offered (map text (take (length words - 2) words)) (Some moment)
+      → value (text (get_or words (length words - 1) d)) ≡ Some moment → selected (map text words) ≡ select_offered (map text (take (length words - 2) words)) (Some moment)
   selected-until words moment d two is gives =
       let long : nat_lt 1 (length words) ≡ true = grind (arith, two) in
       let before = word_at words (length words - 2) d (omega (arith, two)) in
@@ -81,7 +81,7 @@ module _ {W : Type 0} (text : W → List ℕ) where
       rw (length-map words text, long, before, is, last, gives, take-map text (length words - 2) words) refl
 
   pub selected-plain : (words : List W) (d : W) → (1 < length words → bytes_eq (text (get_or words (length words - 2) d)) (codes "until") ≡ false)
-      → selected (map text words) ≡ offered (map text words) None
+      → selected (map text words) ≡ select_offered (map text words) None
   selected-plain [] d other = refl
   selected-plain (w ∷ []) d other = refl
   selected-plain (w ∷ v ∷ words) d other =

@@ -7,5 +7,5 @@ use Rattle.std.specs.Str.Parse.{digits_value}
 abbrev pub is_number : List ℕ → Bool
 is_number word = nat_lt 0 (length word) && (all_ascii_digits word && nat_lt (digits_value 10 word) 18446744073709551616)
 
-abbrev pub number_of : List ℕ → Option ℕ
-number_of word = (if is_number word then Some (digits_value 10 word) else None)
+abbrev pub parsed_number : List ℕ → Option ℕ
+parsed_number word = (if is_number word then Some (digits_value 10 word) else None)

@@ -129,11 +129,11 @@ impl ScriptBody {
 
 impl Body for ScriptBody {
     ghost use Rattle.std.specs.Prelude.{◌≡◌};
-    ghost use Rattle.gmp_script.specs.Script.{AsksNext, called_number};
+    ghost use Rattle.gmp_script.specs.Script.{AsksNext, asked_last};
 
     ghost resumed = { λ before _ ask after. AsksNext before ask after };
 
-    ghost blocked = { λ before n after. (n ≡ called_number before) × (after ≡ before) };
+    ghost blocked = { λ before n after. (n ≡ asked_last before) × (after ≡ before) };
 
     fn resume(&mut self, _woke: Woke) -> Ask {
         let place = self.place();

@@ -1,11 +1,11 @@
 //! Numbers that are written in digits.
 
 ghost use Rattle.std.specs.Prelude.{◌≡◌};
-ghost use Rattle.gmp_script.specs.Numbers.{number_of};
+ghost use Rattle.gmp_script.specs.Numbers.{parsed_number};
 
 /// The number that digits write, or none where there is another byte, no digit, or a number above 2^64 - 1.
 pub fn number(word: &[u8]) -> Option<u64>
-    ensures { result ≡ number_of word.now }
+    ensures { result ≡ parsed_number word.now }
 {
     // `parse` reads a leading plus too.
     if matches!(word, [b'+', ..]) {

@@ -1,7 +1,7 @@
 //! Reads a line of a script.
 
 ghost use Rattle.std.specs.Prelude.{◌≡◌, IfOk, map};
-ghost use Rattle.gmp_script.specs.Lines.{words, value, below, goroutine, capacity, channel, said_alone, said_with, said_with_two, said_by_few, said_by_words, said_by};
+ghost use Rattle.gmp_script.specs.Lines.{words, value, below, goroutine_named, capacity, channel, said_alone, said_with, said_with_two, said_by_few, said_by_words, said_by};
 
 mod clocks;
 mod selects;
@@ -55,7 +55,7 @@ fn narrow(word: &[u8]) -> Option<u16>
 }
 
 fn goroutine(word: &[u8]) -> Option<GNo>
-    ensures { result ≡ goroutine word.now }
+    ensures { result ≡ goroutine_named word.now }
 {
     Some(GNo(narrow(word)?))
 }

@@ -14,7 +14,7 @@ use Rattle.gmp_seq.specs.declared.status.Waiter.{Waiter}
 use Rattle.gmp_seq.specs.Waits.{Channel, channel_of, names_no_missing, offers_from}
 use Rattle.gmp_chan.specs.Order.{above, are_made, rise}
 use Rattle.gmp_chan.specs.Contents.{is_of, without, without_served}
-use Rattle.gmp_select.specs.Waiting.{served}
+use Rattle.gmp_chan.specs.Served.{served}
 
 -- who is withdrawn has no offer
 pub none_left : (g : GNo) (all : List Waiter) → count_by (is_of g) (without g all) ≡ 0

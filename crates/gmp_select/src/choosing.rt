@@ -1,5 +1,5 @@
 //! Which case is taken.
-ghost use Rattle.std.specs.Prelude.{◌≡◌, ◌≢◌, ◌<◌, ℕ, true, false, IfNone, IfSome};
+ghost use Rattle.std.specs.Prelude.{◌≡◌, ◌≢◌, ◌<◌, ℕ, true, IfNone, IfSome};
 ghost use Rattle.gmp_select.specs.Choosing.{case_can, is_set, pick};
 
 use gmp_base::Cases;

@@ -7,4 +7,4 @@ mod choosing;
 mod waiting;
 
 pub use choosing::{choose, ready_cases};
-pub use waiting::{are_made, complete, register, withdraw_all};
+pub use waiting::{complete, none_missing, register, withdraw_all};

@@ -2,19 +2,19 @@
 ghost use Rattle.std.specs.Prelude.{◌≡◌, ◌<◌, ◌≤◌, ◌++◌, Some, true, count_by, length, is_some, IfNone, IfSome};
 ghost use Rattle.gmp_seq.specs.declared.status.Kind.{Kind};
 ghost use Rattle.gmp_seq.specs.declared.status.Waiter.{Waiter};
+ghost use Rattle.gmp_seq.specs.Step.{none_missing};
 ghost use Rattle.gmp_seq.specs.Waits.{Proceeds, as_waiters, can, channel_of, names_no_missing, offers_of};
-ghost use Rattle.std.specs.List.{list_all};
 ghost use Rattle.gmp_chan.specs.Contents.{is_of, without, without_served};
 ghost use Rattle.gmp_chan.specs.Order.{is_later};
-ghost use Rattle.gmp_select.specs.Waiting.{served};
+ghost use Rattle.gmp_chan.specs.Served.{served};
 
 use gmp_base::{Case, Cases, GNo};
 use gmp_chan::Channels;
 use gmp_seq::{Kind, Offers, Transfer, channel_of};
 
 /// Whether each case names nil or a channel that was made.
-pub fn are_made(channels: &Channels, cases: &Cases) -> bool
-    ensures made { result ≡ list_all (λ c. names_no_missing channels.now.channels (channel_of c)) cases.now }
+pub fn none_missing(channels: &Channels, cases: &Cases) -> bool
+    ensures made { result ≡ none_missing channels.now.channels cases.now }
     ensures few { length cases.now ≤ 8 }
 {
     cases
@@ -28,7 +28,7 @@ pub fn register(channels: &mut Channels, g: GNo, arrival: u64, cases: &Cases) ->
     requires known { g.0 < channels.old.bodies }
     requires fresh { count_by (is_of g) channels.old.waiters ≡ 0 }
     requires later { is_later arrival channels.old.waiters ≡ true }
-    requires made { list_all (λ c. names_no_missing channels.old.channels (channel_of c)) cases.now ≡ true }
+    requires made { none_missing channels.old.channels cases.now ≡ true }
     ensures offers { result ≡ offers_of cases.now }
     ensures waiters { channels.new ≡ record channels.old { waiters = channels.old.waiters ++ as_waiters g arrival Kind.Select (offers_of cases.now) } }
 {

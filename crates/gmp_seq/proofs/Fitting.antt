@@ -280,7 +280,7 @@ module _ (limits : Limits) (old new : State) (small : IsSmall limits old) where
   effect_fits m call.Gopark answer fits (g, running, (h, rest, more)) = goparks g answer old.table new.table h
   effect_fits m (call.Ready k) answer fits (g, running, (h, rest, more)) = readies old.table small.goroutines small.epochs k answer new.table h
   effect_fits m call.Enter answer fits (g, running, (is, h, rest)) = enters m old.machines new.machines small.holders small.modes answer h
-  effect_fits m (call.Leave number) answer fits (g, calling, h, machines, rest) =
+  effect_fits m (call.Leave number) answer fits (g, calling, (h, machines, rest)) =
       resumes old.table small.goroutines small.epochs g m number answer new.table old.machines new.machines small.holders calling h machines
   effect_fits m call.Spin answer fits (free, (h, is, rest)) = spins m old.machines new.machines small.holders small.modes answer h
   effect_fits m call.Woken answer fits (h, is, rest) = looks m old.machines new.machines small.holders small.modes answer h

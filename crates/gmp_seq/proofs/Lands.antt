@@ -270,7 +270,7 @@ effect_lands limits m (call.Sleep until) answer old new (g, running, (h, rest, m
 effect_lands limits m call.Gopark answer old new (g, running, (h, rest, more)) = goparks call.Gopark g answer _ _ h
 effect_lands limits m (call.Ready k) answer old new (g, running, (h, rest, more)) = readies (call.Ready k) k answer _ _ h
 effect_lands limits m call.Enter answer old new (g, running, (is, rest, more)) = turns call.Enter answer old.table new.table g _ is tt
-effect_lands limits m (call.Leave number) answer old new (g, calling, h, rest, more) = resumes (call.Leave number) g m number answer _ _ calling h
+effect_lands limits m (call.Leave number) answer old new (g, calling, (h, rest, more)) = resumes (call.Leave number) g m number answer _ _ calling h
 effect_lands limits m call.Spin answer old new (free, (h, is, rest)) = stays call.Spin answer old.table new.table is
 effect_lands limits m call.Woken answer old new (h, is, rest) = stays call.Woken answer old.table new.table is
 effect_lands limits m call.Unspin answer old new (h, is, rest) = stays call.Unspin answer old.table new.table is

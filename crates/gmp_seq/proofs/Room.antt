@@ -140,7 +140,7 @@ effect_room limits m (call.Sleep until) answer old new room (g, running, (h, is,
 effect_room limits m call.Gopark answer old new room (g, running, (h, is, machines)) = same old new room is
 effect_room limits m (call.Ready k) answer old new room (g, running, (h, is, machines)) = same old new room is
 effect_room limits m call.Enter answer old new room (g, running, (table, h, is)) = same old new room is
-effect_room limits m (call.Leave number) answer old new room (g, calling, h, machines, is) = same old new room is
+effect_room limits m (call.Leave number) answer old new room (g, calling, (h, machines, is)) = same old new room is
 effect_room limits m call.Spin answer old new room (free, (h, table, is)) = same old new room is
 effect_room limits m call.Woken answer old new room (h, table, is) = same old new room is
 effect_room limits m call.Unspin answer old new room (h, table, is) = same old new room is

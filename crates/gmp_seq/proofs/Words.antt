@@ -208,7 +208,7 @@ effect_rows limits m (call.Sleep until) answer old new wordy fits (g, running, (
 effect_rows limits m call.Gopark answer old new wordy fits (g, running, (h, same, more)) = stay old new wordy.rows same
 effect_rows limits m (call.Ready k) answer old new wordy fits (g, running, (h, same, more)) = stay old new wordy.rows same
 effect_rows limits m call.Enter answer old new wordy fits (g, running, (is, h, same)) = stay old new wordy.rows same
-effect_rows limits m (call.Leave number) answer old new wordy fits (g, calling, h, machines, same) = stay old new wordy.rows same
+effect_rows limits m (call.Leave number) answer old new wordy fits (g, calling, (h, machines, same)) = stay old new wordy.rows same
 effect_rows limits m call.Spin answer old new wordy fits (free, (h, is, same)) = stay old new wordy.rows same
 effect_rows limits m call.Woken answer old new wordy fits (h, is, same) = stay old new wordy.rows same
 effect_rows limits m call.Unspin answer old new wordy fits (h, is, same) = stay old new wordy.rows same

@@ -1,8 +1,7 @@
 //! What a case offers, what an offer would do, and what one that waited is told.
-ghost use Rattle.std.specs.Prelude.{◌≡◌, ◌≤◌, ◌==◌, ◌∷◌, [], find, length, option_to_list};
-ghost use Rattle.gmp_seq.specs.declared.status.Offer.{Offer};
+ghost use Rattle.std.specs.Prelude.{◌≡◌, ◌≤◌, ◌∷◌, [], length, option_to_list};
 ghost use Rattle.gmp_seq.specs.Table.{late_answer};
-ghost use Rattle.gmp_seq.specs.Waits.{channel_of, closed_answer, direction_of, is_on, is_select, offered, offers_from, offers_of, receiver_answer, same_direction, sender_answer};
+ghost use Rattle.gmp_seq.specs.Waits.{channel_of, closed_answer, direction_of, first_offer_on, is_on, is_select, offered, offers_from, offers_of, receiver_answer, same_direction, sender_answer};
 
 use crate::status::{Deal, Direction, Kind, Offer, Offers, Waiter};
 use gmp_base::{CNo, Case, Fault, Woke};
@@ -110,8 +109,8 @@ impl Offers {
     }
 
     /// The first that is on this channel.
-    pub fn first_on(&self, c: CNo) -> Option<Offer>
-        ensures { result ≡ find (λ (o : Offer). o.channel.0 == c.0) self.now }
+    pub fn first_offer_on(&self, c: CNo) -> Option<Offer>
+        ensures { result ≡ first_offer_on c self.now }
     {
         self.as_slice()
             .iter()

@@ -1,9 +1,9 @@
 //! Questions on one goroutine's status.
 ghost use Rattle.std.specs.Prelude.{◌≡◌};
-ghost use Rattle.gmp_seq.specs.Table.{deadline_of, is_astir, is_calling, is_calling_on, is_dormant, is_parked, is_ready_or_running, is_running_on, is_shelved};
+ghost use Rattle.gmp_seq.specs.Table.{answer_of_ready, deadline_of, is_astir, is_calling, is_calling_on, is_dormant, is_parked, is_ready_or_running, is_running_on, is_shelved};
 
 use crate::status::{Kind, Place, Status};
-use gmp_base::MNo;
+use gmp_base::{MNo, Woke};
 
 impl Status {
     /// Whether it was not started.
@@ -27,6 +27,16 @@ impl Status {
         match self {
             Status::Waiting(wait) => matches!(wait.kind, Kind::Parked),
             _ => false,
+        }
+    }
+
+    /// What it is to be told, where it is ready.
+    pub fn answer(&self) -> Option<Woke>
+        ensures { result ≡ answer_of_ready self.now }
+    {
+        match self {
+            Status::Ready(_, woke) => Some(*woke),
+            _ => None,
         }
     }
 

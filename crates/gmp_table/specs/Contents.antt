@@ -1,5 +1,5 @@
 -- What a contract sees of a status table, and the words of its calls.
-use Rattle.std.specs.Prelude.{ℕ, ◌+◌, ◌-◌, Bool, Option, None, List, [], ◌∷◌, slice_get, slice_set, replicate, is_some}
+use Rattle.std.specs.Prelude.{ℕ, ◌+◌, Bool, Option, None, List, [], ◌∷◌, slice_get, slice_set, is_some}
 use Rattle.std.specs.Option.{option_map_or}
 use Rattle.gmp_base.specs.declared.number.GNo.{GNo}
 use Rattle.gmp_base.specs.declared.ask.Woke.{Woke}
@@ -7,7 +7,7 @@ use Rattle.gmp_seq.specs.declared.status.Goroutine.{Goroutine}
 use Rattle.gmp_seq.specs.declared.status.Place.{Place}
 use Rattle.gmp_seq.specs.declared.status.Status.{Status}
 use Rattle.gmp_seq.specs.declared.status.Status.TheVariants.{Ready}
-use Rattle.gmp_seq.specs.State.{first_goroutine, dormant}
+use Rattle.gmp_seq.specs.State.{main, opening_table}
 use Rattle.gmp_seq.specs.Table.{Table, answer_of_ready, deadline_of}
 
 -- the table, and who is on the shelf, the one to be taken next first
@@ -18,8 +18,8 @@ pub record TableContents : Type 0 where
 -- main is on the shelf, and all others are dormant
 abbrev pub opening_contents : ℕ → TableContents
 opening_contents bodies = record {
-  table = record { goroutines = first_goroutine ∷ replicate (bodies - 1) dormant; arrivals = 0; clock = 0 };
-  shelf = record { 0 = 0 } ∷ [];
+  table = opening_table bodies;
+  shelf = main ∷ [];
 }
 
 -- Changes of the rows alone

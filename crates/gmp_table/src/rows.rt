@@ -79,13 +79,8 @@ impl Rows {
         ensures { result ≡ answer_in self.now g }
     {
         match self.get(g) {
-            Some(
-                Goroutine {
-                    status: Status::Ready(_, woke),
-                    ..
-                },
-            ) => Some(*woke),
-            _ => None,
+            Some(row) => row.status.answer(),
+            None => None,
         }
     }
 

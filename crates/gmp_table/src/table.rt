@@ -1,9 +1,10 @@
 //! The status table.
-ghost use Rattle.std.specs.Prelude.{◌≡◌, ◌<◌, ◌^◌, true, Some, [], ◌∷◌, ◌++◌, max, slice_get, option_copied, length, IsTrue, ◌↔◌, IfOk, IfSome, IfNone};
+ghost use Rattle.std.specs.Prelude.{◌≡◌, ◌<◌, ◌^◌, true, false, Some, [], ◌∷◌, ◌++◌, max, slice_get, option_copied, length, IfOk, IfSome, IfNone};
+ghost use Rattle.std.specs.Option.{option_map_or};
 ghost use Rattle.gmp_base.specs.declared.ask.Woke.{Woke};
 ghost use Rattle.gmp_seq.specs.declared.call.Reply.{Reply};
 ghost use Rattle.gmp_seq.specs.Step.{Takes, Puts, Claims, Starts};
-ghost use Rattle.gmp_seq.specs.Table.{IsReady, IsOffShelf, status_at, epoch_at, next_of, some_status, is_shelved, is_astir, is_ready_or_running, is_outstanding, least_deadline, set_status, made_ready, made_wait};
+ghost use Rattle.gmp_seq.specs.Table.{IsReady, IsOffShelf, status_at, epoch_at, next_of, some_status, is_running_on, is_shelved, is_astir, is_ready_or_running, is_outstanding, least_deadline, set_status, made_ready, made_wait};
 ghost use Rattle.gmp_table.specs.Kept.{IsListing};
 ghost use Rattle.gmp_table.specs.Contents.{TableContents, opening_contents};
 ghost use Rattle.gmp_table.specs.declared.wake.Wake.{Wake};
@@ -119,7 +120,7 @@ impl StatusTable {
 
     /// Whether m runs g.
     pub fn runs(&self, m: MNo, g: GNo) -> bool
-        ensures { IsTrue result ↔ (status_at self.now.table g ≡ Some (Status.Running m)) }
+        ensures { result ≡ option_map_or (is_running_on m) (status_at self.now.table g) false }
     {
         match self.get(g) {
             Some(row) => row.status.is_running_on(m),

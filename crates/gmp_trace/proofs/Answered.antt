@@ -211,7 +211,7 @@ effect_answers limits m (call.Sleep until) answer old new (g, running, (h, chann
 effect_answers limits m call.Gopark answer old new (g, running, (h, channels, machines)) = gopark g answer _ _ h
 effect_answers limits m (call.Ready k) answer old new (g, running, (h, channels, machines)) = ready k answer _ _ h
 effect_answers limits m call.Enter answer old new (g, running, (table, h, channels)) = enter m answer _ _ h
-effect_answers limits m (call.Leave number) answer old new (g, calling, resumes, h, channels) = leave m number answer _ _ h
+effect_answers limits m (call.Leave number) answer old new (g, calling, (resumes, h, channels)) = leave m number answer _ _ h
 effect_answers limits m call.Spin answer old new (free, (h, table, channels)) = spin m answer _ _ h
 effect_answers limits m call.Woken answer old new (h, table, channels) = woken m answer _ _ h
 effect_answers limits m call.Unspin answer old new (h, table, channels) = unspin m answer _ _ h

@@ -15,7 +15,7 @@ use Rattle.gmp_trace.specs.declared.trace.End.{End}
 use Rattle.gmp_trace.specs.declared.trace.End.TheVariants.{MainEnded, AllAsleep, BookFull, Running}
 use Rattle.gmp_trace.specs.Text.{fields, entry_pieces, entry_text, entries_text, end_text}
 use Rattle.gmp_trace.specs.HasText.{AreNumbered, answers, turns}
-use Rattle.gmp_trace.specs.Reading.{AreEntries, IsEntry, IsNext, IsBody, Starts}
+use Rattle.gmp_trace.specs.Reading.{AreEntries, IsEntry, IsNext, IsBody, BeginsWith}
 use Rattle.gmp_trace.proofs.Numbers.{IsDigit, decimal_digits}
 use Rattle.gmp_trace.proofs.Lines.{regroup}
 
@@ -167,13 +167,13 @@ some_left es xs end left =
     end_is_some end [] (sym (append_empty (entries_text (length es) left.others) (end_text end) left.text) ∙ sym (append-nil (end_text end)))
 
 -- nothing was read
-pub starts_none : (machines : ℕ) (text : List ℕ) → Starts machines text [] text
+pub starts_none : (machines : ℕ) (text : List ℕ) → BeginsWith machines text [] text
 starts_none machines text = record { entries = record { fits = All-nil Fits; numbered = tt; answered = tt }; whole = refl }
 
 -- one entry more
 pub starts_more : (machines : ℕ) (text : List ℕ) (es : List Entry) (rest : List ℕ) (n : ℕ) (e : Entry) (more : List ℕ)
-    → Starts machines text es rest → rest ≡ entry_text n e ++ more → n ≡ length es → IsNext machines es e → IsEntry n e
-    → Starts machines text (es ++ e ∷ []) more
+    → BeginsWith machines text es rest → rest ≡ entry_text n e ++ more → n ≡ length es → IsNext machines es e → IsEntry n e
+    → BeginsWith machines text (es ++ e ∷ []) more
 starts_more machines text es rest n e more h is number next entry =
     let grown : entries_text 0 (es ++ e ∷ []) ≡ entries_text 0 es ++ entry_text n e =
     entries_text-more 0 es e ∙ ap (λ (k : ℕ). entries_text 0 es ++ entry_text k e) (omega (arith, number)) in

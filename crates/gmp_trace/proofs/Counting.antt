@@ -10,10 +10,10 @@ use Rattle.std.specs.Str.{bytes_eq}
 use Rattle.gmp_base.specs.declared.number.MNo.{MNo}
 use Rattle.gmp_seq.specs.declared.call.Entry.{Entry}
 use Rattle.gmp_trace.specs.HasText.{turns}
-use Rattle.gmp_trace.specs.Summary.{CountsCalls, CountsMachines, call_line, calls_named, call_lines, machine_line, machine_lines, name_of, names}
+use Rattle.gmp_trace.specs.Summary.{CountsCalls, CountsMachines, call_line, calls_named, call_lines, machine_line, machine_lines, call_name, names}
 
-calls_more : (name : List ℕ) (es : List Entry) (e : Entry) → calls_named name (es ++ e ∷ []) ≡ calls_named name es + cond (bytes_eq (name_of e.call) name) 1 0
-calls_more name es e = sum_by-append (λ (x : Entry). cond (bytes_eq (name_of x.call) name) 1 0) es (e ∷ []) ∙ omega arith
+calls_more : (name : List ℕ) (es : List Entry) (e : Entry) → calls_named name (es ++ e ∷ []) ≡ calls_named name es + cond (bytes_eq (call_name e.call) name) 1 0
+calls_more name es e = sum_by-append (λ (x : Entry). cond (bytes_eq (call_name x.call) name) 1 0) es (e ∷ []) ∙ omega arith
 
 turns_more : (m : MNo) (es : List Entry) (e : Entry) → turns m (es ++ e ∷ []) ≡ turns m es + cond (e.m.0 == m.0) 1 0
 turns_more m es e = sum_by-append (λ (x : Entry). cond (x.m.0 == m.0) 1 0) es (e ∷ []) ∙ omega arith
@@ -36,10 +36,10 @@ is_one : (i j : ℕ) → i < 27 → j < 27 → bytes_eq (get_or names i []) (get
 is_one i j h k = agree_below_at (λ i. bytes_eq (get_or names i []) (get_or names j [])) (λ i. i == j) 27 i (is_one_of j k) h
 
 pub calls_counted : (counts : List ℕ) (es : List Entry) (e : Entry) (place : ℕ) → length counts ≡ 27 → CountsCalls counts es → place < 27
-    → get_or names place [] ≡ name_of e.call → CountsCalls (set counts place (get_or counts place 0 + 1)) (es ++ e ∷ [])
+    → get_or names place [] ≡ call_name e.call → CountsCalls (set counts place (get_or counts place 0 + 1)) (es ++ e ∷ [])
 calls_counted counts es e place size h there is i lt =
     let name = get_or names i [] in
-    let one : bytes_eq (name_of e.call) name ≡ (place == i) = ap (λ (w : List ℕ). bytes_eq w name) (sym is) ∙ is_one place i there lt in
+    let one : bytes_eq (call_name e.call) name ≡ (place == i) = ap (λ (w : List ℕ). bytes_eq w name) (sym is) ∙ is_one place i there lt in
     elim (eqb_tells place i) [
       | inl same ↦ rw (calls_more name es e, one, same.0) (get_or-set_at counts place i _ 0 (sym same.1) (omega arith) ∙ ap (λ (k : ℕ). k + 1) (ap (λ (k : ℕ). get_or counts k 0) same.1 ∙ h i lt))
       | inr other ↦ rw (calls_more name es e, one, other.0) (get_or-set_other counts place i _ 0 (λ q. other.1 (sym q)) ∙ h i lt ∙ omega arith)

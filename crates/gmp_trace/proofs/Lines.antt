@@ -20,7 +20,7 @@ use Rattle.gmp_trace.specs.declared.trace.End.TheVariants.{MainEnded, AllAsleep,
 use Rattle.gmp_trace.specs.HasText.{answers}
 use Rattle.gmp_trace.specs.Text.{Piece, piece_text, fields, line, call_pieces, reply_pieces, entry_pieces, entry_text, end_text, default_pieces, until_pieces, served_pieces, moved_pieces, woken_pieces, taken_pieces}
 use Rattle.gmp_trace.specs.Text.Piece.{Word, OfCase}
-use Rattle.gmp_trace.specs.Guess.{words_on, entry_of, number_of, end_in, word_at, call_of}
+use Rattle.gmp_trace.specs.Guess.{words_on, entry_of, number_read, end_in, word_at, call_of}
 use Rattle.gmp_trace.specs.Reading.{IsEntry}
 use Rattle.gmp_trace.proofs.Numbers.{number_again}
 use Rattle.gmp_trace.proofs.Lexing.{is_plain, is_word, are_plain, words_of_line, words_no_feed, words_plain, pair_parted, sides_again}
@@ -113,13 +113,13 @@ entry_again e number h a =
 
 -- The guess is the entry that the text begins with, so the line that is written of it is that entry's.
 pub guessed_entry : (text line number_word : List ℕ) (words : List (List ℕ)) (guess_n : ℕ) (guess : Entry) (n : ℕ) (e : Entry) (more : List ℕ)
-    → words ≡ take 1030 (words_on [] text) → number_word ≡ word_at 0 words → guess_n ≡ number_of number_word → guess ≡ entry_of words → line ≡ entry_text guess_n guess
+    → words ≡ take 1030 (words_on [] text) → number_word ≡ word_at 0 words → guess_n ≡ number_read number_word → guess ≡ entry_of words → line ≡ entry_text guess_n guess
     → IsEntry n e → text ≡ entry_text n e ++ more
     → (guess_n ≡ n) × (guess ≡ e) × (text ≡ line ++ more)
 guessed_entry text line number_word words guess_n guess n e more split first number entry written h is =
     let all : words ≡ decimal n ∷ map piece_text (entry_pieces e) =
     split ∙ ap (λ (t : List ℕ). take 1030 (words_on [] t)) is ∙ words_of_entry n e more h.number h.fits in
-    let same_n : guess_n ≡ n = number ∙ ap number_of (first ∙ ap (λ (ws : List (List ℕ)). word_at 0 ws) all) ∙ number_again n h.number in
+    let same_n : guess_n ≡ n = number ∙ ap number_read (first ∙ ap (λ (ws : List (List ℕ)). word_at 0 ws) all) ∙ number_again n h.number in
     let same_e : guess ≡ e = entry ∙ ap entry_of all ∙ entry_again e (decimal n) h.fits h.answered in
     (same_n, same_e, is ∙ ap (λ (t : List ℕ). t ++ more) (sym (written ∙ ap₂ entry_text same_n same_e)))
 

@@ -2,7 +2,7 @@
 use Rattle.std.proofs.Common.{◌≡◌, ℕ, ◌+◌, ◌/◌, ◌%◌, ◌^◌, ◌<◌, List, [], ◌∷◌, ◌++◌, refl, arith, rules, decimal}
 use Rattle.std.specs.List.{AllByRecursion}
 use Rattle.std.proofs.lemmas.Fmt.{decimal_by_steps}
-use Rattle.gmp_trace.specs.Guess.{number_on, number_of, narrow}
+use Rattle.gmp_trace.specs.Guess.{number_on, number_read, narrow}
 
 abbrev pub IsDigit : ℕ → Type 0
 IsDigit d = (47 < d) × (d < 58)
@@ -24,8 +24,8 @@ number_on-append : (xs ys : List ℕ) (n : ℕ) → number_on n (xs ++ ys) ≡ n
 number_on-append [] ys n = refl
 number_on-append (x ∷ xs) ys n = number_on-append xs ys _
 
-pub number_again : (n : ℕ) → n < 2 ^ 64 → number_of (decimal n) ≡ n
-unfolding number_of
+pub number_again : (n : ℕ) → n < 2 ^ 64 → number_read (decimal n) ≡ n
+unfolding number_read
 number_again n small =
     decimal_by_steps (λ n ds. n < 2 ^ 64 → number_on 0 ds ≡ n)
     (λ n h small. omega arith)

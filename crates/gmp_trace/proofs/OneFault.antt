@@ -7,9 +7,9 @@ use Rattle.gmp_seq.specs.Fits.{AreLimits}
 use Rattle.gmp_trace.specs.declared.bad.Why.{Why}
 use Rattle.gmp_trace.specs.declared.bad.Why.TheVariants as why
 use Rattle.gmp_trace.specs.declared.trace.End.{End}
-use Rattle.gmp_trace.specs.Guess.{bodies_of, capacity_of, end_in, entry_of, limits_of, number_of, word_at, words_on}
+use Rattle.gmp_trace.specs.Guess.{bodies_of, capacity_of, end_in, entry_of, limits_read, number_read, word_at, words_on}
 use Rattle.gmp_trace.specs.HasText.{HasText}
-use Rattle.gmp_trace.specs.Reading.{header, AreEntries, FitLimits, IsBody, IsCapsFault, IsEntry, IsFault, IsFaultBehind, IsLaterFault, IsLimitsFault, IsMisnumbered, IsNext, IsRestFault, Starts}
+use Rattle.gmp_trace.specs.Reading.{header, AreEntries, FitLimits, IsBody, IsCapsFault, IsEntry, IsFault, IsFaultBehind, IsLaterFault, IsLimitsFault, IsMisnumbered, IsNext, IsRestFault, BeginsWith}
 use Rattle.gmp_trace.specs.Text.{Content, capacities_text, end_text, entries_text, entry_text, limits_text, opening_text, text}
 use Rattle.gmp_trace.proofs.Body.{end_is_some, entry_is_no_end, first_of_left, shorter}
 use Rattle.gmp_trace.proofs.Lines.{guessed_end, guessed_entry, same_rest}
@@ -23,9 +23,9 @@ limits_once : (l m : Limits) (bodies stock : ℕ) (more behind : List ℕ) → F
 limits_once l m bodies stock more behind h k same =
     let bytes : List ℕ = limits_text l bodies ++ more in
     let words : List (List ℕ) = take 1030 (words_on [] bytes) in
-    let line : List ℕ = limits_text (limits_of words) (bodies_of words) in
-    let one = guessed_limits bytes line words (limits_of words) l (bodies_of words) bodies more refl refl refl refl h refl in
-    let two = guessed_limits bytes line words (limits_of words) m (bodies_of words) stock behind refl refl refl refl k same in
+    let line : List ℕ = limits_text (limits_read words) (bodies_of words) in
+    let one = guessed_limits bytes line words (limits_read words) l (bodies_of words) bodies more refl refl refl refl h refl in
+    let two = guessed_limits bytes line words (limits_read words) m (bodies_of words) stock behind refl refl refl refl k same in
     (sym one.0 ∙ two.0, sym one.1 ∙ two.1, same_rest bytes line more behind one.2 two.2)
 
 capacities_once : (cs ds more behind : List ℕ) → All (λ c. c < 2 ^ 32) cs → All (λ c. c < 2 ^ 32) ds → length cs < 1030 → length ds < 1030
@@ -45,9 +45,9 @@ entry_once m n d e more behind h k same =
     let bytes : List ℕ = entry_text m d ++ more in
     let words : List (List ℕ) = take 1030 (words_on [] bytes) in
     let first : List ℕ = word_at 0 words in
-    let line : List ℕ = entry_text (number_of first) (entry_of words) in
-    let one = guessed_entry bytes line first words (number_of first) (entry_of words) m d more refl refl refl refl refl h refl in
-    let two = guessed_entry bytes line first words (number_of first) (entry_of words) n e behind refl refl refl refl refl k same in
+    let line : List ℕ = entry_text (number_read first) (entry_of words) in
+    let one = guessed_entry bytes line first words (number_read first) (entry_of words) m d more refl refl refl refl refl h refl in
+    let two = guessed_entry bytes line first words (number_read first) (entry_of words) n e behind refl refl refl refl refl k same in
     (sym one.0 ∙ two.0, sym one.1 ∙ two.1, same_rest bytes line more behind one.2 two.2)
 
 end_once : (end other : End) (more behind : List ℕ) → end_text end ++ more ≡ end_text other ++ behind → more ≡ behind
@@ -67,7 +67,7 @@ Stops machines es rest = (e : Entry) (more : List ℕ) → IsEntry (length es) e
 
 -- the text has the lines of these entries, and no next one behind them
 record Ends (machines : ℕ) (bytes : List ℕ) (es : List Entry) (rest : List ℕ) : Type 0 where
-  starts : Starts machines bytes es rest
+  starts : BeginsWith machines bytes es rest
   stops : Stops machines es rest
 
 few_entries : (n : ℕ) (es : List Entry) (rest : List ℕ) → length es ≤ length (entries_text n es ++ rest)

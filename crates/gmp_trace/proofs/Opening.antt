@@ -6,7 +6,7 @@ use Rattle.gmp_seq.specs.declared.call.Limits.{Limits}
 use Rattle.gmp_seq.specs.Fits.{AreLimits}
 use Rattle.gmp_trace.specs.Text.{Piece, piece_text, fields, limit, limits_text, capacity_piece, capacities_text}
 use Rattle.gmp_trace.specs.Text.Piece.{Word, Number}
-use Rattle.gmp_trace.specs.Guess.{words_on, limits_of, bodies_of, capacity_of}
+use Rattle.gmp_trace.specs.Guess.{words_on, limits_read, bodies_of, capacity_of}
 use Rattle.gmp_trace.specs.Reading.{FitLimits}
 use Rattle.gmp_trace.proofs.Lexing.{are_plain, words_of_line}
 use Rattle.gmp_trace.proofs.WordRows.{decimal_plain}
@@ -70,8 +70,8 @@ limits_words l bodies more h =
     ∙ ap (λ (ws : List (List ℕ)). take 1030 ws) (words_of_line (codes "limits") (limits_pieces l bodies) more refl (limits_plain l bodies h))
     ∙ take_all 1030 (codes "limits" ∷ map piece_text (limits_pieces l bodies)) (omega arith)
 
-limits_again : (l : Limits) (bodies : ℕ) → FitLimits l bodies → limits_of (codes "limits" ∷ map piece_text (limits_pieces l bodies)) ≡ l
-unfolding limits_of
+limits_again : (l : Limits) (bodies : ℕ) → FitLimits l bodies → limits_read (codes "limits" ∷ map piece_text (limits_pieces l bodies)) ≡ l
+unfolding limits_read
 limits_again l bodies h =
     rw (
       small_again 8 l.procs h.procs (omega (arith, h.procs)),
@@ -85,12 +85,12 @@ unfolding bodies_of
 bodies_again l bodies h = small_again 16 bodies h.stock (omega (arith, h.stock))
 
 pub guessed_limits : (text line : List ℕ) (words : List (List ℕ)) (guess l : Limits) (guess_bodies bodies : ℕ) (more : List ℕ)
-    → words ≡ take 1030 (words_on [] text) → guess ≡ limits_of words → guess_bodies ≡ bodies_of words → line ≡ limits_text guess guess_bodies
+    → words ≡ take 1030 (words_on [] text) → guess ≡ limits_read words → guess_bodies ≡ bodies_of words → line ≡ limits_text guess guess_bodies
     → FitLimits l bodies → text ≡ limits_text l bodies ++ more
     → (guess ≡ l) × (guess_bodies ≡ bodies) × (text ≡ line ++ more)
 guessed_limits text line words guess l guess_bodies bodies more split is_guess is_bodies written h is =
     let all : words ≡ codes "limits" ∷ map piece_text (limits_pieces l bodies) = split ∙ ap (λ (t : List ℕ). take 1030 (words_on [] t)) is ∙ limits_words l bodies more h in
-    let same : guess ≡ l = is_guess ∙ ap limits_of all ∙ limits_again l bodies h in
+    let same : guess ≡ l = is_guess ∙ ap limits_read all ∙ limits_again l bodies h in
     let stock : guess_bodies ≡ bodies = is_bodies ∙ ap bodies_of all ∙ bodies_again l bodies h in
     (same, stock, is ∙ ap (λ (t : List ℕ). t ++ more) (sym (written ∙ ap₂ limits_text same stock)))
 

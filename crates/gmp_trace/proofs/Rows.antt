@@ -25,23 +25,23 @@ use Rattle.gmp_seq.specs.Fits.{FitsReadiness, FitsCall, FitsReply, FitsRelay, Fi
 use Rattle.gmp_trace.specs.HasText.{answers}
 use Rattle.gmp_trace.specs.Text.{Piece, piece_text, channel_text, case_text, readiness, boolean, call_pieces, reply_pieces, default_pieces, until_pieces, served_pieces, moved_pieces, woken_pieces, taken_pieces}
 use Rattle.gmp_trace.specs.Text.Piece.{OfCase}
-use Rattle.gmp_trace.specs.Guess.{parted, number_of, narrow, byte_at, word_at, readiness_of, channel_of, is_case, case_of, cases_of, default_of, until_of, select_of, call_named, call_of, fault_of, served_of, relay_of, woken_of, taken_of, idle_of, shelf_of, reply_named, reply_of}
+use Rattle.gmp_trace.specs.Guess.{parted, number_read, narrow, byte_at, word_at, readiness_read, channel_read, is_case, case_read, leading_cases, default_of, until_of, select_read, call_named, call_of, fault_of, served_of, relay_of, woken_of, taken_of, idle_of, shelf_of, reply_named, reply_of}
 use Rattle.gmp_trace.proofs.Numbers.{number_again, narrow_again, decimal_digits, IsDigit}
 use Rattle.gmp_trace.proofs.Lexing.{HasNo, pair_parted, parted_again, decimal_has_no}
 use Rattle.gmp_trace.proofs.WordRows.{select_pieces}
 
 -- a number of its bits
-pub small_again : (bits n : ℕ) → n < 2 ^ bits → n < 2 ^ 64 → narrow bits (number_of (decimal n)) ≡ n
+pub small_again : (bits n : ℕ) → n < 2 ^ bits → n < 2 ^ 64 → narrow bits (number_read (decimal n)) ≡ n
 small_again bits n h w = rw (number_again n w) (narrow_again bits n h)
 
-again8 : (n : ℕ) → n < 2 ^ 8 → narrow 8 (number_of (decimal n)) ≡ n
+again8 : (n : ℕ) → n < 2 ^ 8 → narrow 8 (number_read (decimal n)) ≡ n
 again8 n h = small_again 8 n h (omega arith)
 
-again16 : (n : ℕ) → n < 2 ^ 16 → narrow 16 (number_of (decimal n)) ≡ n
+again16 : (n : ℕ) → n < 2 ^ 16 → narrow 16 (number_read (decimal n)) ≡ n
 again16 n h = small_again 16 n h (omega arith)
 
-pub readiness_again : (r : Readiness) → FitsReadiness r → readiness_of (piece_text (readiness r)) ≡ r
-unfolding readiness_of
+pub readiness_again : (r : Readiness) → FitsReadiness r → readiness_read (piece_text (readiness r)) ≡ r
+unfolding readiness_read
 readiness_again r h = rw (pair_parted r.g.0 r.epoch (omega (arith, h.0)), again16 r.g.0 h.0, number_again r.epoch h.1) refl
 
 -- ---- channels and cases
@@ -50,8 +50,8 @@ not_nil : (ds : List ℕ) → AllByRecursion IsDigit ds → bytes_eq ds (codes "
 not_nil [] h = refl
 not_nil (d ∷ ds) h = let other : (d == 110) ≡ false = search (rules, h.0) in rw other refl
 
-channel_again : (c : Option CNo) → IfSome c IsChannelNumber → channel_of (channel_text c) ≡ c
-unfolding channel_of
+channel_again : (c : Option CNo) → IfSome c IsChannelNumber → channel_read (channel_text c) ≡ c
+unfolding channel_read
 channel_again None h = refl
 channel_again (Some c) h = rw (not_nil (decimal c.0) (decimal_digits c.0 (omega arith)), again16 c.0 h) refl
 
@@ -62,8 +62,8 @@ channel_has_no (Some c) h = decimal_has_no 58 c.0 (omega arith) (omega arith)
 case_apart : (c : Option CNo) (v : ℕ) → IfSome c IsChannelNumber → parted 58 (channel_text c ++ codes ":" ++ decimal v) ≡ (channel_text c, decimal v)
 case_apart c v h = ap (λ (t : List ℕ). parted 58 t) (append_assoc (channel_text c) (codes ":") (decimal v)) ∙ parted_again 58 (channel_text c) (decimal v) (channel_has_no c h)
 
-case_again : (c : Case) → FitsCase c → case_of (case_text c) ≡ c
-unfolding case_of parted
+case_again : (c : Case) → FitsCase c → case_read (case_text c) ≡ c
+unfolding case_read parted
 case_again (case.Send c v) h = rw (case_apart c v h.0, channel_again c h.0, number_again v h.1) refl
 case_again (case.Recv c) h = ap case.Recv (channel_again c h)
 
@@ -75,7 +75,7 @@ case_is (case.Recv c) = refl
 -- ---- selects
 
 cases_again : (cases : List Case) (n : ℕ) (rest : List (List ℕ)) → length cases ≤ n → All FitsCase cases → is_case (word_at 0 rest) ≡ false
-    → cases_of n (map piece_text (map OfCase cases) ++ rest) ≡ (cases, rest)
+    → leading_cases n (map piece_text (map OfCase cases) ++ rest) ≡ (cases, rest)
 cases_again [] zero rest short h other = refl
 cases_again [] (suc n) [] short h other = refl
 cases_again [] (suc n) (w ∷ rest) short h other = rw other refl
@@ -111,8 +111,8 @@ select_words cases has_default until =
     ∙ map-append piece_text (map OfCase cases) (default_pieces has_default ++ until_pieces until)
 
 select_again : (cases : List Case) (has_default : Bool) (until : Option ℕ) → FitsCall (call.Select cases has_default until)
-    → select_of (map piece_text (map OfCase cases ++ default_pieces has_default ++ until_pieces until)) ≡ call.Select cases has_default until
-unfolding select_of
+    → select_read (map piece_text (map OfCase cases ++ default_pieces has_default ++ until_pieces until)) ≡ call.Select cases has_default until
+unfolding select_read
 select_again cases has_default until h =
     rw (
       select_words cases has_default until,
@@ -166,7 +166,7 @@ taken_again (taken.Got v sent from) h =
     rw (number_again v h.0, true_again sent, relay_again (codes "got") (decimal v) (piece_text (boolean sent)) from h.1) refl
 taken_again taken.Failed h = refl
 
-fault_again : (f : Fault) → fault_of (number_of (decimal (fault_number f))) ≡ f
+fault_again : (f : Fault) → fault_of (number_read (decimal (fault_number f))) ≡ f
 unfolding fault_of
 fault_again fault.NoSuchBody = rw (number_again 1 (omega arith)) refl
 fault_again fault.AlreadyStarted = rw (number_again 2 (omega arith)) refl

@@ -49,8 +49,8 @@ abbrev pub number_on : ℕ → List ℕ → ℕ
 number_on n [] = n
 number_on n (d ∷ ds) = number_on ((n * 10 % 2 ^ 64 + d % 16) % 2 ^ 64) ds
 
-unfoldable pub number_of : List ℕ → ℕ
-number_of word = number_on 0 word
+unfoldable pub number_read : List ℕ → ℕ
+number_read word = number_on 0 word
 
 unfoldable pub narrow : ℕ → ℕ → ℕ
 narrow bits n = n % 2 ^ bits
@@ -69,13 +69,13 @@ abbrev pub letter_at : ℕ → List (List ℕ) → ℕ
 letter_at i words = letter (word_at i words)
 
 abbrev pub number_at : ℕ → List (List ℕ) → ℕ
-number_at i words = number_of (word_at i words)
+number_at i words = number_read (word_at i words)
 
-unfoldable pub readiness_of : List ℕ → Readiness
-readiness_of word = record { g = record { 0 = narrow 16 (number_of (parted 46 word).0) }; epoch = number_of (parted 46 word).1 }
+unfoldable pub readiness_read : List ℕ → Readiness
+readiness_read word = record { g = record { 0 = narrow 16 (number_read (parted 46 word).0) }; epoch = number_read (parted 46 word).1 }
 
-unfoldable pub channel_of : List ℕ → Option CNo
-channel_of word = if bytes_eq word (codes "nil") then None else Some (record { 0 = narrow 16 (number_of word) })
+unfoldable pub channel_read : List ℕ → Option CNo
+channel_read word = if bytes_eq word (codes "nil") then None else Some (record { 0 = narrow 16 (number_read word) })
 
 -- Calls
 
@@ -83,16 +83,16 @@ channel_of word = if bytes_eq word (codes "nil") then None else Some (record { 0
 unfoldable pub is_case : List ℕ → Bool
 is_case word = bytes_eq (parted 58 word).0 (codes "send") || bytes_eq (parted 58 word).0 (codes "recv")
 
-unfoldable pub case_of : List ℕ → Case
-case_of word =
-    if bytes_eq (parted 58 word).0 (codes "send") then case.Send (channel_of (parted 58 (parted 58 word).1).0) (number_of (parted 58 (parted 58 word).1).1)
-    else case.Recv (channel_of (parted 58 word).1)
+unfoldable pub case_read : List ℕ → Case
+case_read word =
+    if bytes_eq (parted 58 word).0 (codes "send") then case.Send (channel_read (parted 58 (parted 58 word).1).0) (number_read (parted 58 (parted 58 word).1).1)
+    else case.Recv (channel_read (parted 58 word).1)
 
 -- at most n cases, and the words behind them
-abbrev pub cases_of : ℕ → List (List ℕ) → List Case × List (List ℕ)
-cases_of zero words = ([], words)
-cases_of (suc n) [] = ([], [])
-cases_of (suc n) (w ∷ ws) = if is_case w then (case_of w ∷ (cases_of n ws).0, (cases_of n ws).1) else ([], w ∷ ws)
+abbrev pub leading_cases : ℕ → List (List ℕ) → List Case × List (List ℕ)
+leading_cases zero words = ([], words)
+leading_cases (suc n) [] = ([], [])
+leading_cases (suc n) (w ∷ ws) = if is_case w then (case_read w ∷ (leading_cases n ws).0, (leading_cases n ws).1) else ([], w ∷ ws)
 
 abbrev pub default_of : List (List ℕ) → Bool × List (List ℕ)
 default_of words = if bytes_eq (word_at 0 words) (codes "default") then (true, drop 1 words) else (false, words)
@@ -100,9 +100,9 @@ default_of words = if bytes_eq (word_at 0 words) (codes "default") then (true, d
 abbrev pub until_of : List (List ℕ) → Option ℕ
 until_of words = if bytes_eq (word_at 0 words) (codes "until") then Some (number_at 1 words) else None
 
-unfoldable pub select_of : List (List ℕ) → Call
-select_of words =
-    let cases = cases_of 8 words in
+unfoldable pub select_read : List (List ℕ) → Call
+select_read words =
+    let cases = leading_cases 8 words in
     let default = default_of cases.1 in
     call.Select cases.0 default.0 (until_of default.1)
 
@@ -111,15 +111,15 @@ unfoldable pub call_named : ℕ → ℕ → List (List ℕ) → Call
 call_named first third words =
     if first == letter (codes "acquire") then call.Acquire
     else (if first == letter (codes "bare") then call.Bare
-    else (if first == letter (codes "claim") then (if third == byte_at 2 (codes "claim") then call.Claim (readiness_of (word_at 1 words)) else (if third == byte_at 2 (codes "close") then call.Close (channel_of (word_at 1 words)) else call.Cap (channel_of (word_at 1 words))))
+    else (if first == letter (codes "claim") then (if third == byte_at 2 (codes "claim") then call.Claim (readiness_read (word_at 1 words)) else (if third == byte_at 2 (codes "close") then call.Close (channel_read (word_at 1 words)) else call.Cap (channel_read (word_at 1 words))))
     else (if first == letter (codes "declare") then call.Declare
     else (if first == letter (codes "exit") then (if third == byte_at 2 (codes "exit") then call.Exit else call.Enter)
     else (if first == letter (codes "gopark") then (if third == byte_at 2 (codes "gopark") then call.Gopark else call.Go (record { 0 = narrow 16 (number_at 1 words) }))
-    else (if first == letter (codes "leave") then (if third == byte_at 2 (codes "leave") then call.Leave (number_at 1 words) else call.Len (channel_of (word_at 1 words)))
+    else (if first == letter (codes "leave") then (if third == byte_at 2 (codes "leave") then call.Leave (number_at 1 words) else call.Len (channel_read (word_at 1 words)))
     else (if first == letter (codes "make") then call.Make (narrow 32 (number_at 1 words))
-    else (if first == letter (codes "put") then (if third == byte_at 2 (codes "put") then call.Put (readiness_of (word_at 1 words)) else (if third == byte_at 2 (codes "poke") then call.Poke else call.Park))
-    else (if first == letter (codes "ready") then (if third == byte_at 2 (codes "ready") then call.Ready (record { 0 = narrow 16 (number_at 1 words) }) else call.Recv (channel_of (word_at 1 words)))
-    else (if first == letter (codes "send") then (if third == byte_at 2 (codes "send") then call.Send (channel_of (word_at 1 words)) (number_at 2 words) else (if third == byte_at 2 (codes "select") then select_of (drop 1 words) else (if third == byte_at 2 (codes "sleep") then call.Sleep (number_at 1 words) else call.Spin)))
+    else (if first == letter (codes "put") then (if third == byte_at 2 (codes "put") then call.Put (readiness_read (word_at 1 words)) else (if third == byte_at 2 (codes "poke") then call.Poke else call.Park))
+    else (if first == letter (codes "ready") then (if third == byte_at 2 (codes "ready") then call.Ready (record { 0 = narrow 16 (number_at 1 words) }) else call.Recv (channel_read (word_at 1 words)))
+    else (if first == letter (codes "send") then (if third == byte_at 2 (codes "send") then call.Send (channel_read (word_at 1 words)) (number_at 2 words) else (if third == byte_at 2 (codes "select") then select_read (drop 1 words) else (if third == byte_at 2 (codes "sleep") then call.Sleep (number_at 1 words) else call.Spin)))
     else (if first == letter (codes "take") then (if third == byte_at 2 (codes "take") then call.Take else call.Tick (number_at 1 words))
     else (if first == letter (codes "unspin") then call.Unspin
     else (if first == letter (codes "woken") then call.Woken
@@ -144,12 +144,12 @@ fault_of n =
 
 -- of `sent`, who was served
 abbrev pub served_of : List (List ℕ) → Option Readiness
-served_of words = if letter_at 1 words == letter (codes "wakes") then Some (readiness_of (word_at 2 words)) else None
+served_of words = if letter_at 1 words == letter (codes "wakes") then Some (readiness_read (word_at 2 words)) else None
 
 -- of `got` with its value, who was served
 abbrev pub relay_of : List (List ℕ) → Option Relay
 relay_of words =
-    if letter_at 3 words == letter (codes "wakes") then Some (record { sender = readiness_of (word_at 4 words); value = number_at 6 words }) else None
+    if letter_at 3 words == letter (codes "wakes") then Some (record { sender = readiness_read (word_at 4 words); value = number_at 6 words }) else None
 
 -- of `idle` with its processor, which machine was woken
 abbrev pub woken_of : List (List ℕ) → Option MNo
@@ -168,7 +168,7 @@ idle_of call.Declare p None = reply.Idle p
 idle_of _ p woken = reply.Entered p woken
 
 abbrev pub shelf_of : List ℕ → Reply
-shelf_of word = if bytes_eq word [] then reply.Shelf else reply.Shelved (readiness_of word)
+shelf_of word = if bytes_eq word [] then reply.Shelf else reply.Shelved (readiness_read word)
 
 -- The first three letters of a reply's name tell it from the others.
 unfoldable pub reply_named : Call → ℕ → ℕ → ℕ → List (List ℕ) → Reply
@@ -185,7 +185,7 @@ reply_named asked first second third words =
     else (if first == letter (codes "proc") then (if third == byte_at 2 (codes "proc") then reply.Proc (record { 0 = narrow 8 (number_at 1 words) }) else reply.Parked)
     else (if first == letter (codes "runs") then reply.Runs (record { 0 = narrow 8 (number_at 1 words) })
     else (if first == letter (codes "shelf") then (if third == byte_at 2 (codes "shelf") then shelf_of (word_at 1 words) else reply.Sent (served_of words))
-    else (if first == letter (codes "ticket") then (if third == byte_at 2 (codes "ticket") then reply.Ticket (readiness_of (word_at 1 words)) else reply.Answer true)
+    else (if first == letter (codes "ticket") then (if third == byte_at 2 (codes "ticket") then reply.Ticket (readiness_read (word_at 1 words)) else reply.Answer true)
     else (if third == byte_at 2 (codes "waits") then reply.Waits
     else (if third == byte_at 2 (codes "work") then reply.Work
     else (if second == byte_at 1 (codes "wakes") then reply.Wakes (record { 0 = narrow 8 (number_at 1 words) })
@@ -200,8 +200,8 @@ unfoldable pub entry_of : List (List ℕ) → Entry
 entry_of words =
     let asked = call_of (sides (drop 2 words)).0 in
     record {
-      m = record { 0 = narrow 8 (number_of (parted 46 (word_at 1 words)).0) };
-      k = number_of (parted 46 (word_at 1 words)).1;
+      m = record { 0 = narrow 8 (number_read (parted 46 (word_at 1 words)).0) };
+      k = number_read (parted 46 (word_at 1 words)).1;
       call = asked;
       reply = reply_of asked (sides (drop 2 words)).1;
     }
@@ -213,8 +213,8 @@ end_in words =
     else (if bytes_eq (word_at 1 words) (codes "book") then BookFull
     else Running))
 
-unfoldable pub limits_of : List (List ℕ) → Limits
-limits_of words = record {
+unfoldable pub limits_read : List (List ℕ) → Limits
+limits_read words = record {
   procs = narrow 8 (number_at 2 words);
   machines = narrow 8 (number_at 4 words);
   channels = narrow 16 (number_at 8 words);
@@ -225,7 +225,7 @@ unfoldable pub bodies_of : List (List ℕ) → ℕ
 bodies_of words = narrow 16 (number_at 6 words)
 
 abbrev pub capacity_of : List ℕ → ℕ
-capacity_of word = narrow 32 (number_of word)
+capacity_of word = narrow 32 (number_read word)
 
 abbrev pub capacities_of : List (List ℕ) → List ℕ
 capacities_of words = map capacity_of (drop 1 words)

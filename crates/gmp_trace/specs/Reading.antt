@@ -40,7 +40,7 @@ pub record AreEntries (machines : ℕ) (es : List Entry) : Type 0 where
   pub answered : AllByRecursion (λ (e : Entry). IsTrue (answers e.call e.reply)) es
 
 -- the text has the lines of these entries, and then the rest
-pub record Starts (machines : ℕ) (text : List ℕ) (es : List Entry) (rest : List ℕ) : Type 0 where
+pub record BeginsWith (machines : ℕ) (text : List ℕ) (es : List Entry) (rest : List ℕ) : Type 0 where
   pub entries : AreEntries machines es
   pub whole : text ≡ entries_text 0 es ++ rest
 
@@ -83,7 +83,7 @@ IsRestFault machines es rest line other = ⊥
 pub record IsFaultBehind (machines : ℕ) (text : List ℕ) (line : ℕ) (what : Why) : Type 0 where
   pub es : List Entry
   pub rest : List ℕ
-  pub starts : Starts machines text es rest
+  pub starts : BeginsWith machines text es rest
   pub fault : IsRestFault machines es rest line what
 
 -- what is wrong behind line 3

@@ -50,12 +50,12 @@ first_word [] = []
 first_word (p ∷ ps) = piece_text p
 
 -- the first word of a call
-abbrev pub name_of : Call → List ℕ
-name_of c = first_word (call_pieces c)
+abbrev pub call_name : Call → List ℕ
+call_name c = first_word (call_pieces c)
 
 -- how many entries make a call of this name
 abbrev pub calls_named : List ℕ → List Entry → ℕ
-calls_named name es = count_by (λ (e : Entry). bytes_eq (name_of e.call) name) es
+calls_named name es = count_by (λ (e : Entry). bytes_eq (call_name e.call) name) es
 
 -- a line for each of these names
 abbrev pub call_lines : List (List ℕ) → List Entry → List ℕ

@@ -7,7 +7,7 @@ ghost use Rattle.gmp_seq.specs.declared.call.Entry.{Entry};
 ghost use Rattle.gmp_seq.specs.declared.call.Limits.{Limits};
 ghost use Rattle.gmp_seq.specs.Fits.{Fits};
 ghost use Rattle.gmp_trace.specs.declared.trace.End.{End};
-ghost use Rattle.gmp_trace.specs.Guess.{bodies_of, capacity_of, end_in, entry_of, limits_of};
+ghost use Rattle.gmp_trace.specs.Guess.{bodies_of, capacity_of, end_in, entry_of, limits_read};
 ghost use Rattle.gmp_trace.specs.Reading.{FitLimits, IsEntry};
 ghost use Rattle.gmp_trace.specs.Text.{capacities_text, end_text, entry_text, limits_text};
 
@@ -27,9 +27,9 @@ pub fn behind<'a>(text: &'a [u8], line: &[u8]) -> Option<&'a [u8]>
     text.strip_prefix(line)
 }
 
-#[tactic(auto, unfolding(crate::specs::Guess::limits_of))]
+#[tactic(auto, unfolding(crate::specs::Guess::limits_read))]
 fn guess_limits(words: &[&[u8]]) -> Limits
-    ensures { result ≡ limits_of (map (λ w. w.now) words.now) }
+    ensures { result ≡ limits_read (map (λ w. w.now) words.now) }
 {
     Limits {
         procs: narrow8(number(word(words, 2))),

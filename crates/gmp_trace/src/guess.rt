@@ -2,7 +2,7 @@
 
 ghost use Rattle.std.specs.Prelude.{◌≡◌, ◌<◌, ◌++◌, ◌∷◌, [], length, map};
 ghost use Rattle.gmp_seq.specs.Fits.{FitsCall};
-ghost use Rattle.gmp_trace.specs.Guess.{is_case, case_of, cases_of, default_of, until_of, select_of, call_named, call_of};
+ghost use Rattle.gmp_trace.specs.Guess.{is_case, case_read, leading_cases, default_of, until_of, select_read, call_named, call_of};
 
 use crate::words::{
     byte, channel, letter, narrow16, narrow32, number, part, readiness, skip, word,
@@ -18,9 +18,9 @@ fn is_case(word: &[u8]) -> bool
     kind == b"send".as_slice() || kind == b"recv".as_slice()
 }
 
-#[tactic(auto, unfolding(crate::specs::Guess::case_of))]
+#[tactic(auto, unfolding(crate::specs::Guess::case_read))]
 fn case(word: &[u8]) -> Case
-    ensures { result ≡ case_of word.now }
+    ensures { result ≡ case_read word.now }
 {
     let (kind, rest) = part(word, b':');
     if kind == b"send".as_slice() {
@@ -39,7 +39,7 @@ fn add(cases: &mut Cases, case: Case)
 }
 
 fn cases<'b, 'a>(words: &'b [&'a [u8]]) -> (Cases, &'b [&'a [u8]])
-    ensures { (result.0, map (λ w. w.now) result.1.now) ≡ cases_of 8 (map (λ w. w.now) words.now) }
+    ensures { (result.0, map (λ w. w.now) result.1.now) ≡ leading_cases 8 (map (λ w. w.now) words.now) }
 {
     let mut cases = Cases::new();
     for (i, word) in words.iter().enumerate() {
@@ -75,9 +75,9 @@ fn until(words: &[&[u8]]) -> Option<u64>
 }
 
 /// The cases, the default and the deadline of a select.
-#[tactic(auto, unfolding(crate::specs::Guess::select_of))]
+#[tactic(auto, unfolding(crate::specs::Guess::select_read))]
 fn select(words: &[&[u8]]) -> Call
-    ensures { result ≡ select_of (map (λ w. w.now) words.now) }
+    ensures { result ≡ select_read (map (λ w. w.now) words.now) }
 {
     let (cases, words) = cases(words);
     let (has_default, words) = default(words);

@@ -4,7 +4,7 @@ ghost use Rattle.std.specs.Prelude.{◌≡◌, ◌<◌, ◌++◌, [], List, repl
 ghost use Rattle.std.specs.Io.KnownBytes.{Appends};
 ghost use Rattle.gmp_seq.specs.declared.call.Entry.{Entry};
 ghost use Rattle.gmp_trace.specs.declared.writing.WriteError.TheVariants.{OutOfMemory};
-ghost use Rattle.gmp_trace.specs.Summary.{CountsCalls, CountsMachines, call_line, call_lines, entries_line, machine_line, machine_lines, name_of, names, outcome_line, summary_text};
+ghost use Rattle.gmp_trace.specs.Summary.{CountsCalls, CountsMachines, call_line, call_lines, entries_line, machine_line, machine_lines, call_name, names, outcome_line, summary_text};
 ghost use Rattle.gmp_trace.specs.Text.{content};
 
 use crate::put::{put, put_digits, put_number};
@@ -22,7 +22,7 @@ const CALLS: usize = 27;
 #[tactic(auto, unfolding(crate::specs::Summary::names))]
 fn place(call: &Call) -> usize
     ensures bound { result < 27 }
-    ensures name { slice_index_or names result [] ≡ name_of call.now }
+    ensures name { slice_index_or names result [] ≡ call_name call.now }
 {
     match call {
         Call::Acquire => 0,

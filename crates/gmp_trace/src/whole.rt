@@ -234,7 +234,7 @@ fn body<W: Watch>(
 
 /// The trace whose text the bytes are, or the first bad line.
 ///
-/// It goes over the bytes once, and takes memory for the entries, the capacities, and the words of one line. `OutOfMemory` comes only where
+/// It goes over the bytes once, and takes memory for the entries, the capacities, the words of one line and that line written anew. `OutOfMemory` comes only where
 /// memory was refused.
 pub fn read(alloc: Global, bytes: &[u8]) -> Result<Trace, Bad>
     ensures found { IfOk result (λ x. HasText (content x) × (bytes.now ≡ text (content x))) }

@@ -1,7 +1,7 @@
 //! Words of a line, and what they may stand for. Nothing is refused: who reads writes what was read, and compares.
 
 ghost use Rattle.std.specs.Prelude.{◌≡◌, [], OnOk, map, take, drop};
-ghost use Rattle.gmp_trace.specs.Guess.{words_on, parted, sides, number_of, narrow, byte_at, letter_at, word_at, readiness_of, channel_of};
+ghost use Rattle.gmp_trace.specs.Guess.{words_on, parted, sides, number_read, narrow, byte_at, letter_at, word_at, readiness_read, channel_read};
 
 use gmp_base::{CNo, GNo, Readiness};
 use std::alloc::AllocError;
@@ -36,9 +36,9 @@ pub fn sides<'b, 'a>(words: &'b [&'a [u8]]) -> (&'b [&'a [u8]], &'b [&'a [u8]])
 }
 
 /// The number that digits write; of one that is too great, its last 64 bits.
-#[tactic(auto, unfolding(crate::specs::Guess::number_of))]
+#[tactic(auto, unfolding(crate::specs::Guess::number_read))]
 pub fn number(word: &[u8]) -> u64
-    ensures { result ≡ number_of word.now }
+    ensures { result ≡ number_read word.now }
 {
     let mut n = 0u64;
     for digit in word {
@@ -68,9 +68,9 @@ pub fn narrow32(n: u64) -> u32
     (n % 4_294_967_296) as u32
 }
 
-#[tactic(auto, unfolding(crate::specs::Guess::readiness_of))]
+#[tactic(auto, unfolding(crate::specs::Guess::readiness_read))]
 pub fn readiness(word: &[u8]) -> Readiness
-    ensures { result ≡ readiness_of word.now }
+    ensures { result ≡ readiness_read word.now }
 {
     let (g, epoch) = part(word, b'.');
     Readiness {
@@ -79,9 +79,9 @@ pub fn readiness(word: &[u8]) -> Readiness
     }
 }
 
-#[tactic(auto, unfolding(crate::specs::Guess::channel_of))]
+#[tactic(auto, unfolding(crate::specs::Guess::channel_read))]
 pub fn channel(word: &[u8]) -> Option<CNo>
-    ensures { result ≡ channel_of word.now }
+    ensures { result ≡ channel_read word.now }
 {
     if word == b"nil".as_slice() {
         return None;

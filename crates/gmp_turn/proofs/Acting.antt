@@ -9,7 +9,7 @@ use Rattle.gmp_seq.specs.Step.{Step}
 use Rattle.gmp_book.specs.Book.{BookContents}
 use Rattle.gmp_driver.specs.declared.act.Act.TheVariants as act
 use Rattle.gmp_driver.specs.declared.act.Told.TheVariants as told
-use Rattle.gmp_driver.specs.Fits.{Fits}
+use Rattle.gmp_driver.specs.Fits.{SuitsPlace}
 use Rattle.gmp_driver.specs.Machine.{Machine}
 use Rattle.gmp_driver.specs.Table.{after, next_act}
 use Rattle.gmp_driver.proofs.Uses.{uses}
@@ -26,7 +26,7 @@ use Rattle.gmp_acts.proofs.Plain.{after_plain}
 pub same_pass : (p q : Pass) (o : Option Pass) → o ≡ Some p → o ≡ Some q → p ≡ q
 same_pass p q o a b = cc
 
-module _ {T Q : Type 0} (x x' : Machine T Q) (book book' : BookContents T Q) (m : MNo) (asked : Call) (word : ℕ) (answer : Reply) (own : List Made) (is : next_act x ≡ act.Call asked) (fits : Fits x.place x.hand)
+module _ {T Q : Type 0} (x x' : Machine T Q) (book book' : BookContents T Q) (m : MNo) (asked : Call) (word : ℕ) (answer : Reply) (own : List Made) (is : next_act x ≡ act.Call asked) (fits : SuitsPlace x.place x.hand)
     (granted : IsGranted (plain_machine x) m asked (run_of book.log)) (turned : Turns x book asked word (Ok answer) x' book') where
   same : turned.before ≡ granted.may.pass
   same = same_pass turned.before granted.may.pass x.pass turned.pass granted.may.has_pass

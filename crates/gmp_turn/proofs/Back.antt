@@ -14,18 +14,18 @@ use Rattle.gmp_seq.specs.declared.call.Call.{Call}
 use Rattle.gmp_seq.specs.declared.call.Call.TheVariants as call
 use Rattle.gmp_seq.specs.declared.call.Reply.{Reply}
 use Rattle.gmp_seq.specs.declared.call.Reply.TheVariants as reply
-use Rattle.gmp_base.specs.Values.{readiness_of}
+use Rattle.gmp_base.specs.Values.{readiness_of, ticket_by}
 use Rattle.gmp_seq.specs.Step.{ticket_in, woke_after}
 use Rattle.gmp_book.specs.declared.values.Values.{Values}
 use Rattle.gmp_book.specs.Book.{BookContents}
-use Rattle.gmp_book.specs.Hands.{Hands, HandsBody, HandsOwner, ticket_by, way_of}
+use Rattle.gmp_book.specs.Hands.{Hands, HandsBody, HandsOwner, way_of}
 use Rattle.gmp_driver.specs.declared.act.Act.TheVariants as act
 use Rattle.gmp_driver.specs.declared.registers.CalledParts.{CalledParts}
 use Rattle.gmp_driver.specs.declared.registers.HeldParts.{HeldParts}
 use Rattle.gmp_driver.specs.declared.registers.ProcParts.{ProcParts}
 use Rattle.gmp_driver.specs.declared.registers.Registers.{Registers}
 use Rattle.gmp_driver.specs.Loads.{called_of, held_of, held_parts, load_of, parts_of}
-use Rattle.gmp_driver.specs.Registers.{AreApart, first_of, joined, unused, used}
+use Rattle.gmp_driver.specs.Registers.{AreFilledOnce, first_of, joined, unused, used}
 use Rattle.gmp_driver.specs.Uses.{Uses}
 use Rattle.gmp_turn.specs.Turns.{is_to_claim, load_back, values_in}
 use Rattle.gmp_turn.proofs.Given.{some_of}
@@ -46,7 +46,7 @@ filled hand = record { processor = is_some hand.processor; held = is_some hand.h
 
 -- what came is apart from what was left, and together they are this, in plain parts
 abbrev pub Comes : {T Q : Type 0} → PlainHand → Registers T Q → Registers T Q → Type 0
-Comes after left came = (plain (joined came left) ≡ after) × AreApart left came
+Comes after left came = (plain (joined came left) ≡ after) × AreFilledOnce left came
 
 module _ {T Q : Type 0} (behind : Pass) (back : Values T Q) where
   abbrev came : Bool → Registers T Q

@@ -12,6 +12,7 @@ use Rattle.gmp_base.specs.declared.refusal.Refusal.TheVariants.{OutOfMemory}
 use Rattle.gmp_base.specs.declared.value.Called.{Called}
 use Rattle.gmp_base.specs.declared.value.Held.{Held}
 use Rattle.gmp_base.specs.declared.value.Proc.{Proc}
+use Rattle.gmp_base.specs.Values.{ticket_by}
 use Rattle.gmp_seq.specs.declared.call.Call.{Call}
 use Rattle.gmp_seq.specs.declared.call.Call.TheVariants as call
 use Rattle.gmp_seq.specs.declared.call.Reply.{Reply}
@@ -22,22 +23,22 @@ use Rattle.gmp_book.specs.declared.values.Values.{Values}
 use Rattle.gmp_book.specs.declared.values.Way.{Way}
 use Rattle.gmp_book.specs.declared.values.Way.TheVariants.{Stays, Home, OutOfPlace, IntoCall, OutOfCall}
 use Rattle.gmp_book.specs.Book.{BookContents}
-use Rattle.gmp_book.specs.Hands.{Hands, HandsBody, HandsOwner, back_where, handed_back, is_make, ticket_by, values_back, way_of}
+use Rattle.gmp_book.specs.Hands.{Hands, HandsBody, HandsOwner, back_where, handed_back, is_make, values_back, way_of}
 use Rattle.gmp_driver.specs.declared.act.Act.TheVariants as act
 use Rattle.gmp_driver.specs.declared.registers.CalledParts.{CalledParts}
 use Rattle.gmp_driver.specs.declared.registers.HeldParts.{HeldParts}
 use Rattle.gmp_driver.specs.declared.registers.ProcParts.{ProcParts}
 use Rattle.gmp_driver.specs.declared.registers.Registers.{Registers}
-use Rattle.gmp_driver.specs.Fits.{Fits}
-use Rattle.gmp_driver.specs.Loads.{IsOfRun, called_of, held_of, load_of, parts_of, proc_of, ticket_of}
+use Rattle.gmp_driver.specs.Fits.{SuitsPlace}
+use Rattle.gmp_driver.specs.Loads.{IsOfRun, called_of, held_of, load_of, parts_of, proc_of}
 use Rattle.gmp_driver.specs.Machine.{Machine}
 use Rattle.gmp_driver.specs.declared.act.Told.TheVariants as told
 use Rattle.gmp_driver.specs.declared.seen.Seen.{Seen}
-use Rattle.gmp_driver.specs.Registers.{AreApart, first_of, joined, unused, used}
+use Rattle.gmp_driver.specs.Registers.{AreFilledOnce, first_of, joined, unused, used}
 use Rattle.gmp_driver.specs.Seen.{seen, seen_of}
 use Rattle.gmp_driver.specs.Table.{act_at, after, next_act, next_place}
 use Rattle.gmp_driver.proofs.Uses.{uses}
-use Rattle.gmp_turn.specs.Turns.{hand_with, handed_out, is_to_claim, load_back, told_of, values_in}
+use Rattle.gmp_turn.specs.Turns.{hand_with, handed_out, is_to_claim, load_back, told_to_driver, values_in}
 use Rattle.gmp_acts.specs.Hands.{PlainHand, hand_after, hand_unmade, plain, plain_called, plain_held, plain_proc}
 use Rattle.gmp_acts.proofs.Lands.{lands, retold_some}
 use Rattle.gmp_acts.proofs.Replies.{CanReply, replies}
@@ -71,7 +72,7 @@ module _ {T : Type 0} (run : ℕ) where
   of_proc None = tt
   of_proc (Some x) = refl
 
-of_tickets : (run : ℕ) (t s : Option Readiness) → IfSome (first_of (option_map (ticket_of run) t) (option_map (ticket_of run) s)) (λ x. x.run ≡ run)
+of_tickets : (run : ℕ) (t s : Option Readiness) → IfSome (first_of (option_map (ticket_by run) t) (option_map (ticket_by run) s)) (λ x. x.run ≡ run)
 of_tickets run (Some x) s = refl
 of_tickets run None (Some x) = refl
 of_tickets run None None = tt
@@ -134,7 +135,7 @@ module _ {T Q : Type 0} (run : ℕ) (pass : Pass) where
   Again c why hand =
       (let left = unused (act.Call c) hand in
       let came = parts_of (load_back pass (is_to_claim c (load_of run pass (used (act.Call c) hand))) (values_back c why (values_in (load_of run pass (used (act.Call c) hand))))) in
-      (plain (joined came left) ≡ plain_back c why (plain hand)) × AreApart left came)
+      (plain (joined came left) ≡ plain_back c why (plain hand)) × AreFilledOnce left came)
 
   abbrev pub parts : Option (ProcParts Q) → Option (HeldParts T) → Option (CalledParts T) → Option Readiness → Option Readiness → Registers T Q
   parts p h c t s = record { processor = p; held = h; called = c; to_claim = t; to_store = s }
@@ -184,25 +185,25 @@ same_filled c why hand hand' e = sym (filled_plain hand') ∙ ap filled e ∙ fi
 
 pub record Came {T Q : Type 0} (x : Machine T Q) (asked : Call) (before behind : Pass) (back : Values T Q) (result : Result Reply Refusal) : Type 0 where
   pub run : IsOfRun x.run (load_back behind (is_to_claim asked (handed_out x before asked)) back)
-  pub apart : AreApart (unused (act.Call asked) x.hand) (parts_of (load_back behind (is_to_claim asked (handed_out x before asked)) back))
+  pub apart : AreFilledOnce (unused (act.Call asked) x.hand) (parts_of (load_back behind (is_to_claim asked (handed_out x before asked)) back))
   pub fits :
       (let hand = hand_with asked x.hand (load_back behind (is_to_claim asked (handed_out x before asked)) back) in
-      Fits (after (record x { hand = hand }) (told_of result)).place hand)
+      SuitsPlace (after (record x { hand = hand }) (told_to_driver result)).place hand)
 
-module _ {T Q : Type 0} (x : Machine T Q) (asked : Call) (before : Pass) (book book' : BookContents T Q) (is : next_act x ≡ act.Call asked) (fits : Fits x.place x.hand) (run : x.run ≡ book.log.run)
+module _ {T Q : Type 0} (x : Machine T Q) (asked : Call) (before : Pass) (book book' : BookContents T Q) (is : next_act x ≡ act.Call asked) (fits : SuitsPlace x.place x.hand) (run : x.run ≡ book.log.run)
     (pass : before.run ≡ x.run) where
   abbrev given : Values T Q
   given = values_in (handed_out x before asked)
 
   -- what it holds fits, since it does so in plain parts
-  fits_after : (answer : Reply) (hand : Registers T Q) → CanReply asked answer → plain hand ≡ hand_after book.log.state.table asked answer (plain x.hand) → Fits (after (record x { hand = hand }) (told.Replied answer)).place hand
+  fits_after : (answer : Reply) (hand : Registers T Q) → CanReply asked answer → plain hand ≡ hand_after book.log.state.table asked answer (plain x.hand) → SuitsPlace (after (record x { hand = hand }) (told.Replied answer)).place hand
   fits_after answer hand can is_so =
       let next : act_at (seen_of x.procs x.fresh x.turns (plain x.hand)) x.place ≡ act.Call asked = ap (λ (s : Seen). act_at s x.place) (seen_plain x.procs x.fresh x.turns x.hand) ∙ is in
       let there = lands x.procs x.fresh x.turns book.log.state.table (plain x.hand) (mode_for x.place) x.place asked answer next (fits_plain x.hand x.place fits) (suits_mode x.place) can
       (awoke_for (seen_of x.procs x.fresh x.turns x.hand) x.place asked answer is) in
-      let plainly : Fits (next_place (seen_of x.procs x.fresh x.turns (plain hand)) x.place (told.Replied answer)) (plain hand) =
-      subst (λ (h : PlainHand). Fits (next_place (seen_of x.procs x.fresh x.turns h) x.place (told.Replied answer)) h) (sym is_so) there.fits in
-      plain_fits hand _ (subst (λ (s : Seen). Fits (next_place s x.place (told.Replied answer)) (plain hand)) (seen_plain x.procs x.fresh x.turns hand) plainly)
+      let plainly : SuitsPlace (next_place (seen_of x.procs x.fresh x.turns (plain hand)) x.place (told.Replied answer)) (plain hand) =
+      subst (λ (h : PlainHand). SuitsPlace (next_place (seen_of x.procs x.fresh x.turns h) x.place (told.Replied answer)) h) (sym is_so) there.fits in
+      plain_fits hand _ (subst (λ (s : Seen). SuitsPlace (next_place s x.place (told.Replied answer)) (plain hand)) (seen_plain x.procs x.fresh x.turns hand) plainly)
 
   pub came : (behind : Pass) (back : Values T Q) (result : Result Reply Refusal) → IfErr result (λ why. back ≡ values_back asked why given) → OnErr result ((book' ≡ book) × (behind ≡ before))
       → IfOk result (λ answer. Records book.log before asked answer book'.log behind) → IfOk result (λ answer. Hands asked answer given back book book') → Came x asked before behind back result

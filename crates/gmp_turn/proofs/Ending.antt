@@ -18,9 +18,9 @@ use Rattle.gmp_driver.specs.Loads.{IsOfRun, load_of, parts_of}
 use Rattle.gmp_driver.specs.declared.registers.CalledParts.{CalledParts}
 use Rattle.gmp_driver.specs.declared.registers.HeldParts.{HeldParts}
 use Rattle.gmp_driver.specs.declared.registers.ProcParts.{ProcParts}
-use Rattle.gmp_driver.specs.Fits.{Fits, HasNothing}
+use Rattle.gmp_driver.specs.Fits.{SuitsPlace, HasNothing}
 use Rattle.gmp_driver.specs.Machine.{Machine}
-use Rattle.gmp_driver.specs.Registers.{AreApart, first_value, joined, unused, used}
+use Rattle.gmp_driver.specs.Registers.{AreFilledOnce, first_value, joined, unused, used}
 use Rattle.gmp_driver.specs.Seen.{seen}
 use Rattle.gmp_driver.specs.Table.{act_at, after, claim_call, next_act, next_place, put_call}
 use Rattle.gmp_book.specs.Book.{BookContents}
@@ -50,7 +50,7 @@ at_over s (place.Hunt None) which e = absurd (let no : ⊥ = cc in no)
 at_over s (place.Hunt (Some r)) which e = absurd (let no : ⊥ = cc in no)
 at_over s _ which e = absurd (let no : ⊥ = cc in no)
 
-over_fits : {T Q : Type 0} (s : Seen) (why : Refusal) (hand : Registers T Q) → Fits (next_place s place.Over (told.Refused why)) hand
+over_fits : {T Q : Type 0} (s : Seen) (why : Refusal) (hand : Registers T Q) → SuitsPlace (next_place s place.Over (told.Refused why)) hand
 over_fits s refusal.Over hand = tt
 over_fits s _ hand = tt
 
@@ -66,7 +66,7 @@ module _ {T Q : Type 0} (run : ℕ) (pass : Pass) (hand : Registers T Q) where
   of_run (Some value.Proc) h = record { pass = h.pass; held = h.held; called = h.called; to_claim = h.to_claim; to_store = h.to_store; proc = tt }
   of_run None h = h
 
-  pub apart : (which : Option Value) → AreApart (unused (act.Surrender which) hand) (parts_of (out which))
+  pub apart : (which : Option Value) → AreFilledOnce (unused (act.Surrender which) hand) (parts_of (out which))
   apart (Some value.Held) = record { processor = inr refl; held = inl refl; called = inr refl; to_claim = inr refl; to_store = inr refl }
   apart (Some value.Called) = record { processor = inr refl; held = inr refl; called = inl refl; to_claim = inr refl; to_store = inr refl }
   apart (Some value.ToClaim) = record { processor = inr refl; held = inr refl; called = inr refl; to_claim = inl refl; to_store = inr refl }
@@ -74,7 +74,7 @@ module _ {T Q : Type 0} (run : ℕ) (pass : Pass) (hand : Registers T Q) where
   apart (Some value.Proc) = record { processor = inl refl; held = inr refl; called = inr refl; to_claim = inr refl; to_store = inr refl }
   apart None = record { processor = inr refl; held = inr refl; called = inr refl; to_claim = inr refl; to_store = inr refl }
 
-  pub apart_after : (which : Option Value) (result : Result Unit Refusal) → AreApart (unused (act.Surrender which) hand) (parts_of (left_after which result (out which)))
+  pub apart_after : (which : Option Value) (result : Result Unit Refusal) → AreFilledOnce (unused (act.Surrender which) hand) (parts_of (left_after which result (out which)))
   apart_after which (Err why) = apart which
   apart_after None (Ok done) = apart None
   apart_after (Some value.Held) (Ok done) = record { processor = inr refl; held = inr refl; called = inr refl; to_claim = inr refl; to_store = inr refl }
@@ -98,8 +98,8 @@ none_left p None None (Some t) s e = absurd cc
 none_left p None None None (Some s) e = absurd cc
 none_left (Some p) None None None None e = absurd cc
 
-refused_fits : {T Q : Type 0} (s : Seen) (here : Place) (why : Refusal) (hand : Registers T Q) → here ≡ place.Over → Fits (next_place s here (told.Refused why)) hand
-refused_fits s here why hand e = subst (λ (p : Place). Fits (next_place s p (told.Refused why)) hand) (sym e) (over_fits s why hand)
+refused_fits : {T Q : Type 0} (s : Seen) (here : Place) (why : Refusal) (hand : Registers T Q) → here ≡ place.Over → SuitsPlace (next_place s here (told.Refused why)) hand
+refused_fits s here why hand e = subst (λ (p : Place). SuitsPlace (next_place s p (told.Refused why)) hand) (sym e) (over_fits s why hand)
 
 pub pass_after : {T Q : Type 0} (which : Option Value) (result : Result Unit Refusal) (load : Load T Q) → (left_after which result load).pass ≡ load.pass
 pass_after which (Err why) load = refl
@@ -111,7 +111,7 @@ pass_after (Some value.Proc) (Ok done) load = refl
 pass_after None (Ok done) load = refl
 
 pub fits_after : {T Q : Type 0} (x : Machine T Q) (pass : Pass) (which : Option Value) (result : Result Unit Refusal) → next_act x ≡ act.Surrender which
-    → (let hand = joined (parts_of (left_after which result (surrendered x pass which))) (unused (act.Surrender which) x.hand) in Fits (after (record x { hand = hand }) (told_back which result)).place hand)
+    → (let hand = joined (parts_of (left_after which result (surrendered x pass which))) (unused (act.Surrender which) x.hand) in SuitsPlace (after (record x { hand = hand }) (told_back which result)).place hand)
 fits_after x pass (Some v) (Ok done) is = rw (at_over (seen x) x.place (Some v) is).0 tt
 fits_after x pass (Some v) (Err why) is =
     let hand = joined (parts_of (surrendered x pass (Some v))) (unused (act.Surrender (Some v)) x.hand) in

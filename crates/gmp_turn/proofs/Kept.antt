@@ -15,7 +15,7 @@ use Rattle.gmp_driver.specs.declared.act.Act.TheVariants as act
 use Rattle.gmp_driver.specs.declared.act.Value.{Value}
 use Rattle.gmp_driver.specs.declared.act.Value.TheVariants as value
 use Rattle.gmp_driver.specs.declared.registers.Registers.{Registers}
-use Rattle.gmp_driver.specs.Fits.{Fits}
+use Rattle.gmp_driver.specs.Fits.{SuitsPlace}
 use Rattle.gmp_driver.specs.Loads.{load_of, parts_of}
 use Rattle.gmp_driver.specs.Machine.{Machine}
 use Rattle.gmp_driver.specs.Registers.{joined, unused, used}
@@ -128,7 +128,7 @@ module _ {T Q : Type 0} where
 
   -- A turn
 
-  module _ (x x' : Machine T Q) (book book' : BookContents T Q) (asked : Call) (word : ℕ) (is : next_act x ≡ act.Call asked) (fits : Fits x.place x.hand)
+  module _ (x x' : Machine T Q) (book book' : BookContents T Q) (asked : Call) (word : ℕ) (is : next_act x ≡ act.Call asked) (fits : SuitsPlace x.place x.hand)
       (out : AreOut (body_in x.hand) book.bodies) (out' : AreOut (owner_in x.hand) book.owners) where
     abbrev u : Registers T Q
     u = used (act.Call asked) x.hand

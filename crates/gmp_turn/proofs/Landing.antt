@@ -15,7 +15,7 @@ use Rattle.gmp_driver.specs.declared.place.Place.{Place}
 use Rattle.gmp_driver.specs.declared.place.Place.TheVariants as place
 use Rattle.gmp_driver.specs.declared.registers.Registers.{Registers}
 use Rattle.gmp_driver.specs.declared.seen.Seen.{Seen}
-use Rattle.gmp_driver.specs.Fits.{Fits, IsFilled}
+use Rattle.gmp_driver.specs.Fits.{SuitsPlace, IsFilled}
 use Rattle.gmp_driver.specs.Table.{act_at, after, next_place}
 use Rattle.gmp_acts.specs.Sound.{ModeAt}
 use Rattle.gmp_acts.proofs.Replies.{Awoke}
@@ -47,12 +47,12 @@ module _ {T Q : Type 0} (procs : ℕ) (fresh : Bool) (turns : ℕ) (hand hand' :
   same f e = onto (λ (y : Filled). y) f e
 
   -- at Unspin the ticket to claim decides
-  at_its : (t : Bool) → IsFilled true false false t false hand' → Fits place.Unspin hand'
+  at_its : (t : Bool) → IsFilled true false false t false hand' → SuitsPlace place.Unspin hand'
   at_its t f = record { has_processor = f.has_processor; has_held = f.has_held; has_called = f.has_called; has_to_claim = refl; has_to_store = f.has_to_store }
 
   -- A refused call leaves the place, but for one that finds the run over, and a make without memory
 
-  pub refused : (x : Seen) (here : Place) (why : Refusal) → Fits here hand → filled hand' ≡ filled hand → Fits (next_place x here (told.Refused why)) hand'
+  pub refused : (x : Seen) (here : Place) (why : Refusal) → SuitsPlace here hand → filled hand' ≡ filled hand → SuitsPlace (next_place x here (told.Refused why)) hand'
   refused x here refusal.Over f e = tt
   refused x place.Over why f e = tt
   refused x place.Unspin why f e = at_its (is_some hand.to_claim) (same f e)

@@ -14,7 +14,7 @@ use Rattle.gmp_base.specs.declared.value.Called.{Called}
 use Rattle.gmp_base.specs.declared.value.Held.{Held}
 use Rattle.gmp_base.specs.declared.value.Proc.{Proc}
 use Rattle.gmp_base.specs.declared.value.Ticket.{Ticket}
-use Rattle.gmp_base.specs.Values.{readiness_of}
+use Rattle.gmp_base.specs.Values.{readiness_of, ticket_by}
 use Rattle.gmp_seq.specs.declared.call.Call.{Call}
 use Rattle.gmp_seq.specs.declared.call.Call.TheVariants as call
 use Rattle.gmp_seq.specs.declared.call.Limits.{Limits}
@@ -26,7 +26,7 @@ use Rattle.gmp_ledger.specs.Grants.{Suits}
 use Rattle.gmp_ledger.specs.Handed.{goroutine_in, names_other, processor_in}
 use Rattle.gmp_ledger.specs.Laws.{NeedsOf}
 use Rattle.gmp_ledger.specs.Log.{Log, calls_of, entries_made}
-use Rattle.gmp_ledger.specs.Refusals.{Line, Says, first_refusal, is_foreign, line, need_lines, refusal_of}
+use Rattle.gmp_ledger.specs.Refusals.{Line, Says, first_refusal, is_foreign, refusal_line, need_lines, refusal_of}
 use Rattle.gmp_ledger.proofs.Needed.{granted_where, own_run}
 use Rattle.gmp_book.specs.Book.{BookContents}
 use Rattle.gmp_book.specs.Hands.{handed_of}
@@ -36,8 +36,8 @@ use Rattle.gmp_driver.specs.declared.registers.CalledParts.{CalledParts}
 use Rattle.gmp_driver.specs.declared.registers.HeldParts.{HeldParts}
 use Rattle.gmp_driver.specs.declared.registers.ProcParts.{ProcParts}
 use Rattle.gmp_driver.specs.declared.registers.Registers.{Registers}
-use Rattle.gmp_driver.specs.Fits.{Fits}
-use Rattle.gmp_driver.specs.Loads.{called_of, held_of, load_of, proc_of, ticket_of}
+use Rattle.gmp_driver.specs.Fits.{SuitsPlace}
+use Rattle.gmp_driver.specs.Loads.{called_of, held_of, load_of, proc_of}
 use Rattle.gmp_driver.specs.Machine.{Machine}
 use Rattle.gmp_driver.specs.Registers.{first_of, used}
 use Rattle.gmp_driver.specs.Seen.{number_of}
@@ -58,12 +58,12 @@ use Rattle.gmp_acts.proofs.Plain.{after_plain}
 -- What a machine hands out is of its run
 
 module _ (run : ℕ) where
-  own_ticket : (o : Option Readiness) → option_map_or (λ (x : ℕ × Readiness). not (x.0 == run)) (option_map (λ (t : Ticket). (t.run, readiness_of t)) (option_map (ticket_of run) o)) false ≡ false
+  own_ticket : (o : Option Readiness) → option_map_or (λ (x : ℕ × Readiness). not (x.0 == run)) (option_map (λ (t : Ticket). (t.run, readiness_of t)) (option_map (ticket_by run) o)) false ≡ false
   own_ticket None = refl
   own_ticket (Some r) = own_run run
 
   own_tickets : (o p : Option Readiness)
-      → option_map_or (λ (x : ℕ × Readiness). not (x.0 == run)) (option_map (λ (t : Ticket). (t.run, readiness_of t)) (first_of (option_map (ticket_of run) o) (option_map (ticket_of run) p))) false ≡ false
+      → option_map_or (λ (x : ℕ × Readiness). not (x.0 == run)) (option_map (λ (t : Ticket). (t.run, readiness_of t)) (first_of (option_map (ticket_by run) o) (option_map (ticket_by run) p))) false ≡ false
   own_tickets None p = own_ticket p
   own_tickets (Some r) p = own_run run
 
@@ -130,7 +130,7 @@ or_none a b ea eb = rw (ea, eb) refl
 
 -- the fourth line is the first that holds
 fourth : (a b c d : Bool) (x y z w : Refusal) (ls : List Line) → a ≡ false → b ≡ false → c ≡ false → d ≡ true
-    → first_refusal (line a x ∷ line b y ∷ line c z ∷ line d w ∷ ls) ≡ Some w
+    → first_refusal (refusal_line a x ∷ refusal_line b y ∷ refusal_line c z ∷ refusal_line d w ∷ ls) ≡ Some w
 fourth a b c d x y z w ls ea eb ec ed = rw (ea, eb, ec, ed) refl
 
 module _ (log : Log) (pass : Pass) (c : Call) (values : Handed) (run : pass.run ≡ log.run) (machine : pass.m.0 < log.limits.machines) (turn : pass.calls ≡ calls_of log pass.m) (seen : pass.seen ≤ entries_made log)
@@ -165,7 +165,7 @@ over_is : (c : Call) (hand : PlainHand) → plain_back c Over hand ≡ hand
 over_is (call.Make capacity) hand = refl
 over_is _ hand = refl
 
-module _ {T Q : Type 0} (x x' : Machine T Q) (book book' : BookContents T Q) (m : MNo) (c : Call) (word : ℕ) (why : Refusal) (own : List Made) (is : next_act x ≡ act.Call c) (fits : Fits x.place x.hand)
+module _ {T Q : Type 0} (x x' : Machine T Q) (book book' : BookContents T Q) (m : MNo) (c : Call) (word : ℕ) (why : Refusal) (own : List Made) (is : next_act x ≡ act.Call c) (fits : SuitsPlace x.place x.hand)
     (run : x.run ≡ book.log.run) (there : m.0 < book.log.limits.machines) (may : MayCall (plain_machine x) m (run_of book.log)) (turned : Turns x book c word (Err why) x' book') where
   abbrev v : Handed
   v = handed_of (values_in (handed_out x turned.before c))

@@ -52,9 +52,9 @@ hand_with asked hand back = joined (parts_of back) (unused (act.Call asked) hand
 -- One call
 
 -- what the driver is told of the book's answer
-abbrev pub told_of : Result Reply Refusal → Told
-told_of (Ok answer) = told.Replied answer
-told_of (Err why) = told.Refused why
+abbrev pub told_to_driver : Result Reply Refusal → Told
+told_to_driver (Ok answer) = told.Replied answer
+told_to_driver (Err why) = told.Refused why
 
 -- The one call that the machine names was made, or was refused and changed nothing, and the machine was told exactly that.
 pub record Turns {T Q : Type 0} (x : Machine T Q) (book : BookContents T Q) (asked : Call) (word : ℕ) (result : Result Reply Refusal) (x' : Machine T Q) (book' : BookContents T Q) : Type 0 where
@@ -70,7 +70,7 @@ pub record Turns {T Q : Type 0} (x : Machine T Q) (book : BookContents T Q) (ask
   pub choice : IfOk result (λ answer. Chooses asked word answer book.log.state book.log.shelf)
   pub hands : IfOk result (λ answer. Hands asked answer (values_in (handed_out x before asked)) back book book')
   pub done : IfOk result (λ answer. let v = handed_of (values_in (handed_out x before asked)) in IsDoneTo asked before.m (goroutine_in v) (processor_in v) answer book.log.state book'.log.state)
-  pub machine : x' ≡ after (record x { pass = Some behind; hand = hand_with asked x.hand (load_back behind (is_to_claim asked (handed_out x before asked)) back) }) (told_of result)
+  pub machine : x' ≡ after (record x { pass = Some behind; hand = hand_with asked x.hand (load_back behind (is_to_claim asked (handed_out x before asked)) back) }) (told_to_driver result)
 
 -- the machine that a reply names to wake
 abbrev pub woken_in : Reply → Option MNo

@@ -1,11 +1,11 @@
 //! One book call of one machine.
 ghost use Rattle.std.specs.Prelude.{◌≡◌, IsSome};
 ghost use Rattle.gmp_driver.specs.declared.act.Act.TheVariants as act;
-ghost use Rattle.gmp_driver.specs.Fits.{Fits};
+ghost use Rattle.gmp_driver.specs.Fits.{SuitsPlace};
 ghost use Rattle.gmp_driver.specs.Table.{next_act};
 ghost use Rattle.gmp_turn.specs.Turns.{Turns, woken_in};
 
-use crate::passing::{is_to_claim, load_back, opened, told_of};
+use crate::passing::{is_to_claim, load_back, opened, told_to_driver};
 use gmp_base::{MNo, Refusal};
 use gmp_book::Book;
 use gmp_driver::Driver;
@@ -26,9 +26,9 @@ pub fn turn<T, Q>(
     requires pass { IsSome driver.old.pass }
     requires run { driver.old.run ≡ book.old.log.run }
     // `Driver::next`, which names the call, says so.
-    requires keeps { Fits driver.old.place driver.old.hand }
+    requires keeps { SuitsPlace driver.old.place driver.old.hand }
     ensures turns { Turns driver.old book.old call word result driver.new book.new }
-    ensures fits { Fits driver.new.place driver.new.hand }
+    ensures fits { SuitsPlace driver.new.place driver.new.hand }
     ensures pass { IsSome driver.new.pass }
     ensures run { driver.new.run ≡ book.new.log.run }
 {
@@ -38,7 +38,7 @@ pub fn turn<T, Q>(
     let mut pass = pass;
     let memory = memory_for(&call, alloc);
     let (values, result) = book.call(memory, &mut pass, call, values, word);
-    driver.got(load_back(pass, to_claim, values), told_of(result));
+    driver.got(load_back(pass, to_claim, values), told_to_driver(result));
     result
 }
 

@@ -2,7 +2,7 @@
 ghost use Rattle.std.specs.Prelude.{◌≡◌, ◌⊎◌, IsNone};
 ghost use Rattle.gmp_driver.specs.Registers.{first_of};
 ghost use Rattle.gmp_turn.specs.Turns as turns;
-ghost use Rattle.gmp_turn.specs.Turns.{load_back, told_of, values_in};
+ghost use Rattle.gmp_turn.specs.Turns.{load_back, told_to_driver, values_in};
 
 use gmp_base::{Pass, Refusal, Ticket};
 use gmp_book::Values;
@@ -67,8 +67,8 @@ pub(crate) fn load_back<T, Q>(pass: Pass, to_claim: bool, values: Values<T, Q>) 
 }
 
 /// What the driver is told.
-pub(crate) fn told_of(answer: Result<Reply, Refusal>) -> Told
-    ensures { result ≡ told_of answer }
+pub(crate) fn told_to_driver(answer: Result<Reply, Refusal>) -> Told
+    ensures { result ≡ told_to_driver answer }
 {
     match answer {
         Ok(reply) => Told::Replied(reply),

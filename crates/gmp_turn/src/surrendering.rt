@@ -1,7 +1,7 @@
 //! What a machine gives back once the run is over.
 ghost use Rattle.std.specs.Prelude.{◌≡◌, None, Some, Ok, Err, IsNone, IsSome, IfOk, IfErr};
 ghost use Rattle.gmp_driver.specs.declared.act.Act.TheVariants as act;
-ghost use Rattle.gmp_driver.specs.Fits.{Fits};
+ghost use Rattle.gmp_driver.specs.Fits.{SuitsPlace};
 ghost use Rattle.gmp_driver.specs.Table.{next_act};
 ghost use Rattle.gmp_ledger.specs.Refusals.{refusal_in};
 ghost use Rattle.gmp_turn.specs.Surrenders.{Surrenders, book_after, left_after, refusal_back, told_back};
@@ -19,7 +19,7 @@ pub fn surrender<T, Q>(
     requires act { next_act driver.old ≡ act.Surrender which }
     requires pass { IsSome driver.old.pass }
     ensures surrenders { Surrenders driver.old book.old which result driver.new book.new }
-    ensures fits { Fits driver.new.place driver.new.hand }
+    ensures fits { SuitsPlace driver.new.place driver.new.hand }
     ensures pass { IsSome driver.new.pass }
     ensures run { driver.new.run ≡ driver.old.run }
     ensures log { book.new.log ≡ book.old.log }

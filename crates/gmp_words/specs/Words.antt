@@ -3,7 +3,7 @@ use Rattle.std.specs.Prelude.{◌≡◌, ℕ, true, ◌+◌, Bool, false, codes,
 use Rattle.std.specs.List.{list_any}
 use Rattle.std.specs.Str.{bytes_eq}
 use Rattle.std.specs.Option.{option_map_or}
-use Rattle.gmp_script.specs.Numbers.{number_of}
+use Rattle.gmp_script.specs.Numbers.{parsed_number}
 use Rattle.gmp_words.specs.declared.options.Settings.{Settings}
 use Rattle.gmp_words.specs.declared.options.Task.{Task}
 use Rattle.gmp_words.specs.declared.options.Task.TheVariants as task
@@ -40,7 +40,7 @@ given text (word ∷ words) option =
 -- the number that the words give an option, or the default where they don't give it
 abbrev pub number_or : Option (List ℕ) → ℕ → Option ℕ
 number_or None default = Some default
-number_or (Some digits) default = number_of digits
+number_or (Some digits) default = parsed_number digits
 
 abbrev pub number_given : {W : Type 0} → (W → List ℕ) → List W → List ℕ → ℕ → Option ℕ
 number_given text words option default = number_or (given text words option) default

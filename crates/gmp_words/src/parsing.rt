@@ -2,7 +2,7 @@
 
 ghost use Rattle.std.specs.Prelude.{◌≡◌, ◌<◌, ◌≤◌, ◌||◌, ℕ, true, false, length, IfOk, IfErr, IfSome};
 ghost use Rattle.gmp_words.specs.Said.{is_of_input, is_of_script};
-ghost use Rattle.gmp_script.specs.Lines.{lines, IsScript, IsFirstBad};
+ghost use Rattle.gmp_script.specs.Lines.{lines, IsScript, IsFirstBadLine};
 ghost use Rattle.gmp_words.specs.declared.said.Said.TheVariants.{BadLine, InputTooLong};
 
 use crate::ended::Ended;
@@ -16,7 +16,7 @@ fn parsed(alloc: Global, text: &[u8]) -> Result<Script, Ended>
     requires { length text.now ≤ 1048576 }
     ensures ok { IfOk result (λ s. IsScript (lines text.now) s.capacities.items s.readings.items s.bodies.items) }
     ensures kinds { IfErr result (λ e. is_of_script e.said ≡ true) }
-    ensures first { IfErr result (λ e. (line : ℕ) → e.said ≡ BadLine line → IsFirstBad (lines text.now) line) }
+    ensures first { IfErr result (λ e. (line : ℕ) → e.said ≡ BadLine line → IsFirstBadLine (lines text.now) line) }
 {
     let mut script = Script::new(alloc);
     let mut number = 0u64;
@@ -37,7 +37,7 @@ pub fn script<R: Read>(alloc: Global, reader: &mut R) -> Result<Script, Ended>
 
     ensures kinds { IfErr result (λ e. (is_of_input e.said || is_of_script e.said) ≡ true) }
     ensures first { IfErr result (λ e. (line : ℕ) → e.said ≡ BadLine line
-        → IfSome (R.remaining reader.old) (λ all. IsFirstBad (lines all) line)) }
+        → IfSome (R.remaining reader.old) (λ all. IsFirstBadLine (lines all) line)) }
     ensures too_long { IfErr result (λ e. e.said ≡ InputTooLong
         → IfSome (R.remaining reader.old) (λ all. 1048576 < length all)) }
 

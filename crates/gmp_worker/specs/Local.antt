@@ -7,11 +7,11 @@ use Rattle.gmp_driver.specs.declared.registers.HeldParts.{HeldParts}
 use Rattle.gmp_driver.specs.Machine.{Machine}
 
 -- a body is resumed, or makes its blocking call, or the clock is read
-abbrev pub IsLocal : Act → Type 0
-IsLocal act.Resume = Unit {0}
-IsLocal act.Block = Unit {0}
-IsLocal (act.Clock minded) = Unit {0}
-IsLocal _ = ⊥
+abbrev pub IsOfBodyOrClock : Act → Type 0
+IsOfBodyOrClock act.Resume = Unit {0}
+IsOfBodyOrClock act.Block = Unit {0}
+IsOfBodyOrClock (act.Clock minded) = Unit {0}
+IsOfBodyOrClock _ = ⊥
 
 abbrev There : {X : Type 0} → Option X → (X → Type 0) → Type 0
 There None fact = ⊥

@@ -6,7 +6,7 @@ ghost use Rattle.gmp_driver.specs.declared.act.Told.TheVariants as told;
 ghost use Rattle.gmp_driver.specs.Bodies.{with_body};
 ghost use Rattle.gmp_driver.specs.Fits.{IsDriver};
 ghost use Rattle.gmp_driver.specs.Table.{after, next_act};
-ghost use Rattle.gmp_worker.specs.Local.{CalledWhere, HeldWhere, IsLocal};
+ghost use Rattle.gmp_worker.specs.Local.{CalledWhere, HeldWhere, IsOfBodyOrClock};
 
 use crate::bodies::{Boxed, block_boxed, resume_boxed};
 use gmp_driver::{Act, Driver, Told};
@@ -14,7 +14,7 @@ use gmp_driver::{Act, Driver, Told};
 /// Resumes the body of the goroutine that the driver's machine runs, or makes the blocking call of the one in it, or tells the machine this
 /// moment as the clock's reading, whichever the driver names next.
 pub fn local_turn<Q>(driver: &mut Driver<Boxed, Q>, moment: u64)
-    requires act { IsLocal (next_act driver.old) }
+    requires act { IsOfBodyOrClock (next_act driver.old) }
     requires pass { IsSome driver.old.pass }
     ensures resumes { next_act driver.old ≡ act.Resume → HeldWhere driver.old (λ h. (ask : Ask) × (left : _) × resumed h.body h.woke ask left × (driver.new ≡ after (with_body driver.old (record h.body { value = left })) (told.Asked ask))) }
     ensures blocks { next_act driver.old ≡ act.Block → CalledWhere driver.old (λ c. (number : ℕ) × (left : _) × blocked c.body number left × (driver.new ≡ after (with_body driver.old (record c.body { value = left })) (told.Number number))) }

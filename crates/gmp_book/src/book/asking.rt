@@ -1,5 +1,6 @@
 //! What the calls by their own types share.
 ghost use Rattle.std.specs.Prelude.{◌≡◌, true, None, IfErr, IfOk, OnErr, OnOk};
+ghost use Rattle.gmp_base.specs.Values.{ticket_by};
 ghost use Rattle.gmp_seq.specs.Step.{ticket_in};
 ghost use Rattle.std.specs.Option.{option_map};
 ghost use Rattle.gmp_ledger.specs.Done.{IsDoneTo};
@@ -18,7 +19,7 @@ use std::alloc::Global;
 
 impl<T, Q> Book<T, Q> {
     ghost use Rattle.gmp_book.specs.Book.{SameValues};
-    ghost use Rattle.gmp_book.specs.Hands.{held_back, ticket_by};
+    ghost use Rattle.gmp_book.specs.Hands.{held_back};
     ghost use Rattle.gmp_book.specs.Kinds.{goes_on, is_own, may_wait, moves_nothing};
     ghost use Rattle.gmp_book.specs.Went.{GoesBy, IsOn, Moves, MovesBody};
 

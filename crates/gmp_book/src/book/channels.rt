@@ -1,5 +1,5 @@
 //! What a running goroutine does with channels.
-ghost use Rattle.std.specs.Prelude.{◌≡◌, ◌<◌, ◌≤◌, ◌∷◌, [], None, length, OnOk, OnErr, IfOk, IfErr};
+ghost use Rattle.std.specs.Prelude.{◌≡◌, ◌∷◌, [], None, OnOk, OnErr, IfOk, IfErr};
 ghost use Rattle.gmp_base.specs.declared.cases.Case.{Case};
 ghost use Rattle.gmp_base.specs.declared.refusal.Refusal.{Refusal};
 ghost use Rattle.gmp_seq.specs.declared.status.Kind.{Kind};
@@ -33,7 +33,7 @@ impl<T, Q> Book<T, Q> {
     ) -> Result<Went<T>, Refused<Held<T>>>
         ensures refused { Says (WantsMemory self.old.log.limits (Call.Make capacity) self.old.log.state) (refusal_of self.old.log pass.old (Call.Make capacity) (by_held held)) (why_refused result) }
         // Memory is wanted for a channel alone.
-        ensures needed { IfErr result (λ r. r.why ≡ Refusal.OutOfMemory → (capacity ≤ 4096) × (length self.old.log.state.channels < self.old.log.limits.channels)) }
+        ensures needed { IfErr result (λ r. r.why ≡ Refusal.OutOfMemory → WantsMemory self.old.log.limits (Call.Make capacity) self.old.log.state) }
         ensures back { IfErr result (λ r. r.back ≡ handed_back r.why held) }
         ensures err { OnErr result ((self.new ≡ self.old) × (pass.new ≡ pass.old)) }
         ensures entry { IfOk result (λ w. ProceedsOn self.old.log pass.old (Call.Make capacity) held self.new.log pass.new w) }

@@ -2,7 +2,7 @@
 ghost use Rattle.std.specs.Prelude.{◌≡◌, ◌↔◌, ℕ, Some, is_none, position, option_map, OnOk, OnErr, IfOk, IfErr, IfSome, MatchOption};
 ghost use Rattle.gmp_idle.specs.Replies.{acquire_reply, poke_reply};
 ghost use Rattle.gmp_seq.specs.declared.status.Status.{Status};
-ghost use Rattle.gmp_seq.specs.Machines.{is_parked};
+ghost use Rattle.gmp_seq.specs.Machines.{is_parked_mode};
 ghost use Rattle.gmp_seq.specs.Step.{Resumes};
 ghost use Rattle.gmp_seq.specs.Table.{IsAsleep, minded, set_status};
 ghost use Rattle.gmp_ledger.specs.Handed.{by_called, by_held_and_proc, by_proc, nothing_handed};
@@ -62,7 +62,7 @@ impl<T, Q> Book<T, Q> {
         ensures refused { refusal_in result ≡ refusal_of self.old.log pass.old Call.Poke nothing_handed }
         ensures err { OnErr result ((self.new ≡ self.old) × (pass.new ≡ pass.old)) }
         ensures entry { IfOk result (λ m. Records self.old.log pass.old Call.Poke (poke_reply m) self.new.log pass.new) }
-        ensures least { IfOk result (λ m. IfSome m (λ n. position is_parked self.old.log.state.machines.modes ≡ Some n.0)) }
+        ensures least { IfOk result (λ m. IfSome m (λ n. position is_parked_mode self.old.log.state.machines.modes ≡ Some n.0)) }
         ensures values { OnOk result (SameValues self.old self.new) }
     {
         match self.note(pass, Call::Poke)? {
@@ -173,7 +173,7 @@ impl<T, Q> Book<T, Q> {
         ensures entry { IfOk result (λ x. Records self.old.log pass.old Call.Enter (Reply.Entered proc.p x.1) self.new.log pass.new) }
         ensures calls { OnOk result (self.new.log.state.table ≡ set_status self.old.log.state.table held.g (Status.Calling pass.old.m)) }
         ensures called { IfOk result (λ x. x.0 ≡ record { run = held.run; g = held.g; body = held.body }) }
-        ensures least { IfOk result (λ x. IfSome x.1 (λ n. position is_parked self.old.log.state.machines.modes ≡ Some n.0)) }
+        ensures least { IfOk result (λ x. IfSome x.1 (λ n. position is_parked_mode self.old.log.state.machines.modes ≡ Some n.0)) }
         ensures owner { OnOk result (TakesBackOwner self.old self.new proc) }
     {
         let values = Values::of(Some(held), None, None, Some(proc));
@@ -201,8 +201,8 @@ impl<T, Q> Book<T, Q> {
         ensures back { IfErr result (λ r. r.back ≡ called) }
         ensures err { OnErr result ((self.new ≡ self.old) × (pass.new ≡ pass.old)) }
         ensures entry { IfOk result (λ x. Records self.old.log pass.old (Call.Leave number) (leave_reply self.old.log.state.table called.g x) self.new.log pass.new) }
-        ensures table { IfOk result (λ x. Resumes called.g pass.old.m number (leave_reply self.old.log.state.table called.g x) self.old.log.state.table self.new.log.state.table) }
-        ensures resumes { IfOk result (ComesBack self.old self.new called number) }
+        ensures resumes { IfOk result (λ x. Resumes called.g pass.old.m number (leave_reply self.old.log.state.table called.g x) self.old.log.state.table self.new.log.state.table) }
+        ensures comes_back { IfOk result (ComesBack self.old self.new called number) }
         ensures least { IfOk result (ByLeast self.old.log.state.machines) }
     {
         let values = Values::of(None, Some(called), None, None);

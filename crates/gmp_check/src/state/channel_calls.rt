@@ -2,7 +2,7 @@
 ghost use Rattle.std.specs.Prelude.{◌≡◌, ◌≤◌, length, slice_get};
 ghost use Rattle.gmp_seq.specs.Step.{Blocks, Closes, Deals, Selects, none_missing};
 ghost use Rattle.gmp_check.specs.Decides.{Decides};
-ghost use Rattle.gmp_check.specs.Consistent.{IsConsistent, SameRest};
+ghost use Rattle.gmp_check.specs.Consistent.{IsConsistent, SameCounts};
 
 use super::State;
 use crate::answers::Cause;
@@ -18,7 +18,7 @@ fn case_at(cases: &[Case], i: u8) -> Option<Case>
 impl State {
     /// Whether each case names nil or a channel that was made.
     fn none_missing(&self, cases: &[Case]) -> bool
-        ensures { result ≡ none_missing self.now cases.now }
+        ensures { result ≡ none_missing self.now.channels cases.now }
     {
         cases
             .iter()
@@ -30,7 +30,7 @@ impl State {
         requires consistent { IsConsistent self.old }
         requires few { length cases.now ≤ 8 }
         ensures decides { Decides (Blocks g kind cases.now until) self.old self.new result }
-        ensures rest { SameRest self.old self.new }
+        ensures rest { SameCounts self.old self.new }
     {
         if self.some_can(cases) {
             return false;
@@ -42,7 +42,7 @@ impl State {
     pub(super) fn deal(&mut self, g: GNo, case: Case, reply: Reply) -> bool
         requires { IsConsistent self.old }
         ensures decides { Decides (Deals g case reply) self.old self.new result }
-        ensures rest { SameRest self.old self.new }
+        ensures rest { SameCounts self.old self.new }
     {
         let has = self.channels.has(channel_of(case));
         match reply {
@@ -69,7 +69,7 @@ impl State {
         requires consistent { IsConsistent self.old }
         requires few { length cases.now ≤ 8 }
         ensures decides { Decides (Selects g cases.now has_default until reply) self.old self.new result }
-        ensures rest { SameRest self.old self.new }
+        ensures rest { SameCounts self.old self.new }
     {
         let has = self.none_missing(cases);
         match reply {
@@ -87,7 +87,7 @@ impl State {
     pub(super) fn close(&mut self, c: Option<CNo>, reply: Reply) -> bool
         requires { IsConsistent self.old }
         ensures decides { Decides (Closes c reply) self.old self.new result }
-        ensures rest { SameRest self.old self.new }
+        ensures rest { SameCounts self.old self.new }
     {
         let Some(c) = c else {
             return matches!(reply, Reply::Fault(Fault::CloseOfNil));

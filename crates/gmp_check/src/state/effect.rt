@@ -1,11 +1,11 @@
 //! The effect of each call.
 ghost use Rattle.std.specs.Prelude.{◌≡◌, ◌↔◌, true, IsTrue, IfOk, OnErr};
 ghost use Rattle.gmp_seq.specs.declared.call.Call.TheVariants as call;
-ghost use Rattle.gmp_seq.specs.Step.{Effect, IsFree, Parks, has_work};
+ghost use Rattle.gmp_seq.specs.Step.{Effect, IsFree, Parks, has_work, EntersBy, LeavesBy};
 ghost use Rattle.gmp_seq.specs.Table.{IsCalling, IsRunning};
-ghost use Rattle.gmp_check.specs.Calls.{EntersBy, IsMake, LeavesBy, is_ask};
+ghost use Rattle.gmp_check.specs.Calls.{IsMake, is_ask};
 ghost use Rattle.gmp_check.specs.Decides.{Decides, Leads};
-ghost use Rattle.gmp_check.specs.Consistent.{IsConsistent, SameRest};
+ghost use Rattle.gmp_check.specs.Consistent.{IsConsistent, SameCounts};
 
 use super::State;
 use gmp_base::{Case, GNo, MNo, Woke};
@@ -28,7 +28,7 @@ impl State {
 
     fn park(&mut self, m: MNo, reply: Reply) -> bool
         ensures decides { Decides (Parks m reply) self.old self.new result }
-        ensures rest { SameRest self.old self.new }
+        ensures rest { SameCounts self.old self.new }
     {
         let has_work = self.has_work();
         let has_astir = self.table.has_astir();
@@ -49,7 +49,7 @@ impl State {
         requires consistent { IsConsistent self.old }
         requires runs { IsRunning self.old.table g m }
         ensures decides { Decides (EntersBy m g reply) self.old self.new result }
-        ensures rest { SameRest self.old self.new }
+        ensures rest { SameCounts self.old self.new }
     {
         if !self.machines.enter(m, reply) {
             return false;
@@ -63,7 +63,7 @@ impl State {
         requires consistent { IsConsistent self.old }
         requires calls { IsCalling self.old.table g m }
         ensures decides { Decides (LeavesBy m g number reply) self.old self.new result }
-        ensures rest { SameRest self.old self.new }
+        ensures rest { SameCounts self.old self.new }
     {
         match reply {
             Reply::Runs(p) if self.machines.is_idle(p) => {
@@ -96,7 +96,7 @@ impl State {
         ensures decides { IfOk result (Decides (Effect limits m call.now reply) self.old self.new) }
         ensures refused { OnErr result (self.new ≡ self.old) }
         ensures needed { OnErr result (IsMake call.now × Leads (Effect limits m call.now reply) self.old) }
-        ensures rest { SameRest self.old self.new }
+        ensures rest { SameCounts self.old self.new }
     {
         Ok(match call {
             Call::Go(h) => self.table.start(*h, reply),
@@ -135,7 +135,7 @@ impl State {
         ensures decides { IfOk result (Decides (Effect limits m call.now reply) self.old self.new) }
         ensures refused { OnErr result (self.new ≡ self.old) }
         ensures needed { OnErr result (IsMake call.now × Leads (Effect limits m call.now reply) self.old) }
-        ensures rest { SameRest self.old self.new }
+        ensures rest { SameCounts self.old self.new }
     {
         Ok(match call {
             Call::Acquire => self.machines.acquire(m, reply),

@@ -3,8 +3,8 @@ ghost use Rattle.std.specs.Prelude.{◌≡◌, ℕ, Some};
 ghost use Rattle.gmp_base.specs.declared.cases.Case.TheVariants as case;
 ghost use Rattle.gmp_seq.specs.Step.{Communicates, told_of};
 ghost use Rattle.gmp_check.specs.Decides.{Decides};
-ghost use Rattle.gmp_check.specs.Consistent.{IsConsistent, SameRest};
-ghost use Rattle.gmp_check.specs.Ways.{IsWay, after};
+ghost use Rattle.gmp_check.specs.Consistent.{IsConsistent, SameCounts};
+ghost use Rattle.gmp_check.specs.Ways.{IsWay, state_after};
 
 use super::State;
 use gmp_base::{CNo, Case};
@@ -71,7 +71,7 @@ impl State {
     fn proceed_send(&mut self, c: CNo, v: u64, how: Transfer)
         requires consistent { IsConsistent self.old }
         requires way { IsWay self.old (case.Send (Some c) v) (Some how) }
-        ensures { self.new ≡ after self.old (case.Send (Some c) v) how }
+        ensures { self.new ≡ state_after self.old (case.Send (Some c) v) how }
     {
         match how {
             Transfer::Stored => self.channels.push(c, v),
@@ -86,7 +86,7 @@ impl State {
 
     fn proceed_receive(&mut self, c: CNo, how: Transfer)
         requires { IsConsistent self.old }
-        ensures { self.new ≡ after self.old (case.Recv (Some c)) how }
+        ensures { self.new ≡ state_after self.old (case.Recv (Some c)) how }
     {
         match how {
             Transfer::First(_) => self.channels.pop(c),
@@ -102,7 +102,7 @@ impl State {
     fn proceed(&mut self, case: Case, how: Transfer)
         requires consistent { IsConsistent self.old }
         requires way { IsWay self.old case (Some how) }
-        ensures { self.new ≡ after self.old case how }
+        ensures { self.new ≡ state_after self.old case how }
     {
         match case {
             Case::Send(Some(c), v) => self.proceed_send(c, v, how),
@@ -116,7 +116,7 @@ impl State {
     pub(crate) fn communicate(&mut self, case: Case, told: Taken) -> bool
         requires consistent { IsConsistent self.old }
         ensures decides { Decides (Communicates case told) self.old self.new result }
-        ensures rest { SameRest self.old self.new }
+        ensures rest { SameCounts self.old self.new }
     {
         match self.way(case) {
             Some(how) if self.told(how) == told => {

@@ -22,7 +22,7 @@ ghost use Rattle.gmp_goroutines.specs.Shelf.{Shelves};
 
 use crate::goroutines::Goroutines;
 use gmp_base::{CNo, Case, Cases, Fault, GNo};
-use gmp_select::{are_made, choose, complete, ready_cases, register};
+use gmp_select::{choose, complete, none_missing, ready_cases, register};
 use gmp_seq::{Kind, MOST_CAPACITY, Offers, Relay, Reply, Taken, Transfer, channel_of};
 use gmp_table::{StatusTable, Wake};
 use std::alloc::{AllocError, Global};
@@ -191,7 +191,7 @@ impl Goroutines {
     fn wait_for_any(&mut self, g: GNo, cases: &Cases, until: Option<u64>)
         requires runs { (m : MNo) × IsRunning self.old.table g m }
         requires few { self.old.table.arrivals < 2 ^ 63 }
-        requires made { none_missing (state_of self.old) cases.now ≡ true }
+        requires made { none_missing self.old.channels cases.now ≡ true }
         ensures table { self.new.table ≡ made_wait self.old.table g Kind.Select (offers_of cases.now) until }
         ensures rest { self.new ≡ record self.old { table = self.new.table } }
     {
@@ -214,10 +214,10 @@ impl Goroutines {
         requires few { self.old.table.arrivals < 2 ^ 63 }
         ensures selects { Selects g cases.now has_default until result (state_of self.old) (state_of self.new) }
         ensures choice { IsChoice (state_of self.old) cases.now word result }
-        ensures few { length cases.now ≤ 8 }
+        ensures eight { length cases.now ≤ 8 }
         ensures rest { self.new ≡ record self.old { table = self.new.table; channels = self.new.channels } }
     {
-        if !are_made(&self.channels, cases) {
+        if !none_missing(&self.channels, cases) {
             return Reply::Fault(Fault::NoSuchChannel);
         }
         match self.chosen(cases, word) {

@@ -1,7 +1,7 @@
 //! Whether the state allows what a machine asks.
 ghost use Rattle.std.specs.Prelude.{◌≡◌, false};
 ghost use Rattle.std.specs.Option.{option_map_or};
-ghost use Rattle.gmp_seq.specs.Table.{is_calling_on, is_running_on, status_at};
+ghost use Rattle.gmp_seq.specs.Table.{is_calling_on, status_at};
 ghost use Rattle.gmp_ledger.specs.Refusals.{first_refusal, need_lines, is_busy, lacks_processor, is_spent, is_anothers};
 ghost use Rattle.gmp_ledger.specs.Scene.{scheduler_state};
 
@@ -77,16 +77,9 @@ impl Scheduler {
     fn is_anothers(&self, m: MNo, values: &Handed) -> bool
         ensures { result ≡ is_anothers (scheduler_state self.now) m values.now }
     {
-        values.held.is_some_and(|(_, g)| !self.runs(m, g))
+        values.held.is_some_and(|(_, g)| !self.goroutines.runs(m, g))
             || values.called.is_some_and(|(_, g)| !self.calls_for(m, g))
             || values.proc.is_some_and(|(_, p)| !self.machines.holds(m, p))
-    }
-
-    /// Whether m runs g.
-    fn runs(&self, m: MNo, g: GNo) -> bool
-        ensures { result ≡ option_map_or (is_running_on m) (status_at self.now.goroutines.table g) false }
-    {
-        self.goroutines.runs(m, g)
     }
 
     /// Whether m makes the blocking call of g.

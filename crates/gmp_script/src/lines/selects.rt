@@ -2,7 +2,7 @@
 
 ghost use Rattle.std.specs.Prelude.{◌≡◌, ◌==◌, IfOk, map};
 ghost use Rattle.std.specs.List.{slice_split};
-ghost use Rattle.gmp_script.specs.Lines.{case_by_parts, case_of, cases_of, select_of, offered, selected};
+ghost use Rattle.gmp_script.specs.Lines.{case_by_parts, case_of, cases_of, select_of, select_offered, selected};
 
 use crate::commands::Command;
 use crate::lines::{Line, channel, value};
@@ -66,7 +66,7 @@ fn select(
 
 /// The select of what the words offer: cases, and at the end a default where there is one.
 fn offered(alloc: Global, words: &[&[u8]], until: Option<u64>) -> Result<Option<Line>, AllocError>
-    ensures { IfOk result (λ said. said ≡ offered (map (λ word. word.now) words.now) until) }
+    ensures { IfOk result (λ said. said ≡ select_offered (map (λ word. word.now) words.now) until) }
 {
     match words {
         [offers @ .., last] if *last == b"default".as_slice() => select(alloc, offers, true, until),

@@ -2,7 +2,7 @@ use Rattle.std.proofs.Common.{rules, subst}
 use Rattle.gmp_trace.specs.declared.bad.Why.TheVariants as why
 use Rattle.gmp_trace.specs.Text.{content_of}
 use Rattle.gmp_check.proofs.Checking.{few_before, few_entries, only_memory}
-use Rattle.gmp_check.specs.Checked.{IsFault}
+use Rattle.gmp_check.specs.Checked.{IsBadAt}
 use Rattle.gmp_check.specs.Replayed.{IsReplayError}
 use Rattle.gmp_check.proofs.checked.check_view.Goals as goal
 
@@ -23,14 +23,14 @@ pub returns-in-Ok-2-clause-exact : goal.returns-in-Ok-2-clause-exact
 returns-in-Ok-2-clause-exact g c outcome right =
     let x = content_of c.args.trace in
     let line = c.line_of.result in
-    let wrong : IsFault x line why.Outcome = search rules in
+    let wrong : IsBadAt x line why.Outcome = search rules in
     only_memory x outcome line why.Outcome right wrong
 
 pub returns-in-Err-NoStep-clause-exact : goal.returns-in-Err-NoStep-clause-exact
 returns-in-Err-NoStep-clause-exact g c outcome right =
     let x = content_of c.args.trace in
     let line = c.line_of-in-Err-NoStep.result in
-    let wrong : IsFault x line why.Step = search rules in
+    let wrong : IsBadAt x line why.Step = search rules in
     only_memory x outcome line why.Step right wrong
 
 pub returns-in-Ok-clause-right : goal.returns-in-Ok-clause-right

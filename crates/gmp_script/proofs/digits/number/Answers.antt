@@ -7,7 +7,7 @@ use Rattle.std.proofs.lemmas.Bool.Decides.{nat_tests}
 use Rattle.std.proofs.lemmas.Grind.{common_steps}
 use Rattle.std.proofs.lemmas.Str.{IsUtf8-from_ascii}
 use Rattle.std.proofs.lemmas.Str.Parse.{IsNumeralModel, numerals_by_value, tells_all_ascii_digits, parse_plain, digit_at}
-use Rattle.gmp_script.specs.Numbers.{number_of}
+use Rattle.gmp_script.specs.Numbers.{parsed_number}
 use Rattle.gmp_script.proofs.digits.number.Goals as goal
 use Rattle.gmp_script.proofs.digits.number.Goals.{in-43, in_default, in_default-2}
 
@@ -20,10 +20,10 @@ utf8_digits word h = IsUtf8-from_ascii word (λ i. elim (cases_lt i (length word
   | inr g ↦ grind (arith, common_steps)
 ])
 
-no_number : (word : List ℕ) → all_ascii_digits word ≡ false → number_of word ≡ None
+no_number : (word : List ℕ) → all_ascii_digits word ≡ false → parsed_number word ≡ None
 no_number word h = grind (arith, nat_tests)
 
-parsed : {E : Type 0} (word : List ℕ) (r : Result ℕ E) → get_or word 0 0 ≢ 43 → ParsesUnsigned 64 10 word r → result_ok r ≡ number_of word
+parsed : {E : Type 0} (word : List ℕ) (r : Result ℕ E) → get_or word 0 0 ≢ 43 → ParsesUnsigned 64 10 word r → result_ok r ≡ parsed_number word
 parsed {E} word (Ok n) plus h =
     let k = parse_plain own {E = E} 64 word (Ok n) h plus in
     grind (arith, nat_tests)
@@ -34,7 +34,7 @@ parsed {E} word (Err e) plus h =
       | inr f ↦ sym (no_number word f)
     ]
 
-not_utf8 : {T E : Type 0} (P : T → Type 0) (Q : E → Type 0) (word : List ℕ) (r : Result T E) → MatchResult r P (λ e. ¬ (IsUtf8 word) × Q e) → result_ok r ≡ None → number_of word ≡ None
+not_utf8 : {T E : Type 0} (P : T → Type 0) (Q : E → Type 0) (word : List ℕ) (r : Result T E) → MatchResult r P (λ e. ¬ (IsUtf8 word) × Q e) → result_ok r ≡ None → parsed_number word ≡ None
 not_utf8 P Q word (Ok x) h e = cc
 not_utf8 P Q word (Err e') h e = elim (cases_Bool (all_ascii_digits word)) [
   | inl t ↦ absurd (h.0 (utf8_digits word t))

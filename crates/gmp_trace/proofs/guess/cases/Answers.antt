@@ -1,7 +1,7 @@
 use Rattle.std.proofs.Common.{◌≡◌, ◌-◌, ◌+◌, ◌≤◌, true, false, [], ◌∷◌, length, get_or, map, sym, ap, ◌∙◌, arith, rules}
 use Rattle.std.proofs.Math.ListN.{get_or-map}
 use Rattle.std.proofs.lemmas.List.{length-map, length-append, drop_all}
-use Rattle.gmp_trace.specs.Guess.{is_case, case_of}
+use Rattle.gmp_trace.specs.Guess.{is_case, case_read}
 use Rattle.gmp_trace.proofs.CaseLoop.{after_full, after_other, after_end, after_case}
 use Rattle.gmp_trace.proofs.guess.cases.Goals as goal
 
@@ -27,7 +27,7 @@ loop-i-preserved c =
     let texts = map (λ w. w.now) c.args.words.now in
     let at = get_or-map (λ w. w.now) c.args.words.now c.loop-i.i (record { ref_ptr = (0, 0); now = [] }) in
     let test : is_case (get_or texts c.loop-i.i []) ≡ true = rw at (search rules) in
-    let is : c.case.result ≡ case_of (get_or texts c.loop-i.i []) = rw at c.case.ensures in
+    let is : c.case.result ≡ case_read (get_or texts c.loop-i.i []) = rw at c.case.ensures in
     record {
       count = ap length c.add.ensures ∙ omega (arith, length-append c.loop-i.cases (c.case.result ∷ []));
       room = omega arith;

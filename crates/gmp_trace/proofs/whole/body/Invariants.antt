@@ -1,13 +1,13 @@
 use Rattle.std.proofs.Common.{List, length}
 use Rattle.gmp_seq.specs.declared.call.Entry.{Entry}
 use Rattle.gmp_trace.specs.declared.trace.End.{End}
-use Rattle.gmp_trace.specs.Reading.{Starts, IsBody}
+use Rattle.gmp_trace.specs.Reading.{BeginsWith, IsBody}
 use Rattle.gmp_trace.proofs.Body.{Left, Counts}
 use Rattle.gmp_trace.proofs.whole.body.Given as goal
 
 abbrev pub invariant-loop-rest : goal.invariant-loop-rest
 invariant-loop-rest g l = record {
-  starts : Starts l.machines l.text l.entries.items l.rest;
+  starts : BeginsWith l.machines l.text l.entries.items l.rest;
   counts : Counts l.counts l.entries.items;
   left : (xs : List Entry) (end : End) → IsBody l.machines l.text xs end → Left l.entries.items l.rest xs end;
 }

@@ -12,12 +12,12 @@ call-values-requires-clause-suits g c =
     let load = rw c.requires.act at c.give-load.ensures.used in
     rw (c.opened-values.ensures.values, load) (suits x.run c.give-load.result.pass c.args.call x.hand (uses x c.args.call c.requires.act c.requires.keeps))
 
-values_are : (g : Over) (c : goal.After-told_of g) → c.opened-values.result.1 ≡ values_in (handed_out c.args.driver.now c.give-load.result.pass c.args.call)
+values_are : (g : Over) (c : goal.After-told_to_driver g) → c.opened-values.result.1 ≡ values_in (handed_out c.args.driver.now c.give-load.result.pass c.args.call)
 values_are g c =
     let load = rw c.requires.act at c.give-load.ensures.used in
     rw load at c.opened-values.ensures.values
 
-its : (g : Over) (c : goal.After-told_of g) → Came c.args.driver.now c.args.call c.give-load.result.pass c.call-values.new.pass c.call-values.result.0 c.call-values.result.1
+its : (g : Over) (c : goal.After-told_to_driver g) → Came c.args.driver.now c.args.call c.give-load.result.pass c.call-values.new.pass c.call-values.result.0 c.call-values.result.1
 its g c =
     let r = c.requires in
     let k = c.call-values.ensures in
@@ -38,7 +38,7 @@ got-requires-clause-apart g c =
 pub got-requires-clause-fits : goal.got-requires-clause-fits
 got-requires-clause-fits g c =
     let load = rw c.requires.act at c.give-load.ensures.used in
-    rw (c.give-load.ensures.left, c.requires.act, c.load_back.ensures, c.is_to_claim-to_claim.ensures, load, c.told_of.ensures) (its g c).fits
+    rw (c.give-load.ensures.left, c.requires.act, c.load_back.ensures, c.is_to_claim-to_claim.ensures, load, c.told_to_driver.ensures) (its g c).fits
 
 pub returns-clause-turns : goal.returns-clause-turns
 returns-clause-turns g c =
@@ -56,7 +56,7 @@ returns-clause-turns g c =
       choice = k.choice;
       hands = rw values at k.hands;
       done = rw (c.opened-values.ensures.pass, values) at k.done;
-      machine = rw (c.give-load.ensures.left, c.requires.act, c.load_back.ensures, c.is_to_claim-to_claim.ensures, load, c.told_of.ensures) at c.got.ensures;
+      machine = rw (c.give-load.ensures.left, c.requires.act, c.load_back.ensures, c.is_to_claim-to_claim.ensures, load, c.told_to_driver.ensures) at c.got.ensures;
     }
 
 pub returns-clause-fits : goal.returns-clause-fits
@@ -69,7 +69,7 @@ returns-clause-fits g c =
     came c.args.driver.now c.args.call c.give-load.result.pass c.args.book.now c.call-values.new.self r.act r.keeps r.run c.give-load.ensures.run.pass c.call-values.new.pass c.call-values.result.0
     c.call-values.result.1 (rw values at k.back) (rw c.opened-values.ensures.pass at k.err) (rw c.opened-values.ensures.pass at k.records) (rw values at k.hands)
     in
-    rw (c.got.ensures, c.give-load.ensures.left, r.act, c.load_back.ensures, c.is_to_claim-to_claim.ensures, load, c.told_of.ensures) its.fits
+    rw (c.got.ensures, c.give-load.ensures.left, r.act, c.load_back.ensures, c.is_to_claim-to_claim.ensures, load, c.told_to_driver.ensures) its.fits
 
 pub returns-clause-run : goal.returns-clause-run
 returns-clause-run g c =

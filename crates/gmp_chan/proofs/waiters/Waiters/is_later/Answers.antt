@@ -3,10 +3,9 @@ use Rattle.std.proofs.lemmas.Iterator.{YieldsList-from_range}
 use Rattle.std.proofs.lemmas.Iterator.Search.{all_from_yields_List}
 use Rattle.gmp_seq.specs.declared.status.Waiter.{Waiter}
 use Rattle.gmp_chan.specs.Order.{is_later}
-use Rattle.gmp_chan.specs.Slots.{vacant_or}
 use Rattle.gmp_chan.specs.Contents.{WaiterContents}
 use Rattle.gmp_chan.proofs.Goroutines.{all_slots}
-use Rattle.gmp_chan.proofs.Ordered.{list_all-in_order}
+use Rattle.gmp_chan.proofs.Ordered.{list_all-in_order, vacant_or}
 use Rattle.gmp_chan.proofs.waiters.Waiters.is_later.Goals as goal
 
 pub returns : goal.returns

@@ -3,11 +3,10 @@ use Rattle.gmp_base.specs.declared.cases.Case.TheVariants as case
 use Rattle.gmp_check.proofs.Making.{make_leads, on_error}
 use Rattle.gmp_check.proofs.Parts.{by_running, by_selecting, on_number, on_table}
 use Rattle.gmp_check.proofs.Consistency.{consistent_arrivals, consistent_young}
-use Rattle.gmp_check.specs.Calls.{EntersBy}
 use Rattle.gmp_check.specs.Decides.{Decides}
 use Rattle.gmp_seq.specs.Channels.{items_at}
 use Rattle.gmp_seq.specs.State.{State}
-use Rattle.gmp_seq.specs.Step.{Deals, Effect, Exits, Goparks, OnChannels, OnTable, Selects, Sleeps, Tells, Yields}
+use Rattle.gmp_seq.specs.Step.{Deals, Effect, Exits, Goparks, OnChannels, OnTable, Selects, Sleeps, Tells, Yields, EntersBy}
 use Rattle.gmp_check.proofs.state.State.ask.Goals as goal
 
 pub start-requires : goal.start-requires

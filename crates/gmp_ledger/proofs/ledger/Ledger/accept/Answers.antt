@@ -11,8 +11,8 @@ effect-requires-clause-grants c =
 pub effect-requires-clause-young : goal.effect-requires-clause-young
 effect-requires-clause-young c = (may_go _ _ _ c.args.pass.now c.args.call c.args.values.now c.self.view_is c.self.invariant.0 c.requires.suits c.requires.allowed).young
 
-pub count_one-requires-clause-counted : goal.count_one-requires-clause-counted
-count_one-requires-clause-counted c = rw c.in_ok-reply.ensures.rest.counts (may_go _ _ _ c.args.pass.now c.args.call c.args.values.now c.self.view_is c.self.invariant.0 c.requires.suits c.requires.allowed).counted
+pub count_one-requires-clause-there : goal.count_one-requires-clause-there
+count_one-requires-clause-there c = rw c.in_ok-reply.ensures.rest.counts (may_go _ _ _ c.args.pass.now c.args.call c.args.values.now c.self.view_is c.self.invariant.0 c.requires.suits c.requires.allowed).counted
 
 pub count_one-requires-clause-few : goal.count_one-requires-clause-few
 count_one-requires-clause-few c = rw c.in_ok-reply.ensures.rest.counts (may_go _ _ _ c.args.pass.now c.args.call c.args.values.now c.self.view_is c.self.invariant.0 c.requires.suits c.requires.allowed).few

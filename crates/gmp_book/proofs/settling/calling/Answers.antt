@@ -1,5 +1,5 @@
 use Rattle.std.proofs.Common.{rules}
-use Rattle.gmp_book.proofs.settling.called_of.Goals as goal
+use Rattle.gmp_book.proofs.settling.calling.Goals as goal
 
 pub returns : goal.returns
 returns g c = search rules

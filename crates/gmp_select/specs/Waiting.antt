@@ -1,2 +1,0 @@
--- Who is served by a communication.
-pub use Rattle.gmp_chan.specs.Served.{served}
