@@ -20,7 +20,7 @@ use Rattle.gmp_seq.specs.declared.status.Place.TheVariants.{Shelf, Out}
 use Rattle.gmp_seq.specs.declared.status.Status.{Status}
 use Rattle.gmp_seq.specs.declared.status.Status.TheVariants as status
 use Rattle.gmp_seq.specs.Machines.{Machines, Holds, has_processor, is_held_by, spins}
-use Rattle.gmp_seq.specs.Needs.{CallsForSome, IsOut, Needs, RunsSome}
+use Rattle.gmp_seq.specs.Needs.{CallsForSome, IsOutstanding, Needs, RunsSome}
 use Rattle.gmp_seq.specs.State.{State}
 use Rattle.gmp_seq.specs.Table.{Table, IsRunning, RunsNothing, is_out, is_running_on}
 use Rattle.gmp_driver.specs.declared.act.Act.TheVariants as act
@@ -133,9 +133,9 @@ one_is : (b : Bool) → 1 ≤ (if b then 1 else 0) → b ≡ true
 one_is true h = refl
 one_is false h = absurd (omega arith)
 
-pub is_out_by : (t : Table) (r : Readiness) → 1 ≤ out r t → IsOut t r
+pub is_out_by : (t : Table) (r : Readiness) → 1 ≤ out r t → IsOutstanding t r
 is_out_by t r h = by_row (slice_get t.goroutines r.g.0) refl h where
-  by_row : (o : Option Goroutine) → slice_get t.goroutines r.g.0 ≡ o → 1 ≤ (if option_map_or (λ (x : Goroutine). is_out x.status && (x.epoch == r.epoch)) o false then 1 else 0) → IsOut t r
+  by_row : (o : Option Goroutine) → slice_get t.goroutines r.g.0 ≡ o → 1 ≤ (if option_map_or (λ (x : Goroutine). is_out x.status && (x.epoch == r.epoch)) o false then 1 else 0) → IsOutstanding t r
   by_row None at e = absurd (omega arith)
   by_row (Some x) at e =
       let parts = and_parts _ _ (one_is _ e) in
@@ -154,7 +154,7 @@ claim_in_hand : (r : Readiness) (hand : PlainHand) → hand.to_claim ≡ Some r 
 claim_in_hand r hand e = (let same : is_ticket r hand.to_claim ≡ is_ticket r (Some r) = ap (is_ticket r) e in let one = own_ticket r in omega (arith, same, one))
 
 -- What the scheduler needs for a call, by what the machine holds
-module _ (s : State) (m : MNo) (x : PlainMachine) (sees : Sees s m x) (tickets : (r : Readiness) → 1 ≤ in_hand r x.hand → IsOut s.table r) where
+module _ (s : State) (m : MNo) (x : PlainMachine) (sees : Sees s m x) (tickets : (r : Readiness) → 1 ≤ in_hand r x.hand → IsOutstanding s.table r) where
   free_of_processor : x.hand.processor ≡ None → has_processor s.machines m ≡ false
   free_of_processor none = bare_from s.machines m (λ p h. let own : own_processor x.hand ≡ Some p = (sees.holds p).1 h in let no : None ≡ Some p = sym (ap number_of none) ∙ own in cc)
 
@@ -190,7 +190,7 @@ module _ (s : State) (m : MNo) (x : PlainMachine) (sees : Sees s m x) (tickets :
   needs _ u d = runs_it u.0
 
 -- at any time a ticket in a machine's hand is out
-pub ticket_is_out : (k : System) (m : MNo) (r : Readiness) → IsSound k → m.0 < length k.machines → 1 ≤ in_hand r (machine_at k m).hand → IsOut k.book.state.table r
+pub ticket_is_out : (k : System) (m : MNo) (r : Readiness) → IsSound k → m.0 < length k.machines → 1 ≤ in_hand r (machine_at k m).hand → IsOutstanding k.book.state.table r
 ticket_is_out k m r s inside some =
     let part : in_hand r (machine_at k m).hand ≤ sum_by (λ (x : PlainMachine). in_hand r x.hand) k.machines = get_or-le-sum_by (λ (x : PlainMachine). in_hand r x.hand) k.machines m.0 no_machine inside in
     let most = s.tickets r in

@@ -12,7 +12,7 @@ use Rattle.gmp_base.specs.declared.number.Readiness.{Readiness}
 use Rattle.gmp_seq.proofs.Epochs.{epoch_of}
 use Rattle.gmp_seq.proofs.Sizes.{legal_sizes}
 use Rattle.gmp_seq.proofs.Waiting.{In}
-use Rattle.gmp_seq.specs.Needs.{IsOut}
+use Rattle.gmp_seq.specs.Needs.{IsOutstanding}
 use Rattle.gmp_seq.specs.Table.{Table}
 use Rattle.gmp_acts.specs.Hands.{PlainMachine}
 use Rattle.gmp_acts.specs.Sound.{IsSound}
@@ -97,7 +97,7 @@ all_below n (t ∷ l) h =
 -- Tickets that are each out at most as often as they stand in a list
 
 module _ (t : Table) (l : List Readiness) (most : (r : Readiness) → count_by (is_same r) l ≤ out r t) where
-  is_out : (u : Readiness) → In u l → IsOut t u
+  is_out : (u : Readiness) → In u l → IsOutstanding t u
   is_out u h = is_out_by t u (let a = in_counts u l h in let b = most u in omega (arith, a, b))
 
   one_epoch : (u v : Readiness) → In u l → In v l → u.g.0 ≡ v.g.0 → u.epoch ≡ v.epoch

@@ -7,7 +7,7 @@ ghost use Rattle.gmp_seq.specs.declared.call.Call.{Call};
 ghost use Rattle.gmp_seq.specs.declared.call.Limits.{Limits};
 ghost use Rattle.gmp_seq.specs.Fits.{AreLimits};
 ghost use Rattle.gmp_seq.specs.declared.call.Reply.{Reply};
-ghost use Rattle.gmp_seq.specs.Needs.{IsOut, WantsMemory};
+ghost use Rattle.gmp_seq.specs.Needs.{IsOutstanding, WantsMemory};
 ghost use Rattle.gmp_seq.specs.State.{State};
 ghost use Rattle.gmp_seq.specs.Step.{Step};
 ghost use Rattle.gmp_driver.specs.declared.act.Act.TheVariants as Act;
@@ -92,5 +92,5 @@ pub fn pushes_have_room()
 /// At any time, also once the run is over, a ticket that a machine holds is out: so the book takes it back.
 pub fn tickets_are_out()
     ensures { (k : System) (m : MNo) (r : Readiness) → IsSound k → m.0 < length k.machines → 1 ≤ in_hand r (machine_at k m).hand
-        → IsOut k.book.state.table r }
+        → IsOutstanding k.book.state.table r }
 {}

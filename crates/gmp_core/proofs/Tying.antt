@@ -12,7 +12,7 @@ use Rattle.gmp_base.specs.declared.refusal.Refusal.{Refusal}
 use Rattle.gmp_seq.specs.declared.call.Call.{Call}
 use Rattle.gmp_seq.specs.declared.call.Outcome.{Outcome}
 use Rattle.gmp_seq.specs.declared.call.Reply.{Reply}
-use Rattle.gmp_seq.specs.Needs.{IsOut}
+use Rattle.gmp_seq.specs.Needs.{IsOutstanding}
 use Rattle.gmp_seq.specs.Table.{Table, is_outstanding}
 use Rattle.gmp_book.specs.Book.{BookContents}
 use Rattle.gmp_driver.specs.declared.act.Act.{Act}
@@ -65,7 +65,7 @@ in_hand_by : (r : Readiness) (t s : Option Readiness) → (t ≡ Some r) ⊎ (s 
 in_hand_by r t s (inl e) = (let one = own_ticket r in let same : is_ticket r t ≡ is_ticket r (Some r) = ap (is_ticket r) e in omega (arith, one, same))
 in_hand_by r t s (inr e) = (let one = own_ticket r in let same : is_ticket r s ≡ is_ticket r (Some r) = ap (is_ticket r) e in omega (arith, one, same))
 
-is_out_outstanding : (t : Table) (r : Readiness) → IsOut t r → is_outstanding t r ≡ true
+is_out_outstanding : (t : Table) (r : Readiness) → IsOutstanding t r → is_outstanding t r ≡ true
 is_out_outstanding t r out = rw out.1 (eq-eqb r.epoch r.epoch refl)
 
 -- the core after an act of machine m

@@ -6,7 +6,7 @@ use Rattle.gmp_seq.specs.declared.call.Call.TheVariants as call
 use Rattle.gmp_seq.specs.declared.status.Mode.TheVariants as mode
 use Rattle.gmp_seq.specs.declared.status.Status.TheVariants as status
 use Rattle.gmp_seq.specs.Machines.{Machines, is_held_by, is_awake_mode, is_calling_mode}
-use Rattle.gmp_seq.specs.Needs.{IsOut}
+use Rattle.gmp_seq.specs.Needs.{IsOutstanding}
 use Rattle.gmp_seq.specs.Table.{is_out, is_outstanding}
 use Rattle.gmp_table.proofs.Moves.{given_out}
 use Rattle.gmp_ledger.specs.Handed.{held_handed}
@@ -67,11 +67,11 @@ holds w m p = found (is_held_by m) (Some m) (slice_get w.holders p.0) one (eq-eq
   one (Some n) e = ap (λ (k : ℕ). Some (record { 0 = k })) (sym (eqb-true m.0 n.0 e))
   one None e = absurd (false≢true e)
 
-pub out_test : (t : Table) (r : Readiness) → IsOut t r → not (is_outstanding t r) ≡ false
+pub out_test : (t : Table) (r : Readiness) → IsOutstanding t r → not (is_outstanding t r) ≡ false
 out_test t r out =
     ap not (ap (λ (o : Option Goroutine). option_map_or (λ (x : Goroutine). is_out x.status && (x.epoch == r.epoch)) o false) out.1 ∙ eq-eqb r.epoch r.epoch refl)
 
-out : (t : Table) (r : Readiness) → FailsWhere (not (is_outstanding t r)) (IsOut t r)
+out : (t : Table) (r : Readiness) → FailsWhere (not (is_outstanding t r)) (IsOutstanding t r)
 out t r = (λ e. let is = given_out t.goroutines r (not_false (is_outstanding t r) e) in (is.answer, is.at), out_test t r)
 
 no_call : (s : State) (m : MNo) → FailsWhere (calls_some s m) (slice_get s.machines.modes m.0 ≡ Some mode.Calling → ⊥)

@@ -15,7 +15,7 @@ use Rattle.gmp_queue.specs.Ends.{owner_view, thief_view, SameOwner, IsThiefOf, A
 use Rattle.std.specs.List.{slice_index_or}
 use Rattle.gmp_queue.specs.declared.ends.Thief.{Thief}
 use Rattle.gmp_queue.specs.Queue.{view_with, all_parts, taken, AreBefore, PoppedFirst, TookAll, FoundNone}
-use Rattle.gmp_queue.specs.Closed.{pair_taken, IsRising, Appends, ClosesQueue, GivesBack, Drains, Gathers}
+use Rattle.gmp_queue.specs.Closed.{pair_taken, IsRising, AppendsTaken, ClosesQueue, GivesBack, Drains, Gathers}
 
 pub all_left : (P : Taken → Type 0) (xs ys : List Taken) → All P (xs ++ ys) → All P xs
 all_left P xs ys h = subst (All P) (take-append_seam xs ys) (All-take P (length xs) (xs ++ ys) h)
@@ -96,7 +96,7 @@ rising_append (x ∷ xs) ys a b apart = (
 
 -- a drain, the thieves' gifts and a drain
 pub two_drains : (h v w u : View) (thieves : List Thief) (old mid new : List (GNo × ℕ)) → Drains h v old mid → Gathers v thieves w → Drains w u mid new
-    → (left : List Taken) × Appends left old new × IsPermutation ((h.took ++ flat_map (λ (t : Thief). (thief_view t).took) thieves) ++ left) u.took × (u.put ≡ h.put) × (u.parts ≡ all_parts)
+    → (left : List Taken) × AppendsTaken left old new × IsPermutation ((h.took ++ flat_map (λ (t : Thief). (thief_view t).took) thieves) ++ left) u.took × (u.put ≡ h.put) × (u.parts ≡ all_parts)
 two_drains h v w u thieves old mid new one gifts two =
     let theirs = flat_map (λ (t : Thief). (thief_view t).took) thieves in
     let w_is : w ≡ view_with h.owner all_parts h.put ((h.took ++ one.0) ++ theirs) = gifts ∙ ap (λ (x : View). view_with x.owner all_parts x.put (x.took ++ theirs)) one.1 in

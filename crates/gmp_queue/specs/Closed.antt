@@ -18,12 +18,12 @@ IsRising [] = Unit {0}
 IsRising (t ∷ ts) = All (λ (u : Taken). t.at < u.at) ts × IsRising ts
 
 -- these were appended, one after another
-abbrev pub Appends : List Taken → List (GNo × ℕ) → List (GNo × ℕ) → Type 0
-Appends left old new = (new ≡ old ++ map pair_taken left) × IsRising left
+abbrev pub AppendsTaken : List Taken → List (GNo × ℕ) → List (GNo × ℕ) → Type 0
+AppendsTaken left old new = (new ≡ old ++ map pair_taken left) × IsRising left
 
 -- what was appended and what the ends had taken is all that was put, from each position once
 abbrev pub ClosesQueue : Owner → List Thief → List (GNo × ℕ) → List (GNo × ℕ) → Type 0
-ClosesQueue o thieves old new = (left : List Taken) × Appends left old new × TookAll (owner_view o).put (taken_by o thieves ++ left)
+ClosesQueue o thieves old new = (left : List Taken) × AppendsTaken left old new × TookAll (owner_view o).put (taken_by o thieves ++ left)
 
 -- all ends come back, and what was appended is what they have taken beside what they had
 pub record GivesBack (o : Owner) (thieves : List Thief) (old new : List (GNo × ℕ)) (p : Owner) (back : List Thief) : Type 0 where
@@ -31,7 +31,7 @@ pub record GivesBack (o : Owner) (thieves : List Thief) (old new : List (GNo × 
   pub same : SameOwner o p
   pub put : (owner_view p).put ≡ (owner_view o).put
   pub left : List Taken
-  pub appended : Appends left old new
+  pub appended : AppendsTaken left old new
   pub took : IsPermutation (taken_by o thieves ++ left) (taken_by p back)
 
 -- what was taken, after all that the view had taken from before, is appended
