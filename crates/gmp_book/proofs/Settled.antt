@@ -28,7 +28,7 @@ use Rattle.gmp_book.specs.declared.values.Values.{Values}
 use Rattle.gmp_book.specs.declared.values.Way.{Way}
 use Rattle.gmp_book.specs.declared.values.Way.TheVariants as way
 use Rattle.gmp_book.specs.Book.{BodiesIn, IsBook, OwnersIn}
-use Rattle.gmp_book.specs.Hands.{FitsBody, FitsHome, FitsOwner, FitsPlace, HandsBody, HandsOwner, claimed, handed_of, way_of, with_home, with_owner}
+use Rattle.gmp_book.specs.Hands.{FitsBody, FitsHome, FitsOwner, HasVacantPlace, HandsBody, HandsOwner, claimed, handed_of, way_of, with_home, with_owner}
 use Rattle.gmp_book.specs.Kinds.{hands_called, hands_held, hands_proc}
 use Rattle.gmp_book.proofs.Bodies.{filled_at, is_in, set_map, vacant_at}
 use Rattle.gmp_book.proofs.Handing.{CalledBy, HandedBy, HeldBy, ProcBy, handed_by}
@@ -112,7 +112,7 @@ module _ {T : Type 0} (limits : Limits) (old : State) (m : MNo) (order : IsInOrd
 -- Owners
 
 module _ {Q : Type 0} (limits : Limits) (old : State) (m : MNo) (order : IsInOrder limits old) (owners : List (Option Q)) (kept : OwnersIn old.machines owners) where
-  place_fits : (b : Bool) (x : Option (Proc Q)) → b ≡ true → ProcBy b m old.machines x → FitsPlace x owners
+  place_fits : (b : Bool) (x : Option (Proc Q)) → b ≡ true → ProcBy b m old.machines x → HasVacantPlace x owners
   place_fits true (Some x) e by = vacant_at is_none owners old.machines.holders x.p.0 (Some m) kept by refl
   place_fits true None e by = absurd by
   place_fits false x e by = absurd cc

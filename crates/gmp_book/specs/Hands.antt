@@ -110,15 +110,15 @@ HandsOwner (reply.Idle p) run given back old new = (back ≡ None) × (new ≡ w
 HandsOwner _ run given back old new = (back ≡ given) × (new ≡ old)
 
 -- its place is vacant
-abbrev pub FitsPlace : {Q : Type 0} → Option (Proc Q) → List (Option Q) → Type 0
-FitsPlace None owners = Unit {0}
-FitsPlace (Some x) owners = is_vacant owners x.p.0 ≡ true
+abbrev pub HasVacantPlace : {Q : Type 0} → Option (Proc Q) → List (Option Q) → Type 0
+HasVacantPlace None owners = Unit {0}
+HasVacantPlace (Some x) owners = is_vacant owners x.p.0 ≡ true
 
 abbrev pub FitsOwner : {Q : Type 0} → Reply → Option (Proc Q) → List (Option Q) → Type 0
 FitsOwner (reply.Proc p) given owners = (given ≡ None) × (is_filled owners p.0 ≡ true)
 FitsOwner (reply.Runs p) given owners = (given ≡ None) × (is_filled owners p.0 ≡ true)
-FitsOwner (reply.Entered p woken) given owners = FitsPlace given owners
-FitsOwner (reply.Idle p) given owners = FitsPlace given owners
+FitsOwner (reply.Entered p woken) given owners = HasVacantPlace given owners
+FitsOwner (reply.Idle p) given owners = HasVacantPlace given owners
 FitsOwner _ given owners = Unit {0}
 
 -- Refused

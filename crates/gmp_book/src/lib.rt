@@ -1,5 +1,5 @@
 //! The book: the ledger, with a body for each goroutine and an owner for each processor. Every call is made whole by a pass or refused,
-//! and what the book keeps is always a legal run.
+//! and its history is always a legal run.
 //!
 //! What the calls cost:
 //!

@@ -74,7 +74,12 @@ impl<T, Q> Values<T, Q> {
             return self;
         }
         let (held, called, ticket, proc) = self.parts();
-        Values::of(held.map(|held| handed_back(why, held)), called, ticket, proc)
+        Values::of(
+            held.map(|held| handed_back(why, held)),
+            called,
+            ticket,
+            proc,
+        )
     }
 }
 

@@ -6,7 +6,7 @@ use Rattle.gmp_seq.specs.declared.status.Direction.{Direction}
 use Rattle.gmp_seq.specs.declared.status.Direction.TheVariants.{Sending, Receiving}
 use Rattle.gmp_seq.specs.declared.status.Waiter.{Waiter}
 use Rattle.gmp_seq.specs.Waits.{direction_of, is_on, same_direction}
-use Rattle.gmp_chan.specs.Kept.{AreApart, AreRings, IsKept, mark_at, mark_in, key_in, ring_end, ring_of}
+use Rattle.gmp_chan.specs.Kept.{AreApart, AreRings, IsKept, mark_at, mark_in, key_in, queue_end, queue_in}
 use Rattle.gmp_chan.specs.Rings.{IsLinkedAt}
 use Rattle.gmp_chan.specs.Order.{is_at}
 use Rattle.gmp_chan.specs.Slots.{IsFirstSlot, IsNowhere, earlier_of, in_order, rank}
@@ -17,16 +17,16 @@ use Rattle.gmp_chan.proofs.Ringed.{order}
 
 -- Channels and directions
 
-same_end : (a b : ℕ) (d e : Direction) → ring_end (record { 0 = a }) d ≡ ring_end (record { 0 = b }) e → (a == b) && same_direction e d ≡ true
+same_end : (a b : ℕ) (d e : Direction) → queue_end (record { 0 = a }) d ≡ queue_end (record { 0 = b }) e → (a == b) && same_direction e d ≡ true
 same_end a b Sending Sending h = (let t : (a == b) ≡ true = (let r : a ≡ b = omega arith in grind (arith, nat_tests)) in rw t refl)
 same_end a b Sending Receiving h = absurd (omega arith)
 same_end a b Receiving Sending h = absurd (omega arith)
 same_end a b Receiving Receiving h = (let t : (a == b) ≡ true = (let r : a ≡ b = omega arith in grind (arith, nat_tests)) in rw t refl)
 
-end_same : (a b : ℕ) (d e : Direction) → (a == b) && same_direction e d ≡ true → ring_end (record { 0 = a }) d ≡ ring_end (record { 0 = b }) e
+end_same : (a b : ℕ) (d e : Direction) → (a == b) && same_direction e d ≡ true → queue_end (record { 0 = a }) d ≡ queue_end (record { 0 = b }) e
 end_same a b d e h = by (a == b) refl d e h
   where
-    by : (t : Bool) → (a == b) ≡ t → (d e : Direction) → t && same_direction e d ≡ true → ring_end (record { 0 = a }) d ≡ ring_end (record { 0 = b }) e
+    by : (t : Bool) → (a == b) ≡ t → (d e : Direction) → t && same_direction e d ≡ true → queue_end (record { 0 = a }) d ≡ queue_end (record { 0 = b }) e
     by false is d e h = absurd cc
     by true is Sending Sending h = (let r : a ≡ b = grind (arith, nat_tests) in omega arith)
     by true is Sending Receiving h = absurd cc
@@ -65,32 +65,32 @@ module _ (ring : Waiter → ℕ) (base ends : ℕ) (slots : List (Option Waiter)
       high low = omega (arith, mark_record ring base ends i (get_or slots i None) low, ap (mark_in ring base) none, at_e.onward, mark_e)
 
 module _ (slots : List (Option Waiter)) (base : ℕ) (next prev own_next own_prev : List ℕ) (bodies channels : ℕ) (kept : IsKept slots base next prev own_next own_prev bodies channels) (c : CNo) (direction : Direction) where
-  pub first_there : c.0 < channels → (w : Waiter) → get_or slots (get_or next (base + ring_end c direction) 0) None ≡ Some w → IsFirstSlot (is_on c direction) slots w
+  pub first_there : c.0 < channels → (w : Waiter) → get_or slots (get_or next (base + queue_end c direction) 0) None ≡ Some w → IsFirstSlot (is_on c direction) slots w
   first_there made w is =
       let small = end_small c direction channels made in
       let within : (k : ℕ) (x : Waiter) → get_or slots k None ≡ Some x → k < base = λ k x at. (kept.placed k x at).slot in
       record {
-        key = get_or next (base + ring_end c direction) 0;
+        key = get_or next (base + queue_end c direction) 0;
         there = is;
-        passes = same_end w.offer.channel.0 c.0 (direction_of w.offer.deal) direction (first_on_ring ring_of base (2 * channels) slots next prev kept.queues within (ring_end c direction) small w is);
+        passes = same_end w.offer.channel.0 c.0 (direction_of w.offer.deal) direction (first_on_ring queue_in base (2 * channels) slots next prev kept.queues within (queue_end c direction) small w is);
         least = λ k x at on.
-            first_least ring_of base (2 * channels) slots next prev kept.queues within (ring_end c direction) small w is k x at (end_same x.offer.channel.0 c.0 (direction_of x.offer.deal) direction on);
+            first_least queue_in base (2 * channels) slots next prev kept.queues within (queue_end c direction) small w is k x at (end_same x.offer.channel.0 c.0 (direction_of x.offer.deal) direction on);
       }
 
-  pub first_none : c.0 < channels → get_or slots (get_or next (base + ring_end c direction) 0) None ≡ None → IsNowhere (is_on c direction) slots
+  pub first_none : c.0 < channels → get_or slots (get_or next (base + queue_end c direction) 0) None ≡ None → IsNowhere (is_on c direction) slots
   first_none made none k x at = by (is_on c direction x) refl
     where
       by : (b : Bool) → is_on c direction x ≡ b → b ≡ false
       by false on = refl
       by true on =
-          absurd (none_on_ring ring_of base (2 * channels) slots next prev kept.queues (λ k x at. (kept.placed k x at).slot) (ring_end c direction) (end_small c direction channels made) none k x at
+          absurd (none_on_ring queue_in base (2 * channels) slots next prev kept.queues (λ k x at. (kept.placed k x at).slot) (queue_end c direction) (end_small c direction channels made) none k x at
           (end_same x.offer.channel.0 c.0 (direction_of x.offer.deal) direction on))
 
-  pub queue_some : c.0 < channels → (o : Option Waiter) → o ≡ get_or slots (get_or next (base + ring_end c direction) 0) None → IfSome o (IsFirstSlot (is_on c direction) slots)
+  pub queue_some : c.0 < channels → (o : Option Waiter) → o ≡ get_or slots (get_or next (base + queue_end c direction) 0) None → IfSome o (IsFirstSlot (is_on c direction) slots)
   queue_some made None is = tt
   queue_some made (Some w) is = first_there made w (sym is)
 
-  pub queue_none : c.0 < channels → (o : Option Waiter) → o ≡ get_or slots (get_or next (base + ring_end c direction) 0) None → IfNone o (IsNowhere (is_on c direction) slots)
+  pub queue_none : c.0 < channels → (o : Option Waiter) → o ≡ get_or slots (get_or next (base + queue_end c direction) 0) None → IfNone o (IsNowhere (is_on c direction) slots)
   queue_none made None is = first_none made (sym is)
   queue_none made (Some w) is = tt
 

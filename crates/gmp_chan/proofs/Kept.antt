@@ -7,14 +7,14 @@ use Rattle.gmp_seq.specs.declared.status.Waiter.{Waiter}
 use Rattle.gmp_base.specs.declared.number.CNo.{CNo}
 use Rattle.gmp_seq.specs.Waits.{direction_of}
 use Rattle.gmp_chan.specs.Contents.{is_of}
-use Rattle.gmp_chan.specs.Kept.{IsKept, IsInPlace, chain_of, ring_end, ring_of}
+use Rattle.gmp_chan.specs.Kept.{IsKept, IsInPlace, chain_of, queue_end, queue_in}
 use Rattle.gmp_chan.specs.Slots.{IsLast, in_order, rank}
 use Rattle.gmp_chan.proofs.Counted.{count-filter, few_more}
 use Rattle.gmp_chan.proofs.Linked.{rings_linked, rings_unlinked}
 use Rattle.gmp_chan.proofs.Ordered.{emptied, filled_last, keep, within_some}
 use Rattle.gmp_chan.proofs.Ringed.{same_or_not}
 
-pub end_small : (c : CNo) (direction : Direction) (channels : ℕ) → c.0 < channels → ring_end c direction < 2 * channels
+pub end_small : (c : CNo) (direction : Direction) (channels : ℕ) → c.0 < channels → queue_end c direction < 2 * channels
 end_small c Sending channels h = omega arith
 end_small c Receiving channels h = omega arith
 
@@ -64,7 +64,7 @@ module _ (slots : List (Option Waiter)) (base : ℕ) (next prev own_next own_pre
       placed = λ n x is. kept.placed n x (still n x is);
       apart = λ n k x y at at' same. kept.apart n k x y (still n x at) (still k y at') same;
       few = λ g. omega (arith, ap (count_by (is_of g)) one_less, count-filter (is_of g) others (in_order slots), kept.few g);
-      queues = rings_unlinked ring_of base (2 * channels) slots next prev kept.queues (set slots i None) i (kept.placed i w there).slot rest w there gone kept.apart;
+      queues = rings_unlinked queue_in base (2 * channels) slots next prev kept.queues (set slots i None) i (kept.placed i w there).slot rest w there gone kept.apart;
       chains = rings_unlinked chain_of base bodies slots own_next own_prev kept.chains (set slots i None) i (kept.placed i w there).slot rest w there gone kept.apart;
     }
 
@@ -83,7 +83,7 @@ module _ (slots : List (Option Waiter)) (base : ℕ) (next prev own_next own_pre
     one_more = filled_last slots now i w vacant filled rest last
 
     pub put_in : w.g.0 < bodies → w.offer.channel.0 < channels → w.offer.case < 256 → count_by (is_of w.g) (in_order slots) < 8
-        → (q : ℕ) → q ≡ base + ring_of w → (o : ℕ) → o ≡ base + chain_of w
+        → (q : ℕ) → q ≡ base + queue_in w → (o : ℕ) → o ≡ base + chain_of w
         → IsKept now base (set (set next (get_or prev q 0) i) i q) (set (set prev i (get_or prev q 0)) q i)
         (set (set own_next (get_or own_prev o 0) i) i o) (set (set own_prev i (get_or own_prev o 0)) o i) bodies channels
     put_in known made case few q is_q o is_o = record {
@@ -91,7 +91,7 @@ module _ (slots : List (Option Waiter)) (base : ℕ) (next prev own_next own_pre
       placed = λ n x is. placed n x (new_or_old n x is);
       apart = λ n k x y at at' same. apart n k x y (new_or_old n x at) (new_or_old k y at') same;
       few = λ g. omega (arith, ap (count_by (is_of g)) one_more, few_more (in_order slots) w kept.few few g);
-      queues = rings_linked ring_of base (2 * channels) slots next prev kept.queues now i within rest w (end_small w.offer.channel (direction_of w.offer.deal) channels made) vacant filled last q is_q;
+      queues = rings_linked queue_in base (2 * channels) slots next prev kept.queues now i within rest w (end_small w.offer.channel (direction_of w.offer.deal) channels made) vacant filled last q is_q;
       chains = rings_linked chain_of base bodies slots own_next own_prev kept.chains now i within rest w known vacant filled last o is_o;
     }
       where

@@ -1,7 +1,7 @@
 -- Nobody waits.
 use Rattle.std.proofs.Common.{◌≡◌, ℕ, ◌+◌, ◌*◌, ◌<◌, ◌≤◌, None, List, [], get_or, ap, ◌∙◌, arith}
 use Rattle.gmp_seq.specs.declared.status.Waiter.{Waiter}
-use Rattle.gmp_chan.specs.Kept.{AreRings, IsKept, chain_of, key_in, mark_at, ring_of}
+use Rattle.gmp_chan.specs.Kept.{AreRings, IsKept, chain_of, key_in, mark_at, queue_in}
 use Rattle.gmp_chan.specs.Rings.{AreAlone, IsLinkedAt}
 use Rattle.gmp_chan.proofs.Linked.{mark_record, node_within}
 
@@ -29,6 +29,6 @@ opened base next prev own_next own_prev bodies channels room alone alone' own ow
   placed = λ n w is. absurd cc;
   apart = λ n k w x is is' same. absurd cc;
   few = λ g. omega arith;
-  queues = all_alone ring_of base (2 * channels) next prev alone alone';
+  queues = all_alone queue_in base (2 * channels) next prev alone alone';
   chains = all_alone chain_of base bodies own_next own_prev own own';
 }

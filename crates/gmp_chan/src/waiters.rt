@@ -3,7 +3,7 @@ ghost use Rattle.std.specs.Prelude.{◌≡◌, ◌<◌, ◌+◌, ◌*◌, ◌++�
 ghost use Rattle.gmp_seq.specs.declared.status.Waiter.{Waiter};
 ghost use Rattle.gmp_seq.specs.Waits.{as_waiters, first_on, is_on};
 ghost use Rattle.gmp_chan.specs.Contents.{WaiterContents, is_of, without};
-ghost use Rattle.gmp_chan.specs.Kept.{AreBelow, ring_end};
+ghost use Rattle.gmp_chan.specs.Kept.{AreBelow, queue_end};
 ghost use Rattle.gmp_chan.specs.Order.{is_at, is_later, rise};
 ghost use Rattle.gmp_chan.specs.Slots.{IsFirstSlot, IsLast, IsNowhere, IsThere, earlier_of, in_order};
 ghost use Rattle.gmp_chan.specs.Stored.{IsStored};
@@ -27,8 +27,8 @@ struct Store {
     channels: u16,
 }
 
-fn ring_end(c: CNo, direction: Direction) -> usize
-    ensures { result ≡ ring_end c direction }
+fn queue_end(c: CNo, direction: Direction) -> usize
+    ensures { result ≡ queue_end c direction }
 {
     2 * c.0 as usize
         + match direction {
@@ -66,7 +66,7 @@ impl Store {
         ensures channels { self.new.channels ≡ self.old.channels }
     {
         let base = self.records.capacity();
-        let queue = base + ring_end(w.offer.channel, w.offer.deal.direction());
+        let queue = base + queue_end(w.offer.channel, w.offer.deal.direction());
         let chain = base + w.g.0 as usize;
         let key = self.records.insert_reserved(w);
         self.queues.link_last(key, queue);
@@ -82,7 +82,7 @@ impl Store {
         if c.0 >= self.channels {
             return None;
         }
-        let end = self.records.capacity() + ring_end(c, direction);
+        let end = self.records.capacity() + queue_end(c, direction);
         let key = self.queues.first(end);
         self.records.get(key).copied()
     }

@@ -15,7 +15,7 @@ use Rattle.gmp_core.proofs.Moves.{opened_on}
 use Rattle.gmp_script.specs.Script.{Commands, asked_last}
 use Rattle.gmp_cli.specs.Clock.{ClockState}
 use Rattle.gmp_cli.specs.declared.playing.Player.{Player}
-use Rattle.gmp_cli.specs.Plays.{AnswersBlock, AreParked, IsDealt, Stage, machines_of, parked}
+use Rattle.gmp_cli.specs.Plays.{AnswersNumber, AreParked, IsDealt, Stage, machines_of, parked}
 use Rattle.gmp_cli.specs.Staged.{IsManned, SameRun}
 
 -- going round so many, each comes
@@ -57,7 +57,7 @@ put_here {X} xs i x is = ap (λ (y : X). set xs i y) (sym (get_or_from_slice_get
 
 -- a blocking call leaves its body as it was
 pub answered : (k : Whole Commands) (clock : ClockState) (turn number : ℕ) (m : MNo) (body after : Commands) → IsBodyInHand k m body → number ≡ asked_last body → after ≡ body
-    → AnswersBlock (record { system = k.system; bodies = k.stock; clock = clock; turn = turn }) m number
+    → AnswersNumber (record { system = k.system; bodies = k.stock; clock = clock; turn = turn }) m number
     (record { system = k.system; bodies = (with_body_in_hand k m after).stock; clock = clock; turn = turn })
 answered k clock turn number m body after held is stays = record {
   g = held.g;

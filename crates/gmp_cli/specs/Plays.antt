@@ -78,7 +78,7 @@ pub record Asks (s : Stage) (m : MNo) (asked : Ask) (s' : Stage) : Type 0 where
   pub clock : s'.clock ≡ s.clock
 
 -- the blocking call of the body in machine m's hand answers so, and the body stays
-pub record AnswersBlock (s : Stage) (m : MNo) (number : ℕ) (s' : Stage) : Type 0 where
+pub record AnswersNumber (s : Stage) (m : MNo) (number : ℕ) (s' : Stage) : Type 0 where
   pub g : GNo
   pub in_hand : goroutine_in_hand s.system m ≡ Some g
   pub body : Commands
@@ -101,7 +101,7 @@ pub record ReadsNothing (s s' : Stage) : Type 0 where
 -- what an act of machine m that wants this is dealt, and what is left of bodies and clock
 abbrev pub IsDealt : Want → Stage → MNo → Choice → Stage → Type 0
 IsDealt want.Ask s m choice s' = Asks s m choice.ask s'
-IsDealt want.Number s m choice s' = AnswersBlock s m choice.number s'
+IsDealt want.Number s m choice s' = AnswersNumber s m choice.number s'
 IsDealt (want.Moment minded) s m choice s' = Reads s minded choice.moment s'
 IsDealt want.Nothing s m choice s' = ReadsNothing s s'
 

@@ -33,7 +33,7 @@ pub(crate) struct Player {
 
 impl Player {
     ghost use Rattle.gmp_cli.specs.Clock.{unread};
-    ghost use Rattle.gmp_cli.specs.Plays.{AnswersBlock, AreParked, Asks, IsDealt, HasTurn, IsOver, IsPlayed, IsSettled, PlaysOne, has_body, opening_stage};
+    ghost use Rattle.gmp_cli.specs.Plays.{AnswersNumber, AreParked, Asks, IsDealt, HasTurn, IsOver, IsPlayed, IsSettled, PlaysOne, has_body, opening_stage};
     ghost use Rattle.gmp_cli.specs.Staged.{IsManned, SameRun, TriesOne, stage};
 
     /// The core before its first act.
@@ -179,7 +179,7 @@ impl Player {
     /// What the blocking call of the body in the machine's hand answers.
     fn number(&mut self, m: MNo) -> u64
         requires { has_body self.old.core.system m ≡ true }
-        ensures answers { AnswersBlock (stage self.old) m result (stage self.new) }
+        ensures answers { AnswersNumber (stage self.old) m result (stage self.new) }
         ensures choice { self.new.choice ≡ self.old.choice }
         ensures system { self.new.core.system ≡ self.old.core.system }
         ensures machines { self.new.machines ≡ self.old.machines }

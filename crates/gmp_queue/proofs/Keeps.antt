@@ -12,7 +12,7 @@ use Rattle.crossbeam_deque.proofs.Lists.{at_set, at_snoc}
 use Rattle.gmp_base.specs.declared.number.Readiness.{Readiness}
 use Rattle.gmp_queue.specs.declared.rule.Taken.{Taken}
 use Rattle.gmp_queue.specs.declared.rule.View.{View}
-use Rattle.gmp_queue.specs.Queue.{view_with, all_parts, taken, times_at, once_below, AreFrom, KnowsRight, IsQueue, PutLast, TookFrom, PoppedFirst, StoleFirst, FoundNone, lent, kept, both, spent}
+use Rattle.gmp_queue.specs.Queue.{view_with, all_parts, taken, times_at, once_below, AreFrom, KnowsTruly, IsQueue, PutLast, TookFrom, PoppedFirst, StoleFirst, FoundNone, lent, kept, both, spent}
 
 -- the sum over all passes after a change of one
 sum_set : (f : View → ℕ) (views : List View) (port : ℕ) (v w : View) → get_elem? views port ≡ some v → sum_by f (set views port w) + f v ≡ sum_by f views + f w
@@ -93,7 +93,7 @@ puts port v xs owner part items views h at =
         rest = ap (λ l. l ++ xs) h.rest ∙ sym (drop-append-le h.front h.put xs h.within);
         once = λ position. (let s = sum_set (hits position) views port v w at in let o = h.once position in omega arith);
         whole = (let s = sum_set parts views port v w at in let o = h.whole in omega arith);
-        passes = every_set (KnowsRight (h.put ++ xs) h.front h.seat) views port w
+        passes = every_set (KnowsTruly (h.put ++ xs) h.front h.seat) views port w
             (record {
               knows_put = λ o. ((mine.knows_put owner).0, ap (λ l. l ++ xs) (mine.knows_put owner).1);
               from_put = All-weaker _ _ (λ t e. slice_get_append h.put xs t.at t.readiness e) v.took mine.from_put;
@@ -134,7 +134,7 @@ took_first port v r items views part h at =
         once = λ position. (let s = sum_set (hits position) views port v w at in let o = h.once position in
             let m = sum_by_push (is_at position) v.took (taken h.front r) in let n = once_more position h.front in omega arith);
         whole = (let s = sum_set parts views port v w at in let o = h.whole in omega arith);
-        passes = every_set (KnowsRight h.put (suc h.front) h.seat) views port w
+        passes = every_set (KnowsTruly h.put (suc h.front) h.seat) views port w
             (record {
               knows_put = mine.knows_put;
               from_put = All-push (λ (t : Taken). slice_get h.put t.at ≡ Some t.readiness) v.took (taken h.front r) mine.from_put t.0;
@@ -176,7 +176,7 @@ finds_none port v owner views h at all =
       subst (λ l. AreFrom l v.took) (sym known) mine.from_put,
     )
 
-none_else : (j : ℕ) (u : View) → j ≢ 0 → get_elem? (view_with true all_parts [] [] ∷ []) j ≡ some u → KnowsRight [] 0 0 j u
+none_else : (j : ℕ) (u : View) → j ≢ 0 → get_elem? (view_with true all_parts [] [] ∷ []) j ≡ some u → KnowsTruly [] 0 0 j u
 none_else zero u other e = absurd (other refl)
 none_else (suc j) u other e = absurd (some-ne-none u (sym e))
 
@@ -190,7 +190,7 @@ begins = record {
   rest = refl;
   once = λ position. grind (arith, nat_tests);
   whole = refl;
-  passes = every_set (KnowsRight [] 0 0) (view_with true all_parts [] [] ∷ []) 0 (view_with true all_parts [] []) (record { knows_put = λ _. (refl, refl); from_put = All-nil _; before = All-nil _; idle = λ _. refl })
+  passes = every_set (KnowsTruly [] 0 0) (view_with true all_parts [] [] ∷ []) 0 (view_with true all_parts [] []) (record { knows_put = λ _. (refl, refl); from_put = All-nil _; before = All-nil _; idle = λ _. refl })
       (λ j u other e. none_else j u other e);
 }
 
@@ -205,9 +205,9 @@ forks port v owner part items views h at =
       once = λ position. (let s = sum_set (hits position) views port v (kept v) at in let o = h.once position in let p = sum_by_push (hits position) (set views port (kept v)) lent in omega arith);
       whole = (let s = sum_set parts views port v (kept v) at in let o = h.whole in let p = sum_by_push parts (set views port (kept v)) lent in omega arith);
       passes = λ j u e. ⊎_elim
-          (every_set (KnowsRight h.put h.front h.seat) views port (kept v) (record { knows_put = mine.knows_put; from_put = mine.from_put; before = mine.before; idle = λ none. absurd (omega arith) })
+          (every_set (KnowsTruly h.put h.front h.seat) views port (kept v) (record { knows_put = mine.knows_put; from_put = mine.from_put; before = mine.before; idle = λ none. absurd (omega arith) })
           (λ i x other g. h.passes i x g) j u)
-          (λ (is : lent ≡ u). subst (KnowsRight h.put h.front h.seat j) is (record { knows_put = λ o. absurd (true≢false (sym o)); from_put = All-nil _; before = All-nil _; idle = λ _. refl }))
+          (λ (is : lent ≡ u). subst (KnowsTruly h.put h.front h.seat j) is (record { knows_put = λ o. absurd (true≢false (sym o)); from_put = All-nil _; before = All-nil _; idle = λ _. refl }))
           (at_snoc (set views port (kept v)) lent u j e);
     }
 
@@ -225,8 +225,8 @@ merges port v other u part items views h at two at' =
       once = λ position. (let a = sum_set (hits position) views port v (both v u) at in let b = sum_set (hits position) vs other u spent at' in let o = h.once position in
           let p = sum_by-append (is_at position) v.took u.took in omega arith);
       whole = (let a = sum_set parts views port v (both v u) at in let b = sum_set parts vs other u spent at' in let o = h.whole in omega arith);
-      passes = every_set (KnowsRight h.put h.front h.seat) vs other spent (record { knows_put = λ o. absurd (true≢false (sym o)); from_put = All-nil _; before = All-nil _; idle = λ _. refl })
-          (λ j y apart e. every_set (KnowsRight h.put h.front h.seat) views port (both v u)
+      passes = every_set (KnowsTruly h.put h.front h.seat) vs other spent (record { knows_put = λ o. absurd (true≢false (sym o)); from_put = All-nil _; before = All-nil _; idle = λ _. refl })
+          (λ j y apart e. every_set (KnowsTruly h.put h.front h.seat) views port (both v u)
           (record { knows_put = mine.knows_put; from_put = All-append (λ (t : Taken). slice_get h.put t.at ≡ Some t.readiness) v.took u.took mine.from_put theirs.from_put; before = All-append (λ (t : Taken). t.at < h.front) v.took u.took mine.before theirs.before; idle = λ none. absurd (omega arith) })
           (λ i x _ g. h.passes i x g) j y e);
     }

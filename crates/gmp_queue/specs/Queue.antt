@@ -35,7 +35,7 @@ abbrev pub AreBefore : ℕ → List Taken → Type 0
 AreBefore front took = All (λ (t : Taken). t.at < front) took
 
 -- what a pass knows is so: the one owner knows all that was put, and what a pass took is what was put there
-pub record KnowsRight (put : List Readiness) (front seat port : ℕ) (v : View) : Type 0 where
+pub record KnowsTruly (put : List Readiness) (front seat port : ℕ) (v : View) : Type 0 where
   pub knows_put : v.owner ≡ true → (port ≡ seat) × (v.put ≡ put)
   pub from_put : AreFrom put v.took
   pub before : AreBefore front v.took
@@ -50,7 +50,7 @@ pub record IsQueue (items : List Readiness) (views : List View) : Type 0 where
   pub rest : items ≡ drop front put
   pub once : (position : ℕ) → sum_by (λ (v : View). times_at position v.took) views ≡ once_below position front
   pub whole : sum_by (λ (v : View). v.parts) views ≡ all_parts
-  pub passes : (port : ℕ) (v : View) → get_elem? views port ≡ some v → KnowsRight put front seat port v
+  pub passes : (port : ℕ) (v : View) → get_elem? views port ≡ some v → KnowsTruly put front seat port v
 
 -- a push: what it put went last
 abbrev pub PutLast : View → List Readiness → View → Type 0

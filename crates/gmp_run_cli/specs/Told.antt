@@ -7,7 +7,7 @@ use Rattle.gmp_base.specs.declared.refusal.Refusal.TheVariants as refusal
 use Rattle.gmp_trace.specs.Summary.{summary_text}
 use Rattle.gmp_trace.specs.Text.{Content, end_of, text}
 use Rattle.gmp_trace.specs.declared.trace.End.{End}
-use Rattle.gmp_worker.specs.Audit.{IsAudited, IsMismatch}
+use Rattle.gmp_worker.specs.Audit.{AgreesWithLogs, IsMismatch}
 use Rattle.gmp_worker.specs.declared.auditing.Mismatch.{Mismatch}
 use Rattle.gmp_run.specs.declared.ending.Report.{Report}
 use Rattle.gmp_words.specs.declared.said.Said.{Said}
@@ -26,7 +26,7 @@ IsPrinted false x old new = Appends old new (summary_text x)
 
 -- each machine's logs say how many of the entries are its own
 abbrev pub AllAgree : {T : Type 0} → Report T → Type 0
-AllAgree r = (m : ℕ) → m < 2 ^ 8 → IsAudited r.history.items r.logs.items m
+AllAgree r = (m : ℕ) → m < 2 ^ 8 → AgreesWithLogs r.history.items r.logs.items m
 
 -- m is the least machine whose logs don't
 abbrev pub IsLeast : {T : Type 0} → Report T → MNo → Type 0

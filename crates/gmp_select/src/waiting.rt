@@ -15,7 +15,7 @@ use gmp_seq::{Kind, Offers, Transfer, channel_of};
 /// Whether each case names nil or a channel that was made.
 pub fn none_missing(channels: &Channels, cases: &Cases) -> bool
     ensures made { result ≡ none_missing channels.now.channels cases.now }
-    ensures few { length cases.now ≤ 8 }
+    ensures eight { length cases.now ≤ 8 }
 {
     cases
         .as_slice()

@@ -234,8 +234,8 @@ fn body<W: Watch>(
 
 /// The trace whose text the bytes are, or the first bad line.
 ///
-/// It goes over the bytes once, and takes memory for the entries, the capacities, the words of one line and that line written anew. `OutOfMemory` comes only where
-/// memory was refused.
+/// It goes over the bytes once, and takes memory for the entries, the capacities, the words of one line and that line written anew.
+/// `OutOfMemory` comes only where memory was refused.
 pub fn read(alloc: Global, bytes: &[u8]) -> Result<Trace, Bad>
     ensures found { IfOk result (λ x. HasText (content x) × (bytes.now ≡ text (content x))) }
     ensures only { (x : Content) → HasText x → bytes.now ≡ text x → MatchResult result (λ y. content y ≡ x) (λ bad. bad.why ≡ Why.OutOfMemory) }

@@ -7,7 +7,7 @@ use Rattle.std.specs.List.{All, sum}
 use Rattle.gmp_seq.specs.declared.call.Entry.{Entry}
 use Rattle.gmp_worker.specs.declared.auditing.PassLog.{PassLog}
 use Rattle.gmp_worker.specs.declared.auditing.Tally.{Tally}
-use Rattle.gmp_worker.specs.Audit.{IsAudited, entries_of, logged_of, tally_of}
+use Rattle.gmp_worker.specs.Audit.{AgreesWithLogs, entries_of, logged_of, tally_of}
 use Rattle.gmp_worker.proofs.Tallies.{few_entries}
 
 -- each is n
@@ -41,7 +41,7 @@ module _ (history : List Entry) (logs : List PassLog) (m : ℕ) (t : Tally) (is 
   below : entries_of history m < 18446744073709551615
   below = omega (arith, few_entries history m, few)
 
-  pub agree : t.said ≡ t.found → (t.found ≡ 0) ⊎ (t.logs ≡ 1) → IsAudited history logs m
+  pub agree : t.said ≡ t.found → (t.found ≡ 0) ⊎ (t.logs ≡ 1) → AgreesWithLogs history logs m
   agree same one = by (subst (λ (u : Tally). (u.found ≡ 0) ⊎ (u.logs ≡ 1)) is one) where
     capped : min (sum (logged_of logs m)) 18446744073709551615 ≡ entries_of history m
     capped = subst (λ (u : Tally). u.said ≡ u.found) is same
@@ -49,11 +49,11 @@ module _ (history : List Entry) (logs : List PassLog) (m : ℕ) (t : Tally) (is 
     sums : sum (logged_of logs m) ≡ entries_of history m
     sums = omega (arith, capped, below)
 
-    by : (entries_of history m ≡ 0) ⊎ (length (logged_of logs m) ≡ 1) → IsAudited history logs m
+    by : (entries_of history m ≡ 0) ⊎ (length (logged_of logs m) ≡ 1) → AgreesWithLogs history logs m
     by (inl none) = record { one = λ some. (let no : ⊥ = omega (arith, none, some) in absurd no); each = subst (λ (n : ℕ). AllAre n (logged_of logs m)) (sym none) (no_calls (logged_of logs m) (sums ∙ none)) }
     by (inr one) = record { one = λ some. one; each = one_sum (logged_of logs m) (entries_of history m) one sums }
 
-  pub agreed : IsAudited history logs m → (t.said ≡ t.found) × ((t.found ≡ 0) ⊎ (t.logs ≡ 1))
+  pub agreed : AgreesWithLogs history logs m → (t.said ≡ t.found) × ((t.found ≡ 0) ⊎ (t.logs ≡ 1))
   agreed agrees = subst (λ (u : Tally). (u.said ≡ u.found) × ((u.found ≡ 0) ⊎ (u.logs ≡ 1))) (sym is) (by (cases_eq (entries_of history m) 0)) where
     by : (entries_of history m ≡ 0) ⊎ (entries_of history m ≡ 0 → ⊥) → (min (sum (logged_of logs m)) 18446744073709551615 ≡ entries_of history m) × ((entries_of history m ≡ 0) ⊎ (length (logged_of logs m) ≡ 1))
     by (inl none) =

@@ -18,14 +18,14 @@ abbrev pub said_of : List PassLog → ℕ → ℕ
 said_of logs m = min (sum (logged_of logs m)) 18446744073709551615
 
 -- a machine that has entries has one log, and each of its logs says how many they are
-pub record IsAudited (history : List Entry) (logs : List PassLog) (m : ℕ) : Type 0 where
+pub record AgreesWithLogs (history : List Entry) (logs : List PassLog) (m : ℕ) : Type 0 where
   pub one : 0 < entries_of history m → length (logged_of logs m) ≡ 1
   pub each : All (λ (calls : ℕ). calls ≡ entries_of history m) (logged_of logs m)
 
 -- the least machine that disagrees, with what its logs say together and how many entries it has
 pub record IsMismatch (history : List Entry) (logs : List PassLog) (e : Mismatch) : Type 0 where
-  pub disagrees : IsAudited history logs e.m.0 → ⊥
-  pub least : (m : ℕ) → m < e.m.0 → IsAudited history logs m
+  pub disagrees : AgreesWithLogs history logs e.m.0 → ⊥
+  pub least : (m : ℕ) → m < e.m.0 → AgreesWithLogs history logs m
   pub said : e.said ≡ said_of logs e.m.0
   pub found : e.found ≡ entries_of history e.m.0
 

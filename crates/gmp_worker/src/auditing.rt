@@ -1,6 +1,6 @@
 //! Whether machines made the calls of a history.
 ghost use Rattle.std.specs.Prelude.{◌≡◌, ◌↔◌, ◌⊎◌, ℕ, ◌+◌, ◌<◌, ◌^◌, IsTrue, OnOk, IfErr, length, slice_index_or};
-ghost use Rattle.gmp_worker.specs.Audit.{IsAudited, IsMismatch, no_tally, tally_of};
+ghost use Rattle.gmp_worker.specs.Audit.{AgreesWithLogs, IsMismatch, no_tally, tally_of};
 
 use gmp_base::MNo;
 use gmp_seq::Entry;
@@ -39,7 +39,7 @@ struct Tally {
 /// Whether each machine that has entries has one log, and each log says how many entries its machine has; else the least machine for which
 /// that fails. In time linear in the entries and the logs, and without memory.
 pub fn audit(history: &[Entry], logs: &[PassLog]) -> Result<(), Mismatch>
-    ensures ok { OnOk result ((m : ℕ) → m < 2 ^ 8 → IsAudited history.now logs.now m) }
+    ensures ok { OnOk result ((m : ℕ) → m < 2 ^ 8 → AgreesWithLogs history.now logs.now m) }
     ensures err { IfErr result (λ e. IsMismatch history.now logs.now e) }
 {
     let tallies = tallied(history, logs);

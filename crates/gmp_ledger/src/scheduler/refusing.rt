@@ -77,7 +77,9 @@ impl Scheduler {
     fn is_anothers(&self, m: MNo, values: &Handed) -> bool
         ensures { result ≡ is_anothers (scheduler_state self.now) m values.now }
     {
-        values.held.is_some_and(|(_, g)| !self.goroutines.runs(m, g))
+        values
+            .held
+            .is_some_and(|(_, g)| !self.goroutines.runs(m, g))
             || values.called.is_some_and(|(_, g)| !self.calls_for(m, g))
             || values.proc.is_some_and(|(_, p)| !self.machines.holds(m, p))
     }

@@ -1,5 +1,5 @@
 use Rattle.std.proofs.Common.{◌≡◌, ap, ◌∙◌, arith}
-use Rattle.gmp_chan.specs.Kept.{ring_end, ring_of}
+use Rattle.gmp_chan.specs.Kept.{queue_end, queue_in}
 use Rattle.gmp_chan.specs.Slots.{in_order}
 use Rattle.gmp_chan.proofs.Counted.{room_for}
 use Rattle.gmp_chan.proofs.Kept.{one_more, put_in}
@@ -18,7 +18,7 @@ returns-clause-kept c =
     let s = c.args.self.now in
     let e = c.insert_reserved-key.ensures in
     let w = c.args.w in
-    let queue : c.ring_end.result ≡ ring_of w = c.ring_end.ensures ∙ ap (ring_end w.offer.channel) c.direction.ensures in
+    let queue : c.queue_end.result ≡ queue_in w = c.queue_end.ensures ∙ ap (queue_end w.offer.channel) c.direction.ensures in
     let base = c.capacity-base.ensures.value in
     rw (e.capacity, c.link_last.ensures.next, c.link_last.ensures.prev, c.link_last-2.ensures.next, c.link_last-2.ensures.prev)
     (put_in s.records.slots s.records.capacity s.queues.next.items s.queues.prev.items s.chains.next.items s.chains.prev.items s.bodies s.channels c.requires.kept
