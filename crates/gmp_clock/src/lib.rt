@@ -1,6 +1,9 @@
 //! A clock for machines in threads.
 #![tactic(auto)]
 
+use crossbeam_utils::sync::Parker;
+use gmp_run::MOST_REST;
+use std::sync::Wait;
 use std::thread::sleep;
 use std::time::{Clock, Duration, Instant};
 
@@ -21,7 +24,7 @@ impl<'a, T: Clock> Since<'a, T> {
     }
 }
 
-impl<T: Clock> gmp_run::Clock for Since<'_, T> {
+impl<T: Clock + Wait> gmp_run::Clock for Since<'_, T> {
     fn now(&self) -> u64 {
         match self.start.map(|start| start.elapsed(self.rt)) {
             Some(Ok(passed)) => u64::try_from(passed.as_nanos()).unwrap_or(u64::MAX),
@@ -31,5 +34,13 @@ impl<T: Clock> gmp_run::Clock for Since<'_, T> {
 
     fn rest(&self, most: u64) {
         sleep(self.rt, Duration::from_nanos(most));
+    }
+
+    fn wait(&self, parker: &Parker, most: u64) {
+        if self.start.is_some() {
+            parker.park_timeout(self.rt, Duration::from_nanos(most));
+        } else {
+            self.rest(most.min(MOST_REST));
+        }
     }
 }

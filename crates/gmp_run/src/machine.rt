@@ -6,14 +6,29 @@ ghost use Rattle.gmp_worker.specs.Local.{IsOfBodyOrClock};
 ghost use Rattle.gmp_run.specs.Counts.{calls_in};
 
 use crate::desk::RunLedger;
+use crate::outside::Clock;
+use crossbeam_utils::Backoff;
 use crossbeam_utils::sync::Parker;
-use gmp_base::{MNo, Pass};
+use gmp_base::{MNo, PNo, Pass};
 use gmp_driver::Driver;
 use gmp_queue::{Owner, Thief};
 use gmp_queue_turn::queue_turn;
 use gmp_worker::{Boxed, PassLog, local_turn};
 use rand_pcg::Lcg64Xsh32;
+use std::hint::spin_loop;
 use std::sync::ledger::Share;
+
+/// How often a thief looks whether a queue still has something, before it steals.
+const MOST_LOOKS: u32 = 80;
+
+/// How often a hunter looks at all queues before it steals from whom it may: at first it spins between two looks, and then it rests. It
+/// never yields its thread: beside threads of others that would be a wait of milliseconds.
+const MOST_SPINS: u32 = 7;
+
+const MOST_RESTS: u32 = 3;
+
+/// How long a hunter rests between two looks, in nanoseconds.
+const REST: u64 = 20_000;
 
 /// A machine's driver with its pass, its thieves of all queues, its generator and its parker, beside its share of the calls.
 pub(crate) struct Machine<T, L: RunLedger> {
@@ -69,6 +84,54 @@ impl<T: Drop, L: RunLedger> Machine<T, L> {
         } = self;
         let (_, m, calls, _) = driver.into_pass().open();
         (PassLog { m, calls }, share)
+    }
+
+    /// Whether this queue has something, and still has after a while. What its owner is about to run isn't there so long.
+    fn keeps(&self, victim: usize) -> bool {
+        let Some(thief) = self.thieves.get(victim) else {
+            return false;
+        };
+        for _ in 0..MOST_LOOKS {
+            if thief.hint() == 0 {
+                return false;
+            }
+            spin_loop();
+        }
+        true
+    }
+
+    /// Whether some queue keeps what it has.
+    fn some_keeps(&self) -> bool {
+        for victim in 0..self.thieves.len() {
+            if self.keeps(victim) {
+                return true;
+            }
+        }
+        false
+    }
+
+    /// Waits until some queue keeps what it has, at most a while. As long as it hunts, nobody is woken to hunt.
+    pub fn lie_in_wait<C: Clock>(&self, clock: &C) {
+        let pause = Backoff::new();
+        for _ in 0..MOST_SPINS {
+            if self.some_keeps() {
+                return;
+            }
+            pause.spin();
+        }
+        for _ in 0..MOST_RESTS {
+            if self.some_keeps() {
+                return;
+            }
+            clock.rest(REST);
+        }
+    }
+
+    /// Leaves the victim's owner some time to take the ticket that it is about to run. Once a ticket is stolen, more are at once.
+    pub fn leave_to_owner(&self, victim: PNo) {
+        if !self.driver.has_to_claim() {
+            let _ = self.keeps(usize::from(victim.0));
+        }
     }
 
     /// Makes the act on a queue that the driver names next.

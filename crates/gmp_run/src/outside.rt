@@ -1,5 +1,6 @@
 //! What a run is handed: a clock, and a gate that each act passes.
 
+use crossbeam_utils::sync::Parker;
 use gmp_base::MNo;
 use gmp_driver::Act;
 
@@ -15,11 +16,30 @@ pub trait Clock {
     /// Rests for at most so many nanoseconds.
     fn rest(&self, most: u64)
         requires { most ≤ 10000000 };
+
+    /// Waits for at most so many nanoseconds, or until this machine is called, which the parker is told. It may come back at any time. A
+    /// clock that knows no parker rests: its machine hears of a call at the end of the rest.
+    fn wait(&self, parker: &Parker, most: u64) {
+        let _ = parker;
+        self.rest(most.min(MOST_REST));
+    }
 }
 
 /// Told of each act before it is made, with no lock held. It may hold the machine up.
 pub trait Gate {
     fn before(&self, m: MNo, act: &Act);
+
+    /// Whether it holds nobody up, whatever the act. Then acts may be made of which it isn't told, several under one hold of the lock.
+    fn is_open(&self) -> bool {
+        false
+    }
+
+    /// Whether machine m is let in, asked before its thread is started. One that isn't is left out, as where its thread can't be started.
+    /// Machine 0, which runs on the calling thread, is let in unasked.
+    fn admits(&self, m: MNo) -> bool {
+        let _ = m;
+        true
+    }
 }
 
 /// The gate that holds nobody up.
@@ -28,4 +48,8 @@ pub struct Open;
 
 impl Gate for Open {
     fn before(&self, _m: MNo, _act: &Act) {}
+
+    fn is_open(&self) -> bool {
+        true
+    }
 }

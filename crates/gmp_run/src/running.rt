@@ -4,11 +4,12 @@ ghost use Rattle.gmp_run.specs.Counts.{all_calls};
 ghost use Rattle.gmp_run.specs.Reports.{AreLogs, IsRunReport, WhyUnrun};
 ghost use Rattle.gmp_run.specs.Seats.{IsUnused};
 
-use crate::desk::{Desk, RunLedger};
+use crate::desk::{Bench, Desk, RunLedger};
 use crate::ending::{Report, Unrun, finish, hang};
 use crate::machine::{Machine, Runs};
 use crate::outside::{Clock, Gate};
 use crate::room::Room;
+use crate::shared::Shared;
 use crate::working::{Seat, worker};
 use crossbeam_utils::sync::{Parker, Unparker};
 use gmp_base::{MNo, Pass, Refusal};
@@ -85,7 +86,7 @@ fn run_as<L: RunLedger + Send + Sync, R: Threads + Wait + Sync, C: Clock + Sync,
         let why = Refusal::BadLimits;
         return Err(Unrun { why, bodies });
     }
-    let Ok(room) = Room::<Boxed, L>::of(alloc, run, limits) else {
+    let Ok(room) = Room::<Boxed, L>::of(alloc, run, limits, count) else {
         let why = Refusal::OutOfMemory;
         return Err(Unrun { why, bodies });
     };
@@ -96,6 +97,7 @@ fn run_as<L: RunLedger + Send + Sync, R: Threads + Wait + Sync, C: Clock + Sync,
         unparkers,
         seats,
         logs,
+        watch,
     } = room;
     let (book, passes) = match Book::open(alloc, run, limits, capacities, bodies, owners) {
         Ok(opened) => opened,
@@ -115,11 +117,12 @@ fn run_as<L: RunLedger + Send + Sync, R: Threads + Wait + Sync, C: Clock + Sync,
         limits.procs,
         random,
     );
-    let desk = Mutex::new(Desk { book, tally });
+    let desk = Desk { book, tally };
+    let shared = Shared::new(Bench { desk, watch });
     let unparkers = unparkers.as_slice();
-    let started = in_threads(rt, alloc, &desk, unparkers, clock, gate, seats.as_slice());
+    let started = in_threads(rt, alloc, &shared, unparkers, clock, gate, seats.as_slice());
     let logs = gather(rt, &mut all, logs, seats, limits.machines);
-    let desk = desk.into_inner();
+    let Bench { desk, .. } = shared.into_inner();
     Ok(finish(rt, desk, all, logs, started, limits, capacities, count))
 }
 
@@ -160,7 +163,18 @@ fn seat_all<L: RunLedger>(
     seats
 }
 
-/// Runs the machines in the seats, and says how many were started. One whose thread can't be started is left in its seat.
+/// Whether the gate lets the machine in the seat in.
+fn is_admitted<T: Runs, L: RunLedger, R: Wait, G: Gate>(
+    rt: &R,
+    gate: &G,
+    seat: &Seat<T, L>,
+) -> bool {
+    let m = seat.lock(rt).as_ref().map(|machine| machine.m);
+    m.is_some_and(|m| gate.admits(m))
+}
+
+/// Runs the machines in the seats, and says how many were started. One that isn't let in, or whose thread can't be started, is left in its
+/// seat.
 fn in_threads<
     T: Runs + Send,
     L: RunLedger + Send + Sync,
@@ -170,7 +184,7 @@ fn in_threads<
 >(
     rt: &R,
     alloc: Global,
-    desk: &Mutex<Desk<T, L>>,
+    shared: &Shared<T, L>,
     unparkers: &[Unparker],
     clock: &C,
     gate: &G,
@@ -182,14 +196,15 @@ fn in_threads<
     thread::scope(thread::scope_env(), rt, |scope| {
         let mut started = 1u8;
         for seat in others {
-            if scope
-                .spawn(move || worker(rt, alloc, desk, unparkers, clock, gate, seat))
-                .is_ok()
+            if is_admitted(rt, gate, seat)
+                && scope
+                    .spawn(move || worker(rt, alloc, shared, unparkers, clock, gate, seat))
+                    .is_ok()
             {
                 started = started.saturating_add(1);
             }
         }
-        worker(rt, alloc, desk, unparkers, clock, gate, first);
+        worker(rt, alloc, shared, unparkers, clock, gate, first);
         started
     })
 }

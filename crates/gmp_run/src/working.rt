@@ -2,18 +2,24 @@
 
 ghost use Rattle.std.specs.Prelude.{◌≡◌};
 ghost use Rattle.gmp_driver.specs.Table.{next_act};
+ghost use Rattle.gmp_turn.specs.Turns.{HasMemory};
 ghost use Rattle.gmp_worker.specs.Turn.{IsAtBook};
 
-use crate::desk::{Desk, RunLedger};
+use crate::desk::RunLedger;
 use crate::machine::{Machine, Runs};
-use crate::outside::{Clock, Gate, MOST_REST};
-use crossbeam_utils::Backoff;
+use crate::outside::{Clock, Gate};
+use crate::set::Set;
+use crate::shared::Shared;
+use crate::watch::Stay;
 use crossbeam_utils::sync::Unparker;
-use gmp_base::MNo;
 use gmp_driver::Act;
+use gmp_ledger::memory_for;
 use gmp_seq::Call;
 use std::alloc::Global;
 use std::sync::{Mutex, Wait};
+
+/// The most acts after the first that are made under one hold of the lock.
+const MOST_MORE: u32 = 8;
 
 /// Where a machine waits for its thread, and where its thread leaves it.
 pub(crate) type Seat<T, L> = Mutex<Option<Machine<T, L>>>;
@@ -21,46 +27,110 @@ pub(crate) type Seat<T, L> = Mutex<Option<Machine<T, L>>>;
 /// What the threads of a run share.
 #[derive(Drop)]
 pub(crate) struct Floor<'a, T, C, G, L: RunLedger> {
-    pub desk: &'a Mutex<Desk<T, L>>,
+    pub shared: &'a Shared<T, L>,
     pub unparkers: &'a [Unparker],
     pub clock: &'a C,
     pub gate: &'a G,
 }
 
 impl<'a, T: Drop, C: Clock, G: Gate, L: RunLedger> Floor<'a, T, C, G, L> {
-    fn wake(&self, m: MNo) {
-        if let Some(unparker) = self.unparkers.get(usize::from(m.0)) {
-            unparker.unpark();
-        }
-    }
-
-    fn wake_all(&self) {
+    /// Wakes these machines.
+    fn wake(&self, machines: Set) {
+        let mut left = machines;
         for unparker in self.unparkers {
-            unparker.unpark();
-        }
-    }
-
-    /// Makes the act at the book under the lock, and then wakes the machine that its answer names.
-    fn at_book<R: Wait>(&self, rt: &R, alloc: Global, machine: &mut Machine<T, L>)
-        requires { IsAtBook (next_act machine.old.driver) }
-    {
-        let woken = self.desk.lock(rt).turn(alloc, machine);
-        if let Some(m) = woken {
-            self.wake(m);
-        }
-    }
-
-    /// Waits until the clock shows the deadline or the run is over, and answers the clock's last reading.
-    fn mind<R: Wait>(&self, rt: &R, deadline: u64) -> u64 {
-        let mut now = self.clock.now();
-        for _ in rt.forever() {
-            if now >= deadline || self.desk.lock(rt).book.outcome().is_some() {
+            if left.is_empty() {
                 break;
             }
-            self.clock.rest((deadline - now).min(MOST_REST));
+            if left.take_first() {
+                unparker.unpark();
+            }
+        }
+    }
+
+    /// Makes the act at the book under the lock, and then wakes whom its answer names and who is called.
+    ///
+    /// Where the gate is open, the acts that follow are made under the same hold, as long as they are at the book or at the own queue and
+    /// nobody is to be woken. A make alone is handed memory.
+    fn at_book<R: Wait>(
+        &self,
+        rt: &R,
+        alloc: Global,
+        memory: Option<Global>,
+        machine: &mut Machine<T, L>,
+    )
+        requires act { IsAtBook (next_act machine.old.driver) }
+        requires memory { HasMemory (next_act machine.old.driver) memory }
+    {
+        let more = if self.gate.is_open() { MOST_MORE } else { 0 };
+        let mut bench = self.shared.take(rt);
+        let mut woken = bench.turn(memory, machine);
+        for _ in 0..more {
+            if woken.is_some() {
+                break;
+            }
+            match machine.driver.next() {
+                // At Rest a machine waits first, and no thread waits with the lock.
+                Act::Call(Call::Woken) => break,
+                Act::Call(call) => woken = bench.turn(memory_for(&call, alloc), machine),
+                Act::Pop | Act::Push => machine.queue_turn(),
+                _ => break,
+            }
+        }
+        let told = bench.settle(machine.m);
+        self.shared.let_go(bench);
+        self.wake(woken.map_or(told, |m| told.with(m)));
+    }
+
+    /// Waits until the machine is called, the deadline that it watches is reached or the run is over, and answers the clock's last reading.
+    /// Any reading is fine at Mind.
+    fn mind<R: Wait>(&self, rt: &R, machine: &Machine<T, L>) -> u64 {
+        let mut now = self.clock.now();
+        for _ in rt.forever() {
+            let mut bench = self.shared.take(rt);
+            let stay = bench.watch.stays(machine.m, now);
+            self.shared.let_go(bench);
+            match stay {
+                Stay::Back => break,
+                Stay::Waits => machine.parker.park(rt),
+                Stay::Watches(most) => self.clock.wait(&machine.parker, most),
+            }
             now = self.clock.now();
         }
         now
+    }
+}
+
+impl<'a, T: Runs, C: Clock, G: Gate, L: RunLedger> Floor<'a, T, C, G, L> {
+    /// Makes the act that the machine's driver names next.
+    fn make<R: Wait>(&self, rt: &R, alloc: Global, machine: &mut Machine<T, L>, act: Act)
+        requires { act ≡ next_act machine.old.driver }
+    {
+        match act {
+            Act::Nothing => {}
+            Act::Call(call) => {
+                // At Rest, until another machine wakes this one.
+                if matches!(call, Call::Woken) {
+                    machine.parker.park(rt);
+                }
+                self.at_book(rt, alloc, memory_for(&call, alloc), machine);
+            }
+            Act::Surrender(_) => self.at_book(rt, alloc, None, machine),
+            Act::Pop | Act::Push => machine.queue_turn(),
+            Act::Hunt => {
+                machine.lie_in_wait(self.clock);
+                machine.queue_turn();
+            }
+            Act::Steal(victim) => {
+                machine.leave_to_owner(victim);
+                machine.queue_turn();
+            }
+            Act::Resume | Act::Block => machine.local_turn(0),
+            Act::Clock(None) => machine.local_turn(self.clock.now()),
+            Act::Clock(Some(_)) => {
+                let now = self.mind(rt, machine);
+                machine.local_turn(now);
+            }
+        }
     }
 }
 
@@ -68,14 +138,14 @@ impl<'a, T: Drop, C: Clock, G: Gate, L: RunLedger> Floor<'a, T, C, G, L> {
 pub(crate) fn worker<T: Runs, R: Wait, C: Clock, G: Gate, L: RunLedger>(
     rt: &R,
     alloc: Global,
-    desk: &Mutex<Desk<T, L>>,
+    shared: &Shared<T, L>,
     unparkers: &[Unparker],
     clock: &C,
     gate: &G,
     seat: &Seat<T, L>,
 ) {
     let floor = Floor {
-        desk,
+        shared,
         unparkers,
         clock,
         gate,
@@ -83,42 +153,19 @@ pub(crate) fn worker<T: Runs, R: Wait, C: Clock, G: Gate, L: RunLedger>(
     let Some(mut machine) = seat.lock(rt).take() else {
         return;
     };
-    let spinning = Backoff::new();
     let mut over = false;
     for _ in rt.forever() {
         let act = machine.driver.next();
         // Where the run is over, surrenders come next, and then nothing.
         if !over && matches!(act, Act::Surrender(_) | Act::Nothing) {
             over = true;
-            floor.wake_all();
+            floor.wake(Set::all());
         }
         floor.gate.before(machine.m, &act);
-        match act {
-            Act::Nothing => break,
-            Act::Call(call) => {
-                // At Rest, until another machine wakes this one.
-                if matches!(call, Call::Woken) {
-                    machine.parker.park(rt);
-                }
-                floor.at_book(rt, alloc, &mut machine);
-            }
-            Act::Surrender(_) => floor.at_book(rt, alloc, &mut machine),
-            Act::Pop | Act::Push => machine.queue_turn(),
-            Act::Hunt | Act::Steal(_) => {
-                machine.queue_turn();
-                if machine.driver.has_to_claim() {
-                    spinning.reset();
-                } else {
-                    spinning.snooze();
-                }
-            }
-            Act::Resume | Act::Block => machine.local_turn(0),
-            Act::Clock(None) => machine.local_turn(floor.clock.now()),
-            Act::Clock(Some(deadline)) => {
-                let now = floor.mind(rt, deadline);
-                machine.local_turn(now);
-            }
+        if matches!(act, Act::Nothing) {
+            break;
         }
+        floor.make(rt, alloc, &mut machine, act);
     }
     if let Some(other) = seat.lock(rt).replace(machine) {
         other.into_log();

@@ -1,0 +1,340 @@
+//! Who waits at Mind, which of them watches the least deadline, and who is to be called.
+//!
+//! A machine at Mind waits on its parker. All that is said here of who waits, looks, runs and is ready lies under the lock, and is kept by
+//! the entries of the history alone. No clause speaks of it: that no wake-up is lost rests on the order of these steps.
+//!
+//! 1. **Mark.** An act at the book is noted in the hold that makes it (`note_last`). So a machine is marked as one that waits from the very
+//!    entry on that tells it to mind a deadline, before it reads the clock or its thread waits. A ticket that is given out counts as ready
+//!    from its machine's next entry on: by then it is in a queue or on the shelf, and whoever is called for it finds it.
+//! 2. **Settle: the call.** At the end of the same hold (`settle`) one of those that wait is called, where more goroutines are ready than
+//!    machines look for them, and more processors are idle than machines that look have none. Its mark goes, and it counts as one that
+//!    looks from then on, so that it isn't called twice.
+//! 3. **Settle: the watch.** Then, where the least deadline that stands is before the watcher's limit, or nobody watches, the watcher is
+//!    told the new limit; where there is none, one of those that wait becomes the watcher, rather the machine itself. This is put off while
+//!    more machines look than goroutines are ready: each of them comes to another act at the book, as it claims, takes a processor, gives
+//!    it up or parks, and that hold is settled again.
+//! 4. **Let go, and then unpark.** Whoever was called or told is unparked once the lock is free. Its token stays in its parker until it is
+//!    taken, so an unpark that comes before the wait ends it, and one that comes late costs a look, or one `woken -> false`.
+//! 5. **Look, and then wait.** A machine at Mind reads the clock, looks under the lock whether it still waits, whether it watches and until
+//!    when (`stays`), lets the lock go and waits: with no limit, or as the watcher until the limit. After each wait it looks again. It
+//!    comes back where its mark is gone, where the run is over, and as the watcher at its limit; then it counts as one that looks, and
+//!    the watch is free.
+//! 6. **Act.** Whoever comes back ticks, takes a processor and looks for work by its table, and 1 to 4 hold of each of its acts at the book.
+//! 7. **The end.** The hold that brings the outcome has all unparked, and whoever looks from then on comes back.
+//!
+//! A mark that changes after step 5's look changes in a later hold, whose unpark (step 4) comes after that look: so its token is still there
+//! for the wait. Calls end, since each takes a mark away, and only `park -> mind D` brings one, after the machine has looked everywhere.
+
+use crate::set::Set;
+use gmp_base::{GNo, MNo};
+use gmp_seq::{Call, Entry, Reply};
+use std::alloc::{AllocError, Global};
+
+/// What a machine at Mind does.
+#[derive(Drop)]
+pub(crate) enum Stay {
+    /// It comes back.
+    Back,
+    /// It waits until it is called.
+    Waits,
+    /// It waits for at most so many nanoseconds.
+    Watches(u64),
+}
+
+/// Whether the first of two deadlines is before the second, or alone.
+fn is_before(a: Option<u64>, b: Option<u64>) -> bool {
+    match (a, b) {
+        (Some(a), Some(b)) => a < b,
+        (Some(_), None) => true,
+        (None, _) => false,
+    }
+}
+
+/// Until when a goroutine waits by this call.
+fn deadline_in(call: &Call) -> Option<u64> {
+    match call {
+        Call::Sleep(until) => Some(*until),
+        Call::Select(_, _, until) => *until,
+        _ => None,
+    }
+}
+
+#[derive(Drop)]
+pub(crate) struct Watch {
+    /// How many entries are noted.
+    noted: usize,
+    procs: u32,
+    /// How many processors are held by nobody.
+    idle: u32,
+    /// How many goroutines are ready, and on the shelf, in a queue or in the hand of one who looks.
+    ready: u64,
+    /// Who is neither parked nor at Mind, and has no goroutine.
+    looks: Set,
+    /// Who runs a goroutine, with a processor.
+    runs: Set,
+    /// Who is at Mind, and isn't called.
+    waits: Set,
+    /// Who has been given a ticket, which isn't stored yet.
+    owes: Set,
+    /// The goroutine that each machine claimed last.
+    claimed: [u16; 64],
+    /// The deadline of each goroutine, some of which may be waited for no more.
+    deadlines: Vec<Option<u64>>,
+    /// None of them is before this one.
+    least: Option<u64>,
+    watcher: Option<MNo>,
+    /// The watcher's limit.
+    until: Option<u64>,
+    over: bool,
+}
+
+impl Watch {
+    pub fn new(alloc: Global, procs: u8, bodies: usize) -> Result<Self, AllocError> {
+        let mut deadlines = Vec::with_capacity(alloc, bodies)?;
+        for _ in 0..bodies {
+            deadlines.push(None)?;
+        }
+        Ok(Watch {
+            noted: 0,
+            procs: u32::from(procs),
+            idle: u32::from(procs),
+            ready: 1,
+            looks: Set::none(),
+            runs: Set::none(),
+            waits: Set::none(),
+            owes: Set::none(),
+            claimed: [0; 64],
+            deadlines,
+            least: None,
+            watcher: None,
+            until: None,
+            over: false,
+        })
+    }
+
+    fn goes(&mut self, m: MNo) {
+        self.looks = self.looks.without(m);
+        self.runs = self.runs.without(m);
+        self.waits = self.waits.without(m);
+        if self.watcher == Some(m) {
+            self.watcher = None;
+            self.until = None;
+        }
+    }
+
+    fn look(&mut self, m: MNo) {
+        self.goes(m);
+        self.looks = self.looks.with(m);
+    }
+
+    fn run(&mut self, m: MNo) {
+        self.goes(m);
+        self.runs = self.runs.with(m);
+    }
+
+    fn more_ready(&mut self, count: u64) {
+        self.ready = self.ready.saturating_add(count);
+    }
+
+    fn acquired(&mut self) {
+        self.idle = self.idle.saturating_sub(1);
+    }
+
+    fn released(&mut self) {
+        self.idle = self.idle.saturating_add(1);
+    }
+
+    /// The deadline of the goroutine that m claimed last.
+    fn deadline(&mut self, m: MNo) -> Option<&mut Option<u64>> {
+        let g = *self.claimed.get(usize::from(m.0))?;
+        self.deadlines.get_mut(usize::from(g))
+    }
+
+    fn claim(&mut self, m: MNo, g: GNo) {
+        self.ready = self.ready.saturating_sub(1);
+        self.run(m);
+        if let Some(claimed) = self.claimed.get_mut(usize::from(m.0)) {
+            *claimed = g.0;
+        }
+        if let Some(deadline) = self.deadline(m) {
+            *deadline = None;
+        }
+    }
+
+    fn sleeps(&mut self, m: MNo, until: Option<u64>) {
+        if is_before(until, self.least) {
+            self.least = until;
+        }
+        if let Some(deadline) = self.deadline(m) {
+            *deadline = until;
+        }
+    }
+
+    fn ticked(&mut self, moment: u64) {
+        if is_before(Some(moment), self.least) {
+            return;
+        }
+        let mut least = None;
+        for deadline in self.deadlines.iter_mut() {
+            if !is_before(Some(moment), *deadline) {
+                *deadline = None;
+            } else if is_before(*deadline, least) {
+                least = *deadline;
+            }
+        }
+        self.least = least;
+    }
+
+    /// Notes the last entry, unless it is noted.
+    pub fn note_last(&mut self, history: &[Entry]) {
+        if history.len() > self.noted {
+            self.noted = history.len();
+            if let Some(entry) = history.last() {
+                self.note(entry);
+            }
+        }
+    }
+
+    /// Notes an entry: where machines stand, and how many processors are idle.
+    fn note(&mut self, entry: &Entry) {
+        let m = entry.m;
+        if self.owes.has(m) {
+            self.owes = self.owes.without(m);
+            self.more_ready(1);
+        }
+        match entry.reply {
+            Reply::Proc(_) => {
+                self.look(m);
+                self.acquired();
+            }
+            Reply::Nothing if matches!(entry.call, Call::Acquire) => self.look(m),
+            Reply::Runs(_) => {
+                self.run(m);
+                self.acquired();
+            }
+            Reply::Idle(_) => self.released(),
+            Reply::Entered(_, woken) => {
+                self.goes(m);
+                self.released();
+                if let Some(n) = woken {
+                    self.look(n);
+                }
+            }
+            Reply::Wakes(n) => self.look(n),
+            Reply::Parked => self.goes(m),
+            Reply::Mind(until) => {
+                self.goes(m);
+                self.waits = self.waits.with(m);
+                self.least = Some(until);
+            }
+            _ => self.note_goroutines(entry),
+        }
+    }
+
+    /// Notes an entry: which goroutines are ready, which run, and what they wait for.
+    fn note_goroutines(&mut self, entry: &Entry) {
+        let m = entry.m;
+        match (entry.reply, &entry.call) {
+            (Reply::Held, Call::Claim(ticket)) => self.claim(m, ticket.g),
+            (Reply::Ticket(_), Call::Take) => {}
+            (Reply::Closed(count), _) => self.more_ready(count),
+            (Reply::Woke(count), Call::Tick(moment)) => {
+                self.more_ready(count);
+                self.ticked(*moment);
+            }
+            (Reply::Shelved(_), _) => {
+                self.look(m);
+                self.more_ready(1);
+            }
+            (Reply::Waits, call) => {
+                self.look(m);
+                self.sleeps(m, deadline_in(call));
+            }
+            (Reply::Dead, _) => self.look(m),
+            (reply, _) => {
+                if reply.ticket().is_some() {
+                    self.owes = self.owes.with(m);
+                }
+            }
+        }
+    }
+
+    /// Whether nobody who looks is going to find out more goroutines than are ready.
+    fn is_taken_up(&self) -> bool {
+        u64::from(self.looks.count()) <= self.ready
+    }
+
+    /// How many look and have no processor.
+    fn bare(&self) -> u32 {
+        let held = self.procs.saturating_sub(self.idle);
+        let with = held.saturating_sub(self.runs.count());
+        self.looks.count().saturating_sub(with)
+    }
+
+    /// Whether there is work for one more.
+    fn wants(&self) -> bool {
+        self.ready > u64::from(self.looks.count()) && self.idle > self.bare()
+    }
+
+    /// The least of those who wait, and rather one who doesn't watch.
+    fn waiting(&self) -> Option<MNo> {
+        let others = match self.watcher {
+            Some(m) => self.waits.without(m),
+            None => self.waits,
+        };
+        others.least().or(self.waits.least())
+    }
+
+    /// Calls one, where there is work for it, and sees to it that somebody watches: whom to unpark once m has let the lock go.
+    pub fn settle(&mut self, m: MNo) -> Set {
+        let mut told = Set::none();
+        if self.waits.is_empty() {
+            return told;
+        }
+        if self.wants() {
+            if let Some(n) = self.waiting() {
+                self.look(n);
+                told = told.with(n);
+            }
+        }
+        if is_before(self.least, self.until) && self.is_taken_up() {
+            let n = match self.watcher {
+                Some(n) => Some(n),
+                None if self.waits.has(m) => Some(m),
+                None => self.waiting(),
+            };
+            if let Some(n) = n {
+                self.watcher = Some(n);
+                self.until = self.least;
+                told = told.with(n);
+            }
+        }
+        told.without(m)
+    }
+
+    /// What m does at this moment, which was told to mind a deadline.
+    pub fn stays(&mut self, m: MNo, now: u64) -> Stay {
+        if self.over || !self.waits.has(m) {
+            return Stay::Back;
+        }
+        match self.until {
+            Some(until) if self.watcher == Some(m) => {
+                if now < until {
+                    return Stay::Watches(until.saturating_sub(now));
+                }
+                self.look(m);
+                Stay::Back
+            }
+            _ => Stay::Waits,
+        }
+    }
+
+    /// The run is over, and whoever waits comes back: all are to be unparked, the first time.
+    pub fn end(&mut self) -> Set {
+        if self.over {
+            return Set::none();
+        }
+        self.over = true;
+        Set::all()
+    }
+}
