@@ -2,8 +2,10 @@
 ghost use Rattle.std.specs.Prelude.{◌≡◌, ◌<◌, ℕ, [], IsSome, Some, length, slice_index_or};
 ghost use Rattle.gmp_base.specs.declared.number.PNo.{PNo};
 ghost use Rattle.gmp_base.specs.declared.number.Readiness.{Readiness};
+ghost use Rattle.gmp_driver.specs.Fits.{IsDriver};
 ghost use Rattle.gmp_driver.specs.Seen.{own_processor};
 ghost use Rattle.gmp_driver.specs.Table.{next_act};
+ghost use Rattle.gmp_turn.specs.Turns.{HasMemory};
 ghost use Rattle.gmp_core.specs.Doing.{Does};
 
 use crate::copies::{copied_ask, copied_call};
@@ -13,7 +15,7 @@ use gmp_acts::{Choice, Made};
 use gmp_base::MNo;
 use gmp_book::Book;
 use gmp_driver::{Act, Driver, Told};
-use gmp_turn::{surrender, turn};
+use gmp_turn::{memory_at, surrender, turn};
 use std::alloc::Global;
 
 /// Makes the act that machine m's program names next, and answers the call that the book accepted, if it was one.
@@ -34,10 +36,37 @@ pub(crate) fn act<T>(
     ensures does { Does (next_act driver.old) m choice.now (record { machine = driver.old; book = book.old; rings = queues.old })
         (record { machine = driver.new; book = book.new; rings = queues.new }) result }
 {
-    match driver.next() {
+    let next = driver.next();
+    let memory = memory_at(&next, alloc);
+    act_next(memory, next, driver, book, queues, m, choice)
+}
+
+/// The same of the act that the program names. A make alone is handed memory.
+#[inline(always)]
+fn act_next<T>(
+    memory: Option<Global>,
+    next: Act,
+    driver: &mut Driver<T, ()>,
+    book: &mut Book<T, ()>,
+    queues: &mut Queues,
+    m: MNo,
+    choice: &Choice,
+) -> Option<Made>
+    requires next { next ≡ next_act driver.old }
+    requires memory { HasMemory next memory }
+    // `Driver::next`, which names the act, says so.
+    requires keeps { IsDriver driver.old }
+    requires pass { IsSome driver.old.pass }
+    requires run { driver.old.run ≡ book.old.log.run }
+    requires room { (r : Readiness) → driver.old.hand.to_store ≡ Some r → (p : PNo) → own_processor driver.old.hand ≡ Some p
+        → (p.0 < length queues.old.queues) × (length (slice_index_or queues.old.queues p.0 []) < queues.old.room) }
+    ensures does { Does next m choice.now (record { machine = driver.old; book = book.old; rings = queues.old })
+        (record { machine = driver.new; book = book.new; rings = queues.new }) result }
+{
+    match next {
         Act::Call(call) => {
             let asked = copied_call(&call);
-            let reply = turn(alloc, driver, book, call, choice.word).ok()?;
+            let reply = turn(memory, driver, book, call, choice.word).ok()?;
             return Some(Made {
                 m,
                 call: asked,

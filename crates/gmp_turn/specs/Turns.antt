@@ -1,5 +1,6 @@
 -- One book call of a machine: what it hands the call, and what becomes of both.
-use Rattle.std.specs.Prelude.{◌≡◌, ℕ, Bool, true, Option, Some, None, is_some, if◌then◌else◌, Result, Ok, Err, IfOk, IfErr}
+use Rattle.std.specs.declared.alloc.Global.{Global}
+use Rattle.std.specs.Prelude.{◌≡◌, ℕ, Bool, true, Option, Some, None, IsNone, is_some, if◌then◌else◌, Result, Ok, Err, IfOk, IfErr}
 use Rattle.gmp_base.specs.declared.number.MNo.{MNo}
 use Rattle.gmp_base.specs.declared.pass.Pass.{Pass}
 use Rattle.gmp_base.specs.declared.refusal.Refusal.{Refusal}
@@ -9,13 +10,14 @@ use Rattle.gmp_seq.specs.declared.call.Reply.{Reply}
 use Rattle.gmp_seq.specs.declared.call.Reply.TheVariants as reply
 use Rattle.gmp_ledger.specs.Done.{IsDoneTo}
 use Rattle.gmp_seq.specs.Needs.{WantsMemory}
-use Rattle.gmp_ledger.specs.Grants.{Chooses}
+use Rattle.gmp_ledger.specs.Grants.{Chooses, NeedsMemory}
 use Rattle.gmp_ledger.specs.Handed.{goroutine_in, processor_in}
 use Rattle.gmp_ledger.specs.Log.{Records}
 use Rattle.gmp_ledger.specs.Refusals.{Says, refusal_in, refusal_of}
 use Rattle.gmp_book.specs.declared.values.Values.{Values}
 use Rattle.gmp_book.specs.Book.{BookContents}
 use Rattle.gmp_book.specs.Hands.{Hands, handed_of, values_back}
+use Rattle.gmp_driver.specs.declared.act.Act.{Act}
 use Rattle.gmp_driver.specs.declared.act.Act.TheVariants as act
 use Rattle.gmp_driver.specs.declared.act.Told.{Told}
 use Rattle.gmp_driver.specs.declared.act.Told.TheVariants as told
@@ -25,6 +27,13 @@ use Rattle.gmp_driver.specs.Loads.{load_of, parts_of}
 use Rattle.gmp_driver.specs.Machine.{Machine}
 use Rattle.gmp_driver.specs.Registers.{first_of, joined, unused, used}
 use Rattle.gmp_driver.specs.Table.{after}
+
+-- Memory
+
+-- a make is handed memory, and no other act is
+abbrev pub HasMemory : Act → Option Global → Type 0
+HasMemory (act.Call asked) memory = NeedsMemory asked memory
+HasMemory _ memory = IsNone memory
 
 -- Values between a machine and the book
 

@@ -3,26 +3,29 @@ ghost use Rattle.std.specs.Prelude.{◌≡◌, IsSome};
 ghost use Rattle.gmp_driver.specs.declared.act.Act.TheVariants as act;
 ghost use Rattle.gmp_driver.specs.Fits.{SuitsPlace};
 ghost use Rattle.gmp_driver.specs.Table.{next_act};
-ghost use Rattle.gmp_turn.specs.Turns.{Turns, woken_in};
+ghost use Rattle.gmp_ledger.specs.Grants.{NeedsMemory};
+ghost use Rattle.gmp_turn.specs.Turns.{HasMemory, Turns, woken_in};
 
 use crate::passing::{is_to_claim, load_back, opened, told_to_driver};
 use gmp_base::{MNo, Refusal};
 use gmp_book::Book;
-use gmp_driver::Driver;
+use gmp_driver::{Act, Driver};
 use gmp_ledger::memory_for;
 use gmp_seq::{Call, Reply};
 use std::alloc::Global;
 
 /// Makes the call that the driver's machine names next, with the pass and the values that it hands out, and tells the driver the reply, or
-/// why the book refused it. A make takes memory, and `word` chooses among the cases of a select. The driver holds what its new place says.
+/// why the book refused it. A make is handed memory, and `word` chooses among the cases of a select. The driver holds what its new place
+/// says.
 pub fn turn<T, Q>(
-    alloc: Global,
+    memory: Option<Global>,
     driver: &mut Driver<T, Q>,
     book: &mut Book<T, Q>,
     call: Call,
     word: u64,
 ) -> Result<Reply, Refusal>
     requires act { next_act driver.old ≡ act.Call call }
+    requires memory { NeedsMemory call memory }
     requires pass { IsSome driver.old.pass }
     requires run { driver.old.run ≡ book.old.log.run }
     // `Driver::next`, which names the call, says so.
@@ -36,10 +39,20 @@ pub fn turn<T, Q>(
     let to_claim = is_to_claim(&call, &load);
     let (pass, values) = opened(load);
     let mut pass = pass;
-    let memory = memory_for(&call, alloc);
     let (values, result) = book.call(memory, &mut pass, call, values, word);
     driver.got(load_back(pass, to_claim, values), told_to_driver(result));
     result
+}
+
+/// The memory that an act is handed: a make has some, and no other act any.
+#[inline(always)]
+pub fn memory_at(act: &Act, alloc: Global) -> Option<Global>
+    ensures { HasMemory act.now result }
+{
+    match act {
+        Act::Call(call) => memory_for(call, alloc),
+        _ => None,
+    }
 }
 
 /// The machine that a reply names to wake.

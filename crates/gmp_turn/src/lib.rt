@@ -6,5 +6,5 @@ pub mod laws;
 mod passing;
 mod surrendering;
 
-pub use calling::{turn, woken};
+pub use calling::{memory_at, turn, woken};
 pub use surrendering::surrender;

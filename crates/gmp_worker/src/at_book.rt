@@ -1,6 +1,7 @@
 //! One turn of a machine at the book.
 ghost use Rattle.std.specs.Prelude.{◌≡◌, None, IsSome};
 ghost use Rattle.gmp_driver.specs.Table.{next_act};
+ghost use Rattle.gmp_turn.specs.Turns.{HasMemory};
 ghost use Rattle.gmp_worker.specs.Turn.{IsAtBook, TakesTurn, drawn};
 
 use gmp_base::MNo;
@@ -13,14 +14,15 @@ use rand_pcg::Lcg64Xsh32;
 use std::alloc::Global;
 
 /// Makes the call of the book or the surrender that the driver's machine names next, and answers the machine to wake. A select draws its
-/// word, and a make takes memory.
+/// word, and a make is handed memory.
 pub fn turn<T, Q>(
-    alloc: Global,
+    memory: Option<Global>,
     driver: &mut Driver<T, Q>,
     book: &mut Book<T, Q>,
     random: &mut Lcg64Xsh32,
 ) -> Option<MNo>
     requires act { IsAtBook (next_act driver.old) }
+    requires memory { HasMemory (next_act driver.old) memory }
     requires pass { IsSome driver.old.pass }
     requires run { driver.old.run ≡ book.old.log.run }
     ensures turn { TakesTurn (next_act driver.old) driver.old book.old random.old result driver.new book.new random.new }
@@ -30,7 +32,7 @@ pub fn turn<T, Q>(
     match driver.next() {
         Act::Call(call) => {
             let word = draw_for(&call, random);
-            match gmp_turn::turn(alloc, driver, book, call, word) {
+            match gmp_turn::turn(memory, driver, book, call, word) {
                 Ok(reply) => woken(reply),
                 Err(_) => None,
             }

@@ -1,5 +1,5 @@
 use Rattle.std.proofs.Common.{rules}
-use Rattle.gmp_core.proofs.acting.act.Goals as goal
+use Rattle.gmp_core.proofs.acting.act_next.Goals as goal
 
 pub returns : goal.returns
 returns g c = search rules
