@@ -8,7 +8,7 @@ use gmp_check_cli::check;
 use gmp_cli::step;
 use gmp_clock::Since;
 use gmp_run_cli::run;
-use gmp_words::{Ended, Task, settings};
+use gmp_words::{Ended, Task, arguments, settings};
 use std::io::{self, IsTerminal};
 use std::process::ExitCode;
 
@@ -25,9 +25,12 @@ fn finish(rt: &(impl Print + Eprint), ended: &Ended) -> ExitCode {
     ExitCode::from(ended.status)
 }
 
-fn main(rt: HostRuntime) -> io::Result<ExitCode> {
+fn main(rt: HostRuntime) -> ExitCode {
     let alloc = rt.alloc();
-    let words: Vec<String> = std::env::args(&rt)?.collect(alloc)?;
+    let words = match arguments(&rt) {
+        Ok(words) => words,
+        Err(ended) => return finish(&rt, &ended),
+    };
     let ended = match settings(alloc, &words) {
         Err(ended) => ended,
         Ok(settings) => match settings.task {
@@ -48,5 +51,5 @@ fn main(rt: HostRuntime) -> io::Result<ExitCode> {
             ),
         },
     };
-    Ok(finish(&rt, &ended))
+    finish(&rt, &ended)
 }

@@ -2,6 +2,7 @@
 #![tactic(auto)]
 
 mod ended;
+mod host;
 mod numeric;
 mod options;
 mod parsing;
@@ -10,6 +11,7 @@ mod said;
 mod words;
 
 pub use ended::Ended;
+pub use host::arguments;
 pub use options::{Settings, Task};
 pub use parsing::script;
 pub use reading::{MAX_SCRIPT, MAX_TRACE, input};

@@ -77,6 +77,42 @@ const RANDOM: Numeric = Numeric {
     default: 0,
 };
 
+/// The program's version, and that of the traces that it writes and reads.
+const VERSION: &str = "0.1.0 (gmp-trace 1)";
+
+const STATUSES: &str =
+    "A script, or for check a trace, comes on standard input; what is asked for goes to standard output.
+
+Exit status:
+  0   main ended, the trace is right, or help was asked for
+  1   the input is bad or can't be read, or the output can't be written
+  2   all goroutines are asleep: deadlock
+  3   the history is full
+  4   step: no end yet, by --acts or since all machines are parked
+  5   memory was refused
+  6   run: a machine's count of its calls is not that of the history
+  64  the command line or the limits are bad
+
+Try: gmp step < examples/hello.gmp | gmp check";
+
+const STEP_INPUT: &str = "The script comes on standard input, and the trace goes to standard output.
+
+Exit status: 0 main ended, 2 deadlock, 3 the history is full, 4 no end yet (--acts, or all machines are parked),
+1 bad script, input or output, 5 out of memory, 64 bad command line or limits.";
+
+const RUN_INPUT: &str =
+    "The script comes on standard input, and the summary or the trace goes to standard output.
+The lines `clock` of a script are passed over: a moment is in nanoseconds since the program's start.
+
+Exit status: 0 main ended, 2 deadlock, 3 the history is full, 1 bad script, input or output, 5 out of memory,
+6 a count of calls that is not that of the history, 64 bad command line or limits.";
+
+const CHECK_INPUT: &str =
+    "The trace comes on standard input, and its summary goes to standard output.
+
+Exit status: 0 the trace is right, 1 it is not (the first bad line is named), or bad input or output,
+5 out of memory, 64 bad command line.";
+
 /// The command with these options.
 fn with<'a>(
     alloc: Global,
@@ -91,9 +127,9 @@ fn with<'a>(
 }
 
 fn step<'a>(alloc: Global) -> Result<Command<'a>, AllocError> {
-    let step = Command::new(alloc, "step").about(
-        "Runs a script in one thread and prints the trace",
-    );
+    let step = Command::new(alloc, "step")
+        .about("Runs a script in one thread and prints the trace")
+        .after_help(STEP_INPUT);
     with(
         alloc,
         step,
@@ -102,9 +138,9 @@ fn step<'a>(alloc: Global) -> Result<Command<'a>, AllocError> {
 }
 
 fn run<'a>(alloc: Global) -> Result<Command<'a>, AllocError> {
-    let run = Command::new(alloc, "run").about(
-        "Runs a script by machines in threads and prints the summary",
-    );
+    let run = Command::new(alloc, "run")
+        .about("Runs a script by machines in threads and prints the summary")
+        .after_help(RUN_INPUT);
     with(alloc, run, &[PROCS, MACHINES, CHANNELS, ENTRIES, RANDOM])?.arg(trace(alloc))
 }
 
@@ -116,21 +152,28 @@ fn trace<'a>(alloc: Global) -> Arg<'a> {
 }
 
 fn check<'a>(alloc: Global) -> Command<'a> {
-    Command::new(alloc, "check").about("Reads a trace, checks it and prints its summary")
+    Command::new(alloc, "check")
+        .about("Reads a trace, checks it and prints its summary")
+        .after_help(CHECK_INPUT)
 }
 
 fn command<'a>(alloc: Global) -> Result<Command<'a>, AllocError> {
     Command::new(alloc, "gmp")
+        .version(VERSION)
+        .about(
+            "Runs scripts of goroutines, logs each call of their scheduler, and checks such logs",
+        )
+        .after_help(STATUSES)
         .subcommand_required(true)
         .subcommand(step(alloc)?)?
         .subcommand(run(alloc)?)?
         .subcommand(check(alloc))
 }
 
-/// What a refusal by `clap` ends with: its own text, and for help that was asked for status 0.
+/// What a refusal by `clap` ends with: its own text, and for help or the version that was asked for status 0.
 fn refused(alloc: Global, error: &clap::Error) -> Ended
     ensures said { is_of_words result.said ≡ true }
-    ensures help { kind_of error.now ≡ ErrorKind.DisplayHelp → (result.status ≡ 0) ⊎ (result.said ≡ Said.OutOfMemory) }
+    ensures help { (kind_of error.now ≡ ErrorKind.DisplayHelp) ⊎ (kind_of error.now ≡ ErrorKind.DisplayVersion) → (result.status ≡ 0) ⊎ (result.said ≡ Said.OutOfMemory) }
     ensures refusal { kind_of error.now ≢ ErrorKind.DisplayHelp → kind_of error.now ≢ ErrorKind.DisplayVersion
         → (result.status ≡ 64) ⊎ (result.said ≡ Said.OutOfMemory) }
 {
@@ -185,7 +228,7 @@ fn settings_of(task: Task, words: &[String]) -> Option<Settings>
 
 /// What the command line says, the program's name first.
 ///
-/// A line that `clap` refuses ends with status 64 and its text, help that was asked for with 0.
+/// A line that `clap` refuses ends with status 64 and its text, help or the version that was asked for with 0.
 pub fn settings<'a>(alloc: Global, words: &'a [String]) -> Result<Settings, Ended>
     ensures ok { IfOk result (AreSaid string_bytes words.now) }
     ensures err { IfErr result (λ e. is_of_words e.said ≡ true) }
