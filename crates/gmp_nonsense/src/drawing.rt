@@ -71,7 +71,7 @@ impl Draw {
         self.below(n) == 0
     }
 
-    fn word(&mut self) -> u64 {
+    pub fn word(&mut self) -> u64 {
         self.generator.next_u64()
     }
 
@@ -199,12 +199,23 @@ impl Draw {
         }
     }
 
-    /// What an act leaves open.
-    pub fn choice(&mut self) -> Choice {
+    /// Counts a choice, and begins a spell where it is time.
+    fn go_on(&mut self) {
         self.choices = self.choices.wrapping_add(1);
         if self.choices % SPELL == 0 {
             self.begin_spell();
         }
+    }
+
+    /// What a body asks next.
+    pub fn next_ask(&mut self) -> Ask {
+        self.go_on();
+        self.ask()
+    }
+
+    /// What an act leaves open.
+    pub fn choice(&mut self) -> Choice {
+        self.go_on();
         Choice {
             ask: self.ask(),
             number: self.word(),

@@ -9,7 +9,7 @@ use gmp_acts::Made;
 use gmp_base::MNo;
 use gmp_check::outcome_of;
 use gmp_core::Core;
-use gmp_seq::{Entry, Outcome};
+use gmp_seq::{Entry, Limits, Outcome};
 use std::alloc::Global;
 
 /// Whether the call that a machine made, and its reply, are those of the entry.
@@ -30,10 +30,15 @@ fn compare(own: &[Made], history: &[Entry]) -> Result<(), Short> {
 }
 
 /// The plain scheduler accepts each entry, and has this outcome.
-fn replay(alloc: Global, history: &[Entry], outcome: Outcome) -> Result<(), Short>
-    ensures { OnOk result (EndsWith LIMITS BODIES CAPACITIES history.now (Some outcome)) }
+pub fn replay(
+    alloc: Global,
+    limits: Limits,
+    history: &[Entry],
+    outcome: Outcome,
+) -> Result<(), Short>
+    ensures { OnOk result (EndsWith limits BODIES CAPACITIES history.now (Some outcome)) }
 {
-    match outcome_of(alloc, LIMITS, BODIES, &CAPACITIES, history) {
+    match outcome_of(alloc, limits, BODIES, &CAPACITIES, history) {
         Ok(replayed) if replayed == Some(outcome) => Ok(()),
         Ok(_) => Err(Short::OtherOutcome),
         Err(why) => Err(Short::Replay(why)),
@@ -48,7 +53,7 @@ pub fn judged(alloc: Global, core: &Core<()>) -> Result<Outcome, Short>
         return Err(Short::Endless);
     };
     compare(core.own(), core.history())?;
-    replay(alloc, core.history(), outcome)?;
+    replay(alloc, LIMITS, core.history(), outcome)?;
     for m in 0..MACHINES as u8 {
         if !core.done(MNo(m)) {
             return Err(Short::NotDone(m));

@@ -15,6 +15,9 @@ pub const LIMITS: Limits = Limits {
     entries: 5_000,
 };
 
+/// The processors and machines of runs in threads.
+pub const SIZES: [(u8, u8); 3] = [(1, 1), (3, 5), (32, 64)];
+
 /// How many bodies there are.
 pub const BODIES: u16 = 64;
 

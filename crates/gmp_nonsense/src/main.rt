@@ -1,7 +1,10 @@
-//! `gmp_nonsense FIRST N` plays the N runs of the seeds from FIRST on: acts of drawn machines of the core with drawn choices, each run
-//! judged by the plain scheduler (docs/TESTS.md).
+//! `gmp_nonsense FIRST N T [TAKEN]` tries what takes memory, and plays the N runs of the seeds from FIRST on: acts of drawn machines of the
+//! core with drawn choices, each run judged by the plain scheduler (docs/TESTS.md). Then T runs of drawn bodies in threads by each of three
+//! sizes.
 //!
-//! It prints how many runs ended in which way, or the first run that falls short, and how.
+//! With TAKEN memory is taken and given back so often before, so that of a program whose Nth allocation is refused another one is.
+//!
+//! It prints how many runs ended in which way, or the first run that falls short, and how. How a run by several machines ends varies.
 #![tactic(auto)]
 
 mod calls;
@@ -9,20 +12,54 @@ mod drawing;
 mod judging;
 mod limits;
 mod playing;
+mod refused;
 mod short;
 mod tally;
+mod threads;
 mod watching;
 
+use crate::limits::SIZES;
 use crate::playing::played;
+use crate::refused::all_tried;
+use crate::short::Short;
 use crate::tally::Tally;
+use crate::threads::threaded;
 use anyhow::{Context, Result};
+use std::alloc::Global;
 use std::env;
 use std::process::ExitCode;
+use std::sync::Wait;
+use std::thread::Threads;
 
 /// The number that a word is.
 fn number(word: Option<String>) -> Result<u64> {
-    let word = word.context("gmp_nonsense FIRST N")?;
+    let word = word.context("gmp_nonsense FIRST N T [TAKEN]")?;
     Ok(word.as_str().parse()?)
+}
+
+/// Takes memory so often, and gives it back.
+fn take(alloc: Global, times: u64) -> Result<()> {
+    for _ in 0..times {
+        let _taken = Box::new(alloc, 0u8)?;
+    }
+    Ok(())
+}
+
+/// Runs drawn bodies in threads, of each seed by this size; where a run falls short, its seed.
+fn all_threaded<R: Threads + Wait + AllocGlobal + Sync>(
+    rt: &R,
+    first: u64,
+    count: u64,
+    size: (u8, u8),
+) -> Result<Tally, (u64, Short)> {
+    let mut tally = Tally::default();
+    for seed in first..first.saturating_add(count) {
+        match threaded(rt, rt.alloc(), seed, size) {
+            Ok(ended) => tally.add(ended),
+            Err(short) => return Err((seed, short)),
+        }
+    }
+    Ok(tally)
 }
 
 fn main(rt: HostRuntime) -> Result<ExitCode> {
@@ -30,6 +67,14 @@ fn main(rt: HostRuntime) -> Result<ExitCode> {
     let _program = words.next();
     let first = number(words.next())?;
     let count = number(words.next())?;
+    let threads = number(words.next())?;
+    if let Some(taken) = words.next() {
+        take(rt.alloc(), number(Some(taken))?)?;
+    }
+    if let Err(short) = all_tried(&rt, rt.alloc()) {
+        println!(rt; "want of memory: {short}")?;
+        return Ok(ExitCode::FAILURE);
+    }
     let mut tally = Tally::default();
     for seed in first..first.saturating_add(count) {
         match played(rt.alloc(), seed) {
@@ -41,5 +86,16 @@ fn main(rt: HostRuntime) -> Result<ExitCode> {
         }
     }
     println!(rt; "{tally}")?;
+    for (procs, machines) in SIZES {
+        match all_threaded(&rt, first, threads, (procs, machines)) {
+            // By one machine a run ends the same way each time.
+            Ok(tally) if machines == 1 => println!(rt; "by 1 and 1 in threads, {tally}")?,
+            Ok(_) => println!(rt; "by {procs} and {machines} in threads, {threads} runs")?,
+            Err((seed, short)) => {
+                println!(rt; "run {seed} by {procs} and {machines} in threads: {short}")?;
+                return Ok(ExitCode::FAILURE);
+            }
+        }
+    }
     Ok(ExitCode::SUCCESS)
 }

@@ -28,6 +28,16 @@ pub enum Short {
     OtherOutcome,
     #[error("machine {0} is not done")]
     NotDone(u8),
+    #[error("it is not begun: {0}")]
+    NotBegun(Refusal),
+    #[error("{0} of {1} machines were started")]
+    NotStarted(u8, u8),
+    #[error("the log of machine {0} disagrees with the history")]
+    OtherLog(u8),
+    #[error("its limits or its bodies are others")]
+    OtherOpening,
+    #[error("{0}: not as it has to be")]
+    Wrong(&'static str),
     #[error("out of memory")]
     OutOfMemory,
 }

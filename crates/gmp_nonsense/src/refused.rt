@@ -1,0 +1,83 @@
+//! Want of memory: what takes memory gives back all that it was handed where an allocation is refused, and succeeds at the second time.
+//!
+//! Each allocation is refused in turn by `rt try --fail-alloc 1..`, one in a run of the program (docs/TESTS.md).
+
+mod making;
+mod opening;
+mod pushing;
+mod running;
+
+use crate::short::Short;
+use making::Making;
+use opening::{BookOpening, CoreOpening, QueueOpening};
+use pushing::Pushing;
+use running::Running;
+use std::alloc::Global;
+use std::sync::Wait;
+use std::thread::Threads;
+
+/// What became of a trial.
+enum Tried<T> {
+    Done,
+    /// Memory was refused, and this came back.
+    Refused(T),
+    /// This is not as it has to be.
+    Wrong(&'static str),
+}
+
+/// Something that takes memory, with what it is handed.
+trait Trial: Sized {
+    /// What is to be tried.
+    fn new(alloc: Global) -> Result<Self, Short>;
+
+    /// What is not as it was before the try. Some are told that they were refused.
+    fn changed(&mut self, was_refused: bool) -> Option<&'static str>;
+
+    fn tried<R: Threads + Wait + Sync>(self, rt: &R, alloc: Global) -> Tried<Self>;
+
+    /// Lets go of what came back.
+    fn let_go(self);
+}
+
+/// The trial, if it is as it was.
+fn unchanged<T: Trial>(mut trial: T, was_refused: bool) -> Result<T, Short> {
+    match trial.changed(was_refused) {
+        None => Ok(trial),
+        Some(what) => {
+            trial.let_go();
+            Err(Short::Wrong(what))
+        }
+    }
+}
+
+/// One allocation is refused at most, so that the second time is the last.
+fn play<T: Trial, R: Threads + Wait + Sync>(rt: &R, alloc: Global) -> Result<(), Short> {
+    let trial = match T::new(alloc) {
+        Err(Short::OutOfMemory) => T::new(alloc)?,
+        trial => trial?,
+    };
+    let back = match unchanged(trial, false)?.tried(rt, alloc) {
+        Tried::Done => return Ok(()),
+        Tried::Refused(back) => unchanged(back, true)?,
+        Tried::Wrong(what) => return Err(Short::Wrong(what)),
+    };
+    match back.tried(rt, alloc) {
+        Tried::Done => Ok(()),
+        Tried::Refused(back) => {
+            back.let_go();
+            Err(Short::OutOfMemory)
+        }
+        Tried::Wrong(what) => Err(Short::Wrong(what)),
+    }
+}
+
+/// Opens a book, a core and queues, makes channels, pushes onto a queue, and runs bodies in threads.
+pub fn all_tried<R: Threads + Wait + Sync>(rt: &R, alloc: Global) -> Result<(), Short> {
+    play::<BookOpening, R>(rt, alloc)?;
+    play::<CoreOpening, R>(rt, alloc)?;
+    play::<QueueOpening, R>(rt, alloc)?;
+    play::<Making, R>(rt, alloc)?;
+    play::<Pushing, R>(rt, alloc)?;
+    play::<Running<1, 1>, R>(rt, alloc)?;
+    play::<Running<2, 3>, R>(rt, alloc)
+}
