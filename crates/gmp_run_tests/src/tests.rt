@@ -1,5 +1,12 @@
 //! Queues, and machines in threads.
 
 mod at_once;
+mod blocking;
 mod command;
+mod failing;
+mod left_out;
+mod minding;
+mod ordered;
 mod queue;
+mod together;
+mod watching;

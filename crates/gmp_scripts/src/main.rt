@@ -8,6 +8,7 @@ mod edit;
 mod program;
 mod script;
 mod short;
+mod sweep;
 
 use crate::short::Short;
 use std::process::ExitCode;
@@ -17,6 +18,8 @@ use std::{env, io};
 fn is_right(rt: &HostRuntime, name: &str) -> io::Result<bool> {
     let (judged, of) = if name.ends_with(".changes") {
         (changes::judged(rt, name), "texts")
+    } else if name.ends_with(".sweep") {
+        (sweep::judged(rt, name), "limits")
     } else {
         (script::judged(rt, name), "calls")
     };

@@ -35,8 +35,20 @@ fn words_of(alloc: Global, command: &str) -> Result<Vec<String>, AllocError> {
 /// `gmp step` on a script. Its options are those of the first line, where that is a comment that begins with `gmp step`.
 pub fn stepped(alloc: Global, script: &[u8]) -> Result<Ran, AllocError> {
     let words = words_of(alloc, command_of(script))?;
+    step_by(alloc, &words, script)
+}
+
+/// The same with this limit of entries.
+pub fn stepped_within(alloc: Global, script: &[u8], entries: &str) -> Result<Ran, AllocError> {
+    let command = format!(in alloc; "{} --entries {entries}", command_of(script))?;
+    let words = words_of(alloc, command.as_str())?;
+    step_by(alloc, &words, script)
+}
+
+/// What the words of a command line say, on a script.
+fn step_by(alloc: Global, words: &[String], script: &[u8]) -> Result<Ran, AllocError> {
     let mut written = Vec::new(alloc);
-    let ended = match settings(alloc, &words) {
+    let ended = match settings(alloc, words) {
         Ok(settings) => step(alloc, &settings, &mut &script[..], &mut written),
         Err(ended) => ended,
     };

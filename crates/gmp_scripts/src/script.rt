@@ -25,7 +25,7 @@ fn differs(got: &[u8], want: &[u8]) -> Option<usize> {
 }
 
 /// Where two texts differ, this is said of the first line in which they do.
-fn same(alloc: Global, got: &[u8], want: &[u8], said: &str) -> Result<(), Short> {
+pub(crate) fn same(alloc: Global, got: &[u8], want: &[u8], said: &str) -> Result<(), Short> {
     match differs(got, want) {
         None => Ok(()),
         Some(line) => Err(Short::line(alloc, line, said)),
@@ -33,7 +33,7 @@ fn same(alloc: Global, got: &[u8], want: &[u8], said: &str) -> Result<(), Short>
 }
 
 /// The text of the file beside the script that ends like this.
-fn read_beside(rt: &HostRuntime, stem: &str, end: &str) -> io::Result<String> {
+pub(crate) fn read_beside(rt: &HostRuntime, stem: &str, end: &str) -> io::Result<String> {
     let name = format!(in rt.alloc(); "{stem}{end}")?;
     fs::read_to_string(rt, name.as_str())
 }

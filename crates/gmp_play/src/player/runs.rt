@@ -4,7 +4,7 @@ use super::{Desk, Player};
 use crate::hand::Hand;
 use crate::opening::{Line, Opening};
 use crate::short::Short;
-use gmp_base::{Called, Held, MNo, Pass, Proc, Refusal, Woke};
+use gmp_base::{Called, Held, MNo, Pass, Proc, Refusal, Ticket, Woke};
 use gmp_book::{Book, Report};
 use gmp_seq::Outcome;
 use std::alloc::{AllocError, Global};
@@ -38,6 +38,13 @@ fn taken(book: &mut Desk, hand: Hand) -> Result<(), Refusal> {
         if let Err(refused) = book.surrender_called(Called::of(run, g, body)) {
             let (why, called) = refused.open();
             called.open();
+            return Err(why);
+        }
+    }
+    if let Some((run, r)) = hand.ticket {
+        if let Err(refused) = book.surrender_ticket(Ticket::of(run, r.g, r.epoch)) {
+            let (why, ticket) = refused.open();
+            ticket.open();
             return Err(why);
         }
     }

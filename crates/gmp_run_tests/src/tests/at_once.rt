@@ -13,12 +13,12 @@ use std::sync::{Arc, Wait};
 use std::test::*;
 use std::thread::Threads;
 
-const TURNS: u32 = 10_000_000;
+pub(super) const TURNS: u32 = 10_000_000;
 
-type Flag = Arc<AtomicBool, Global>;
+pub(super) type Flag = Arc<AtomicBool, Global>;
 
 /// Whether the flag was set within so many turns.
-fn is_seen(flag: &Flag) -> bool {
+pub(super) fn is_seen(flag: &Flag) -> bool {
     let backoff = Backoff::new();
     for _ in 0..TURNS {
         if flag.load(Ordering::SeqCst) {
@@ -91,7 +91,7 @@ impl Gate for Parked {
 }
 
 /// A clock that stands still.
-pub(crate) struct Stopped;
+pub(super) struct Stopped;
 
 impl Clock for Stopped {
     fn now(&self) -> u64 {
@@ -101,7 +101,7 @@ impl Clock for Stopped {
     fn rest(&self, _most: u64) {}
 }
 
-fn flag(alloc: Global) -> Result<Flag, Fail> {
+pub(super) fn flag(alloc: Global) -> Result<Flag, Fail> {
     Ok(Arc::new(alloc, AtomicBool::new(false))?)
 }
 

@@ -1,6 +1,7 @@
 //! `gmp run`, and `gmp check` on what it writes.
 
 use crate::tests::at_once::Stopped;
+use crate::tests::together::run_together;
 use gmp_base::MNo;
 use gmp_check_cli::check;
 use gmp_run::{Open, Report};
@@ -88,7 +89,7 @@ const ROWS: [Row; 14] = [
 ];
 
 /// The settings of a command line whose words are parted by single spaces.
-fn settings_of(alloc: Global, line: &str) -> Result<Settings, Fail> {
+pub(super) fn settings_of(alloc: Global, line: &str) -> Result<Settings, Fail> {
     let mut words = Vec::new(alloc);
     for word in line.split(' ') {
         words.push(String::from_str(alloc, word)?)?;
@@ -97,7 +98,7 @@ fn settings_of(alloc: Global, line: &str) -> Result<Settings, Fail> {
 }
 
 /// The text with a line feed for each `/`.
-fn lines(alloc: Global, text: &str) -> Result<Vec<u8>, Fail> {
+pub(super) fn lines(alloc: Global, text: &str) -> Result<Vec<u8>, Fail> {
     let mut lines = Vec::new(alloc);
     for byte in text.bytes() {
         lines.push(if byte == b'/' { b'\n' } else { byte })?;
@@ -134,9 +135,15 @@ fn is_written(
 }
 
 /// What `gmp check` says of the trace.
-fn checked(alloc: Global, mut trace: &[u8]) -> Ended {
+pub(super) fn checked(alloc: Global, mut trace: &[u8]) -> Ended {
     let mut summary = Vec::new(alloc);
     check(alloc, &mut trace, &mut summary, &mut ())
+}
+
+/// `gmp check` passes the trace.
+fn passes(rt: &impl Abort, alloc: Global, trace: &[u8], line: &str) {
+    let checked = checked(alloc, trace);
+    assert_eq!(rt; checked.status, 0, "{line}: {checked:?}");
 }
 
 #[test]
@@ -149,16 +156,17 @@ fn what_run_writes_is_right(rt: HostRuntime) -> Result<(), Fail> {
         match wanted {
             Some(wanted) => is_written(&rt, alloc, &mut output, &ended.said, (line, wanted))?,
             None => {
-                let checked = checked(alloc, &output);
-                assert_eq!(rt; checked.status, 0, "{line}: {checked:?}");
+                passes(&rt, alloc, &output, line);
+                let output = run_together(&rt, alloc, line, script, status)?;
+                passes(&rt, alloc, &output, line);
             }
         }
     }
     Ok(())
 }
 
-/// The bodies of the script.
-fn bodies_of(alloc: Global, text: &str) -> Result<Vec<Boxed>, Fail> {
+/// The capacities and the bodies of the script.
+pub(super) fn stock_of(alloc: Global, text: &str) -> Result<(Vec<u32>, Vec<Boxed>), Fail> {
     let input = lines(alloc, text)?;
     let script = script(alloc, &mut input.as_slice())
         .ok()
@@ -167,7 +175,7 @@ fn bodies_of(alloc: Global, text: &str) -> Result<Vec<Boxed>, Fail> {
     for body in script.bodies {
         bodies.push(Box::new(alloc, body)?)?;
     }
-    Ok(bodies)
+    Ok((script.capacities, bodies))
 }
 
 /// The report of a run of machine 0 alone with 7 entries, where each log says so many calls.
@@ -177,8 +185,18 @@ fn report_of<R: Threads + Wait + Sync>(
     limits: Limits,
     calls: &[u64],
 ) -> Result<Report<Boxed>, Fail> {
-    let bodies = bodies_of(alloc, YIELDS)?;
-    let ran = gmp_run::run(rt, alloc, 0, limits, &[], bodies, &Stopped, &Open, 0);
+    let (capacities, bodies) = stock_of(alloc, YIELDS)?;
+    let ran = gmp_run::run(
+        rt,
+        alloc,
+        0,
+        limits,
+        &capacities,
+        bodies,
+        &Stopped,
+        &Open,
+        0,
+    );
     let mut report = ran.ok().ok_or("not run")?;
     report.logs.clear();
     for calls in calls {

@@ -87,6 +87,8 @@ fn bad_lines_are_refused(rt: HostRuntime) -> Result<(), Fail> {
         ("gmp run --help", 0),
         ("gmp", 64),
         ("gmp --help", 0),
+        ("gmp --version", 0),
+        ("gmp step --version", 64),
         ("gmp step --help", 0),
     ] {
         let said = read(rt.alloc(), line)?;

@@ -1,8 +1,8 @@
-//! Want of memory, run with each allocation refused in turn: what is refused gives all back, and succeeds at the second time.
+//! A close, run with each allocation refused in turn: where it is refused it gives the ends back, and succeeds at the second time.
 ghost use Rattle.std.specs.Prelude.{◌≡◌, ◌≤◌, [], ◌∷◌, IfOk, IfSome, vec_capacity};
 ghost use Rattle.gmp_queue.specs.Ends.{AreTheEnds, KeepsOwner, KeepsThief};
 
-use super::{TICKETS, pop_all, queue_of_two, spend, steals, ticket};
+use super::{queue_of_two, spend, steals, ticket};
 use gmp_base::GNo;
 use gmp_queue::{Owner, Thief, close};
 use std::alloc::{AllocError, Global};
@@ -38,20 +38,6 @@ fn put(rt: &impl Abort, owner: &mut Owner, g: u16)
         assert_eq!(rt; (back.run, back.g, back.epoch), (7, GNo(g), 1));
         assert!(rt; owner.push(back).map_err(spend).is_ok());
     }
-}
-
-fn put_all(rt: &impl Abort, owner: &mut Owner) {
-    for g in 0..TICKETS {
-        put(rt, owner, g);
-    }
-}
-
-#[test]
-fn a_refused_push_gives_the_ticket_back(rt: HostRuntime) -> Result<(), Fail> {
-    let (mut owner, _, _) = queue_or_again(rt.alloc()).ok_or("no queue")?;
-    put_all(&rt, &mut owner);
-    pop_all(&rt, &mut owner);
-    Ok(())
 }
 
 /// Puts 20 tickets; the owner takes two of them, and the thief three.

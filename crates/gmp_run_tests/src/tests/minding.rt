@@ -1,0 +1,374 @@
+//! Machines beside a goroutine that is asleep until a moment that never comes: what becomes ready is run and what is due is ticked, though
+//! the machine that could do so minds that moment. Bodies wait for one another, so how long anything takes makes no difference.
+
+use crossbeam_utils::Backoff;
+use crossbeam_utils::sync::Parker;
+use gmp_base::{Ask, Body, CNo, GNo, MNo, Woke};
+use gmp_driver::Act;
+use gmp_run::{Clock, Gate, Report, run};
+use gmp_seq::{Limits, Outcome};
+use gmp_worker::{Boxed, audit};
+use std::alloc::Global;
+use std::process::Abort;
+use std::sync::atomic::{AtomicBool, AtomicU64, Ordering};
+use std::sync::{Arc, Wait};
+use std::test::*;
+use std::thread::{Threads, yield_now};
+use std::time::Duration;
+
+const TURNS: u32 = 10_000_000;
+
+/// The last moment that a clock of these tests shows, and a later one.
+const LAST: u64 = 500;
+
+const FAR: u64 = 1_000;
+
+/// What has happened, counted, and whether somebody waited for it in vain.
+#[derive(Drop)]
+struct Seen {
+    minded: AtomicU64,
+    met: AtomicU64,
+    ran: AtomicU64,
+    late: AtomicBool,
+}
+
+impl Seen {
+    /// Waits until the counter is at least so much.
+    fn awaits(&self, counter: &AtomicU64, least: u64) {
+        let backoff = Backoff::new();
+        for _ in 0..TURNS {
+            if counter.load(Ordering::SeqCst) >= least || self.late.load(Ordering::SeqCst) {
+                return;
+            }
+            backoff.snooze();
+        }
+        self.late.store(true, Ordering::SeqCst);
+    }
+
+    /// Every second one that comes ends the wait of the one before.
+    fn meets(&self) {
+        let before = self.met.fetch_add(1, Ordering::SeqCst);
+        if before % 2 == 0 {
+            self.awaits(&self.met, before.saturating_add(2));
+        }
+    }
+}
+
+/// What a body does when it is resumed: all but `Meet` and `Ran` are what it asks.
+#[derive(Clone, Copy)]
+enum Step {
+    /// Starts this goroutine, and the next each further time.
+    Go(u16),
+    Yield,
+    Sleep(u64),
+    Recv(u16),
+    Close(u16),
+    /// Meets another, and then sends on this channel.
+    Meet(u16),
+    /// A blocking call until a machine minds a deadline.
+    UntilMinded,
+    /// A blocking call until the one ran that says so.
+    UntilRan,
+    /// Says that it ran, and exits.
+    Ran,
+}
+
+/// Steps, each with how often it is made.
+type Steps = &'static [(Step, u16)];
+
+#[derive(Drop)]
+struct Walks {
+    steps: Steps,
+    at: usize,
+    times: u16,
+    seen: Arc<Seen, Global>,
+}
+
+impl Walks {
+    /// The step to make, and how often it was made before.
+    fn next(&mut self) -> Option<(Step, u16)> {
+        let (step, most) = *self.steps.get(self.at)?;
+        let times = self.times;
+        self.times = times.saturating_add(1);
+        if self.times >= most {
+            self.times = 0;
+            self.at = self.at.saturating_add(1);
+        }
+        Some((step, times))
+    }
+}
+
+impl Body for Walks {
+    ghost resumed = { λ _ _ _ _. Unit {0} };
+
+    ghost blocked = { λ _ _ _. Unit {0} };
+
+    fn resume(&mut self, _woke: Woke) -> Ask {
+        let Some((step, times)) = self.next() else {
+            return Ask::Exit;
+        };
+        match step {
+            Step::Go(g) => Ask::Go(GNo(g.saturating_add(times))),
+            Step::Yield => Ask::Yield,
+            Step::Sleep(until) => Ask::Sleep(until),
+            Step::Recv(c) => Ask::Recv(Some(CNo(c))),
+            Step::Close(c) => Ask::Close(Some(CNo(c))),
+            Step::Meet(c) => {
+                self.seen.meets();
+                Ask::Send(Some(CNo(c)), 0)
+            }
+            Step::UntilMinded | Step::UntilRan => Ask::Block,
+            Step::Ran => {
+                self.seen.ran.store(1, Ordering::SeqCst);
+                Ask::Exit
+            }
+        }
+    }
+
+    fn blocking(&mut self) -> u64 {
+        let made = self.steps.get(self.at.saturating_sub(1));
+        match made {
+            Some((Step::UntilMinded, _)) => self.seen.awaits(&self.seen.minded, 1),
+            Some((Step::UntilRan, _)) => self.seen.awaits(&self.seen.ran, 1),
+            _ => {}
+        }
+        0
+    }
+}
+
+/// Sees who minds a deadline.
+#[derive(Drop)]
+struct Sees {
+    seen: Arc<Seen, Global>,
+    open: bool,
+}
+
+impl Gate for Sees {
+    fn before(&self, _m: MNo, act: &Act) {
+        if matches!(act, Act::Clock(Some(_))) {
+            self.seen.minded.store(1, Ordering::SeqCst);
+        }
+    }
+
+    fn is_open(&self) -> bool {
+        self.open
+    }
+}
+
+/// A clock that knows no parker. It goes on by one at each reading.
+#[derive(Drop)]
+struct Counting {
+    next: AtomicU64,
+}
+
+impl Clock for Counting {
+    fn now(&self) -> u64 {
+        self.next.fetch_add(1, Ordering::SeqCst).min(LAST)
+    }
+
+    fn rest(&self, _most: u64) {
+        yield_now();
+    }
+}
+
+/// A clock by which a wait to a moment that comes takes no time, and a wait to one that never comes lasts until the machine is called.
+#[derive(Drop)]
+struct Waiting<'a, R> {
+    rt: &'a R,
+    now: AtomicU64,
+}
+
+impl<R: Wait + std::time::Clock> Clock for Waiting<'_, R> {
+    fn now(&self) -> u64 {
+        self.now.load(Ordering::SeqCst)
+    }
+
+    fn rest(&self, _most: u64) {
+        yield_now();
+    }
+
+    fn wait(&self, parker: &Parker, most: u64) {
+        let until = self.now().saturating_add(most);
+        if until <= LAST {
+            self.now.store(until, Ordering::SeqCst);
+        } else {
+            parker.park_timeout(self.rt, Duration::from_secs(600));
+        }
+    }
+}
+
+/// What is tried, by how many processors and machines, with which channels, and the steps of main and the others, each with how many
+/// goroutines make them.
+type Row = (
+    &'static str,
+    (u8, u8),
+    &'static [u32],
+    &'static [(Steps, u16)],
+);
+
+const SLEEPER: Steps = &[(Step::Sleep(FAR), 1)];
+
+const RUNNER: Steps = &[(Step::Ran, 1)];
+
+/// Starts the sleeper, and another once a machine minds the sleeper's deadline, and lets that one run while it blocks.
+const STARTS: Steps = &[
+    (Step::Go(1), 1),
+    (Step::UntilMinded, 1),
+    (Step::Go(2), 1),
+    (Step::UntilRan, 1),
+];
+
+const ROWS: [Row; 5] = [
+    (
+        "one that is ready before a blocking call",
+        (2, 2),
+        &[],
+        &[(STARTS, 1), (SLEEPER, 1), (RUNNER, 1)],
+    ),
+    (
+        "the same with one processor",
+        (1, 2),
+        &[],
+        &[(STARTS, 1), (SLEEPER, 1), (RUNNER, 1)],
+    ),
+    (
+        "an earlier deadline, by the machine that minds the later one",
+        (2, 2),
+        &[],
+        &[
+            (STARTS, 1),
+            (SLEEPER, 1),
+            (&[(Step::Sleep(100), 1), (Step::Ran, 1)], 1),
+        ],
+    ),
+    // With one processor the goroutine falls asleep on main's machine, so the other machine hears of the deadline alone.
+    (
+        "an earlier deadline, while the later one is minded",
+        (1, 2),
+        &[],
+        &[
+            (
+                &[
+                    (Step::Go(1), 1),
+                    (Step::UntilMinded, 1),
+                    (Step::Go(2), 1),
+                    (Step::Yield, 1),
+                    (Step::UntilRan, 1),
+                ],
+                1,
+            ),
+            (SLEEPER, 1),
+            (&[(Step::Sleep(100), 1), (Step::Ran, 1)], 1),
+        ],
+    ),
+    // Each of the twenty is resumed while another is.
+    (
+        "twenty by two machines",
+        (2, 2),
+        &[0, 20],
+        &[
+            (
+                &[
+                    (Step::Go(1), 21),
+                    (Step::UntilMinded, 1),
+                    (Step::Close(0), 1),
+                    (Step::Recv(1), 20),
+                ],
+                1,
+            ),
+            (SLEEPER, 1),
+            (&[(Step::Recv(0), 1), (Step::Meet(1), 1)], 20),
+        ],
+    ),
+];
+
+fn nothing_seen(alloc: Global) -> Result<Arc<Seen, Global>, Fail> {
+    let seen = Seen {
+        minded: AtomicU64::new(0),
+        met: AtomicU64::new(0),
+        ran: AtomicU64::new(0),
+        late: AtomicBool::new(false),
+    };
+    Ok(Arc::new(alloc, seen)?)
+}
+
+/// Bodies of these steps.
+fn bodies_of(
+    alloc: Global,
+    kinds: &[(Steps, u16)],
+    seen: &Arc<Seen, Global>,
+) -> Result<Vec<Boxed>, Fail> {
+    let mut bodies: Vec<Boxed> = Vec::new(alloc);
+    for (steps, count) in kinds {
+        for _ in 0..*count {
+            let walks = Walks {
+                steps: *steps,
+                at: 0,
+                times: 0,
+                seen: Arc::try_clone(seen)?,
+            };
+            bodies.push(Box::new(alloc, walks)?)?;
+        }
+    }
+    Ok(bodies)
+}
+
+/// The report of a run by so many processors and machines.
+pub(super) fn report_of<R: Threads + Wait + Sync, C: Clock + Sync, G: Gate + Sync>(
+    rt: &R,
+    alloc: Global,
+    (procs, machines): (u8, u8),
+    capacities: &[u32],
+    bodies: Vec<Boxed>,
+    clock: &C,
+    gate: &G,
+) -> Result<Report<Boxed>, Fail> {
+    let limits = Limits {
+        procs,
+        machines,
+        channels: 2,
+        entries: 100_000,
+    };
+    let ran = run(rt, alloc, 0, limits, capacities, bodies, clock, gate, 0);
+    Ok(ran.ok().ok_or("not run")?)
+}
+
+/// Main ends, and nobody waits in vain.
+fn is_heard<R: Threads + Wait + Abort + Sync, C: Clock + Sync>(
+    rt: &R,
+    alloc: Global,
+    (name, size, capacities, kinds): Row,
+    clock: &C,
+    open: bool,
+) -> Result<(), Fail> {
+    let seen = nothing_seen(alloc)?;
+    let bodies = bodies_of(alloc, kinds, &seen)?;
+    let gate = Sees {
+        seen: Arc::try_clone(&seen)?,
+        open,
+    };
+    let report = report_of(rt, alloc, size, capacities, bodies, clock, &gate)?;
+    let audited = audit(&report.history, &report.logs);
+    assert_eq!(rt; (report.started, audited), (size.1, Ok(())), "{name}");
+    assert!(rt; report.outcome == Outcome::MainEnded, "{name}");
+    assert!(rt; !seen.late.load(Ordering::SeqCst), "{name}");
+    Ok(())
+}
+
+#[test]
+fn who_minds_hears_of_work(rt: HostRuntime) -> Result<(), Fail> {
+    for row in ROWS {
+        for open in [false, true] {
+            let counting = Counting {
+                next: AtomicU64::new(1),
+            };
+            is_heard(&rt, rt.alloc(), row, &counting, open)?;
+            let waiting = Waiting {
+                rt: &rt,
+                now: AtomicU64::new(1),
+            };
+            is_heard(&rt, rt.alloc(), row, &waiting, open)?;
+        }
+    }
+    Ok(())
+}

@@ -1,0 +1,98 @@
+//! Many machines beside one goroutine that sleeps again and again: how many of them come back for it.
+
+use super::minding::report_of;
+use gmp_base::{Ask, Body, MNo, Woke};
+use gmp_driver::Act;
+use gmp_run::{Clock, Gate};
+use gmp_seq::{Call, Outcome};
+use gmp_worker::Boxed;
+use std::alloc::Global;
+use std::process::Abort;
+use std::sync::Wait;
+use std::sync::atomic::{AtomicU64, Ordering};
+use std::test::*;
+use std::thread::{Threads, yield_now};
+
+/// A gate that sees who is at rest or minds a deadline, and a clock by which a rest has passed at once where all are, as if it were a long one.
+#[derive(Drop)]
+struct Quiet {
+    now: AtomicU64,
+    /// Who is at work, a bit for each machine.
+    works: AtomicU64,
+}
+
+impl Gate for Quiet {
+    fn before(&self, m: MNo, act: &Act) {
+        let bit = 1u64.wrapping_shl(u32::from(m.0));
+        if matches!(act, Act::Call(Call::Woken) | Act::Clock(Some(_))) {
+            self.works.fetch_and(!bit, Ordering::SeqCst);
+        } else {
+            self.works.fetch_or(bit, Ordering::SeqCst);
+        }
+    }
+}
+
+impl Clock for Quiet {
+    fn now(&self) -> u64 {
+        self.now.load(Ordering::SeqCst)
+    }
+
+    fn rest(&self, most: u64) {
+        if self.works.load(Ordering::SeqCst) == 0 {
+            self.now.fetch_add(most, Ordering::SeqCst);
+        } else {
+            yield_now();
+        }
+    }
+}
+
+/// Sleeps until each of 100 moments, 5 ms after the one before.
+#[derive(Drop)]
+struct Sleeps {
+    next: u64,
+}
+
+impl Body for Sleeps {
+    ghost resumed = { λ _ _ _ _. Unit {0} };
+
+    ghost blocked = { λ _ _ _. Unit {0} };
+
+    fn resume(&mut self, _woke: Woke) -> Ask {
+        self.next = self.next.saturating_add(5_000_000);
+        if self.next > 500_000_000 {
+            return Ask::Exit;
+        }
+        Ask::Sleep(self.next)
+    }
+
+    fn blocking(&mut self) -> u64 {
+        0
+    }
+}
+
+/// How many entries 100 sleeps make.
+fn entries<R: Threads + Wait + Abort + Sync>(
+    rt: &R,
+    alloc: Global,
+    size: (u8, u8),
+) -> Result<usize, Fail> {
+    let mut bodies: Vec<Boxed> = Vec::new(alloc);
+    bodies.push(Box::new(alloc, Sleeps { next: 0 })?)?;
+    let quiet = Quiet {
+        now: AtomicU64::new(0),
+        works: AtomicU64::new(0),
+    };
+    let report = report_of(rt, alloc, size, &[], bodies, &quiet, &quiet)?;
+    assert!(rt; report.outcome == Outcome::MainEnded);
+    Ok(report.history.len())
+}
+
+/// Of 64 machines one comes back for a deadline that all mind.
+#[test]
+fn one_minds_for_all(rt: HostRuntime) -> Result<(), Fail> {
+    let alone = entries(&rt, rt.alloc(), (1, 1))?;
+    let among_many = entries(&rt, rt.alloc(), (32, 64))?;
+    assert_eq!(rt; alone, 904);
+    assert!(rt; among_many <= 4 * alone, "{among_many}");
+    Ok(())
+}
