@@ -2,7 +2,8 @@
 //! core with drawn choices, each run judged by the plain scheduler (docs/TESTS.md). Then T runs of drawn bodies in threads by each of three
 //! sizes.
 //!
-//! With TAKEN memory is taken and given back so often before, so that of a program whose Nth allocation is refused another one is.
+//! With TAKEN memory is taken and given back so often before, so that of a program whose Nth allocation is refused another one is; and it
+//! says where that comes behind the trials.
 //!
 //! It prints how many runs ended in which way, or the first run that falls short, and how. How a run by several machines ends varies.
 #![tactic(auto)]
@@ -30,6 +31,9 @@ use std::env;
 use std::process::ExitCode;
 use std::sync::Wait;
 use std::thread::Threads;
+
+/// How often memory is taken behind the trials, to find out whether the allocation that is refused is there.
+const MOST_BEHIND: u64 = 1_000;
 
 /// The number that a word is.
 fn number(word: Option<String>) -> Result<u64> {
@@ -68,12 +72,17 @@ fn main(rt: HostRuntime) -> Result<ExitCode> {
     let first = number(words.next())?;
     let count = number(words.next())?;
     let threads = number(words.next())?;
-    if let Some(taken) = words.next() {
+    let taken = words.next();
+    let is_refused_one = taken.is_some();
+    if let Some(taken) = taken {
         take(rt.alloc(), number(Some(taken))?)?;
     }
     if let Err(short) = all_tried(&rt, rt.alloc()) {
         println!(rt; "want of memory: {short}")?;
         return Ok(ExitCode::FAILURE);
+    }
+    if is_refused_one && take(rt.alloc(), MOST_BEHIND).is_err() {
+        println!(rt; "refused behind the trials")?;
     }
     let mut tally = Tally::default();
     for seed in first..first.saturating_add(count) {

@@ -13,7 +13,7 @@ pub trait Clock {
 
     fn now(&self) -> u64;
 
-    /// Rests for at most so many nanoseconds.
+    /// Rests for at most so many nanoseconds. A machine that looks for work rests so too, between two looks.
     fn rest(&self, most: u64)
         requires { most ≤ 10000000 };
 

@@ -41,7 +41,7 @@ impl<T: Drop, L: RunLedger> Shared<T, L> {
     }
 
     /// Takes the lock. Who waits for it looks whether it stays free for a moment, so that a machine that let it go for a body alone has it
-    /// back, and sleeps at last.
+    /// back. At last it sleeps.
     pub fn take<R: Wait>(&self, rt: &R) -> MutexGuard<'_, CachePadded<Bench<T, L>>> {
         let bench = match self.bench.try_lock() {
             Some(bench) => bench,

@@ -5,7 +5,8 @@
 //!
 //! 1. **Mark.** An act at the book is noted in the hold that makes it (`note_last`). So a machine is marked as one that waits from the very
 //!    entry on that tells it to mind a deadline, before it reads the clock or its thread waits. A ticket that is given out counts as ready
-//!    from its machine's next entry on: by then it is in a queue or on the shelf, and whoever is called for it finds it.
+//!    from its machine's next entry on: by then it is in a queue or on the shelf, and whoever is called for it finds it. A thief may claim it
+//!    before that entry, so tickets that were given out and claims are counted apart.
 //! 2. **Settle: the call.** At the end of the same hold (`settle`) one of those that wait is called, where more goroutines are ready than
 //!    machines look for them, and more processors are idle than machines that look have none. Its mark goes, and it counts as one that
 //!    looks from then on, so that it isn't called twice.
@@ -66,9 +67,10 @@ pub(crate) struct Watch {
     procs: u32,
     /// How many processors are held by nobody.
     idle: u32,
-    /// How many goroutines are ready, and on the shelf, in a queue or in the hand of one who looks.
-    ready: u64,
-    /// Who is neither parked nor at Mind, and has no goroutine.
+    /// How many tickets were given out, and how many were claimed. One that was stolen may be claimed before it counts as given out.
+    given: u64,
+    claims: u64,
+    /// Who is neither parked nor at Mind, and has no goroutine, since its first act.
     looks: Set,
     /// Who runs a goroutine, with a processor.
     runs: Set,
@@ -98,7 +100,8 @@ impl Watch {
             noted: 0,
             procs: u32::from(procs),
             idle: u32::from(procs),
-            ready: 1,
+            given: 1,
+            claims: 0,
             looks: Set::none(),
             runs: Set::none(),
             waits: Set::none(),
@@ -133,7 +136,7 @@ impl Watch {
     }
 
     fn more_ready(&mut self, count: u64) {
-        self.ready = self.ready.saturating_add(count);
+        self.given = self.given.saturating_add(count);
     }
 
     fn acquired(&mut self) {
@@ -151,7 +154,7 @@ impl Watch {
     }
 
     fn claim(&mut self, m: MNo, g: GNo) {
-        self.ready = self.ready.saturating_sub(1);
+        self.claims = self.claims.saturating_add(1);
         self.run(m);
         if let Some(claimed) = self.claimed.get_mut(usize::from(m.0)) {
             *claimed = g.0;
@@ -259,9 +262,14 @@ impl Watch {
         }
     }
 
-    /// Whether nobody who looks is going to find out more goroutines than are ready.
+    /// How many tickets are claimed, or have a machine that looks.
+    fn taken_up(&self) -> u64 {
+        self.claims.saturating_add(u64::from(self.looks.count()))
+    }
+
+    /// Whether a goroutine is ready for each machine that looks.
     fn is_taken_up(&self) -> bool {
-        u64::from(self.looks.count()) <= self.ready
+        self.taken_up() <= self.given
     }
 
     /// How many look and have no processor.
@@ -273,7 +281,7 @@ impl Watch {
 
     /// Whether there is work for one more.
     fn wants(&self) -> bool {
-        self.ready > u64::from(self.looks.count()) && self.idle > self.bare()
+        self.given > self.taken_up() && self.idle > self.bare()
     }
 
     /// The least of those who wait, and rather one who doesn't watch.

@@ -16,7 +16,8 @@ use std::test::*;
 use std::thread::{Threads, yield_now};
 use std::time::Duration;
 
-const TURNS: u32 = 10_000_000;
+/// How long somebody waits for another at most.
+pub(super) const TURNS: u32 = 10_000_000;
 
 /// The last moment that a clock of these tests shows, and a later one.
 const LAST: u64 = 500;

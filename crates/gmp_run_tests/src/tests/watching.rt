@@ -1,7 +1,8 @@
-//! Many machines beside one goroutine that sleeps again and again: how many of them come back for it.
+//! Machines beside a goroutine that sleeps: how many of them come back for it, and that none does without end.
 
-use super::minding::report_of;
-use gmp_base::{Ask, Body, MNo, Woke};
+use super::minding::{TURNS, report_of};
+use crossbeam_utils::Backoff;
+use gmp_base::{Ask, Body, GNo, MNo, Woke};
 use gmp_driver::Act;
 use gmp_run::{Clock, Gate};
 use gmp_seq::{Call, Outcome};
@@ -9,7 +10,7 @@ use gmp_worker::Boxed;
 use std::alloc::Global;
 use std::process::Abort;
 use std::sync::Wait;
-use std::sync::atomic::{AtomicU64, Ordering};
+use std::sync::atomic::{AtomicBool, AtomicU64, Ordering};
 use std::test::*;
 use std::thread::{Threads, yield_now};
 
@@ -46,6 +47,13 @@ impl Clock for Quiet {
     }
 }
 
+fn quiet() -> Quiet {
+    Quiet {
+        now: AtomicU64::new(0),
+        works: AtomicU64::new(0),
+    }
+}
+
 /// Sleeps until each of 100 moments, 5 ms after the one before.
 #[derive(Drop)]
 struct Sleeps {
@@ -78,10 +86,7 @@ fn entries<R: Threads + Wait + Abort + Sync>(
 ) -> Result<usize, Fail> {
     let mut bodies: Vec<Boxed> = Vec::new(alloc);
     bodies.push(Box::new(alloc, Sleeps { next: 0 })?)?;
-    let quiet = Quiet {
-        now: AtomicU64::new(0),
-        works: AtomicU64::new(0),
-    };
+    let quiet = quiet();
     let report = report_of(rt, alloc, size, &[], bodies, &quiet, &quiet)?;
     assert!(rt; report.outcome == Outcome::MainEnded);
     Ok(report.history.len())
@@ -94,5 +99,88 @@ fn one_minds_for_all(rt: HostRuntime) -> Result<(), Fail> {
     let among_many = entries(&rt, rt.alloc(), (32, 64))?;
     assert_eq!(rt; alone, 904);
     assert!(rt; among_many <= 4 * alone, "{among_many}");
+    Ok(())
+}
+
+/// A gate by which machine 1 steals what machine 0 pushed, and claims it, before machine 0 makes another call.
+#[derive(Drop)]
+struct Crosses {
+    quiet: Quiet,
+    main_runs: AtomicBool,
+    pushed: AtomicBool,
+    stolen_runs: AtomicBool,
+}
+
+fn wait_for(flag: &AtomicBool) {
+    let backoff = Backoff::new();
+    for _ in 0..TURNS {
+        if flag.load(Ordering::SeqCst) {
+            return;
+        }
+        backoff.snooze();
+    }
+}
+
+impl Gate for Crosses {
+    fn before(&self, m: MNo, act: &Act) {
+        self.quiet.before(m, act);
+        match (m, act) {
+            (MNo(0), Act::Resume) => self.main_runs.store(true, Ordering::SeqCst),
+            (MNo(0), Act::Call(Call::Poke)) => {
+                self.pushed.store(true, Ordering::SeqCst);
+                wait_for(&self.stolen_runs);
+            }
+            (MNo(1), Act::Hunt) => wait_for(&self.pushed),
+            (MNo(1), Act::Resume) => self.stolen_runs.store(true, Ordering::SeqCst),
+            (MNo(1), _) => wait_for(&self.main_runs),
+            _ => {}
+        }
+    }
+}
+
+/// Starts the other, sleeps for a second and exits; the other exits.
+#[derive(Drop)]
+struct Starts {
+    asked: u8,
+}
+
+impl Body for Starts {
+    ghost resumed = { λ _ _ _ _. Unit {0} };
+
+    ghost blocked = { λ _ _ _. Unit {0} };
+
+    fn resume(&mut self, _woke: Woke) -> Ask {
+        self.asked = self.asked.saturating_add(1);
+        match self.asked {
+            1 => Ask::Go(GNo(1)),
+            2 => Ask::Sleep(1_000_000_000),
+            _ => Ask::Exit,
+        }
+    }
+
+    fn blocking(&mut self) -> u64 {
+        0
+    }
+}
+
+/// A ticket that is claimed before it counts as given out leaves nobody called for nothing, again and again.
+#[test]
+fn a_stolen_ticket_is_counted_once(rt: HostRuntime) -> Result<(), Fail> {
+    let alloc = rt.alloc();
+    let mut bodies: Vec<Boxed> = Vec::new(alloc);
+    for asked in [0, 2] {
+        bodies.push(Box::new(alloc, Starts { asked })?)?;
+    }
+    let gate = Crosses {
+        quiet: quiet(),
+        main_runs: AtomicBool::new(false),
+        pushed: AtomicBool::new(false),
+        stolen_runs: AtomicBool::new(false),
+    };
+    let report = report_of(&rt, alloc, (2, 2), &[], bodies, &gate.quiet, &gate)?;
+    assert!(rt; report.outcome == Outcome::MainEnded);
+    assert!(rt; gate.stolen_runs.load(Ordering::SeqCst));
+    let count = report.history.len();
+    assert!(rt; count < 60, "{count}");
     Ok(())
 }
