@@ -11,7 +11,7 @@ use crate::short::Short;
 use making::Making;
 use opening::{BookOpening, CoreOpening, QueueOpening};
 use pushing::Pushing;
-use running::Running;
+use running::play_run;
 use std::alloc::Global;
 use std::sync::Wait;
 use std::thread::Threads;
@@ -33,7 +33,7 @@ trait Trial: Sized {
     /// What is not as it was before the try. Some are told that they were refused.
     fn changed(&mut self, was_refused: bool) -> Option<&'static str>;
 
-    fn tried<R: Threads + Wait + Sync>(self, rt: &R, alloc: Global) -> Tried<Self>;
+    fn tried(self, alloc: Global) -> Tried<Self>;
 
     /// Lets go of what came back.
     fn let_go(self);
@@ -51,17 +51,17 @@ fn unchanged<T: Trial>(mut trial: T, was_refused: bool) -> Result<T, Short> {
 }
 
 /// One allocation is refused at most, so that the second time is the last.
-fn play<T: Trial, R: Threads + Wait + Sync>(rt: &R, alloc: Global) -> Result<(), Short> {
+fn play<T: Trial>(alloc: Global) -> Result<(), Short> {
     let trial = match T::new(alloc) {
         Err(Short::OutOfMemory) => T::new(alloc)?,
         trial => trial?,
     };
-    let back = match unchanged(trial, false)?.tried(rt, alloc) {
+    let back = match unchanged(trial, false)?.tried(alloc) {
         Tried::Done => return Ok(()),
         Tried::Refused(back) => unchanged(back, true)?,
         Tried::Wrong(what) => return Err(Short::Wrong(what)),
     };
-    match back.tried(rt, alloc) {
+    match back.tried(alloc) {
         Tried::Done => Ok(()),
         Tried::Refused(back) => {
             back.let_go();
@@ -73,11 +73,11 @@ fn play<T: Trial, R: Threads + Wait + Sync>(rt: &R, alloc: Global) -> Result<(),
 
 /// Opens a book, a core and queues, makes channels, pushes onto a queue, and runs bodies in threads.
 pub fn all_tried<R: Threads + Wait + Sync>(rt: &R, alloc: Global) -> Result<(), Short> {
-    play::<BookOpening, R>(rt, alloc)?;
-    play::<CoreOpening, R>(rt, alloc)?;
-    play::<QueueOpening, R>(rt, alloc)?;
-    play::<Making, R>(rt, alloc)?;
-    play::<Pushing, R>(rt, alloc)?;
-    play::<Running<1, 1>, R>(rt, alloc)?;
-    play::<Running<2, 3>, R>(rt, alloc)
+    play::<BookOpening>(alloc)?;
+    play::<CoreOpening>(alloc)?;
+    play::<QueueOpening>(alloc)?;
+    play::<Making>(alloc)?;
+    play::<Pushing>(alloc)?;
+    play_run(rt, alloc, (1, 1))?;
+    play_run(rt, alloc, (2, 3))
 }

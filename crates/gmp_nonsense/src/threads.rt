@@ -10,7 +10,7 @@ use gmp_driver::Act;
 use gmp_run::{Clock, Gate, Report, run};
 use gmp_seq::Limits;
 use gmp_worker::{Boxed, audit};
-use std::alloc::{AllocError, Global};
+use std::alloc::Global;
 use std::sync::Wait;
 use std::thread::{Threads, yield_now};
 
@@ -58,17 +58,6 @@ impl Gate for Yields {
     }
 }
 
-/// A body for each goroutine, each with a generator of its own.
-fn bodies(alloc: Global, seed: u64) -> Result<Vec<Boxed>, AllocError> {
-    let first = seed.wrapping_mul(u64::from(BODIES));
-    let mut bodies: Vec<Boxed> = Vec::new(alloc);
-    for g in 0..BODIES {
-        let draw = Draw::new(first.wrapping_add(u64::from(g)));
-        bodies.push(Box::new(alloc, Drawn { draw })?)?;
-    }
-    Ok(bodies)
-}
-
 /// Whatever the schedule, each machine was started, the logs agree with the history, which is legal by the plain scheduler with this outcome,
 /// and all bodies are back.
 fn judged(alloc: Global, limits: Limits, report: &Report<Boxed>) -> Result<Ended, Short> {
@@ -87,7 +76,7 @@ fn judged(alloc: Global, limits: Limits, report: &Report<Boxed>) -> Result<Ended
     Ok(Ended { outcome, entries })
 }
 
-/// Runs the drawn bodies of this seed by so many processors and machines, and judges the report.
+/// Runs a body for each goroutine, each with a generator of its own by this seed, by so many processors and machines, and judges the report.
 pub fn threaded<R: Threads + Wait + Sync>(
     rt: &R,
     alloc: Global,
@@ -99,7 +88,17 @@ pub fn threaded<R: Threads + Wait + Sync>(
         machines,
         ..LIMITS
     };
-    let bodies = bodies(alloc, seed)?;
+    let first = seed.wrapping_mul(u64::from(BODIES));
+    let mut bodies: Vec<Boxed> = Vec::new(alloc);
+    for g in 0..BODIES {
+        let draw = Draw::new(first.wrapping_add(u64::from(g)));
+        let Ok(body) = Box::new(alloc, Drawn { draw }) else {
+            return Err(Short::OutOfMemory);
+        };
+        if bodies.push(body).is_err() {
+            return Err(Short::OutOfMemory);
+        }
+    }
     match run(
         rt,
         alloc,

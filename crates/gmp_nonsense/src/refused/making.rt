@@ -6,8 +6,6 @@ use gmp_base::{CNo, GNo, Held, MNo, Pass, Proc, Refusal, Woke};
 use gmp_book::{Book, Went};
 use gmp_seq::{Call, Entry, Limits, Reply};
 use std::alloc::Global;
-use std::sync::Wait;
-use std::thread::Threads;
 
 /// The run's number.
 const RUN: u64 = 7;
@@ -190,7 +188,7 @@ impl Trial for Making {
         }
     }
 
-    fn tried<R: Threads + Wait + Sync>(self, _rt: &R, alloc: Global) -> Tried<Self> {
+    fn tried(self, alloc: Global) -> Tried<Self> {
         let mut making = self;
         for capacity in CAPACITIES.into_iter().skip(usize::from(making.made)) {
             match making.make(alloc, capacity) {

@@ -7,8 +7,6 @@ use gmp_book::{Book, Unopened};
 use gmp_core::Core;
 use gmp_seq::Limits;
 use std::alloc::Global;
-use std::sync::Wait;
-use std::thread::Threads;
 
 /// The run's number.
 const RUN: u64 = 7;
@@ -61,7 +59,7 @@ impl Trial for BookOpening {
         }
     }
 
-    fn tried<R: Threads + Wait + Sync>(self, _rt: &R, alloc: Global) -> Tried<Self> {
+    fn tried(self, alloc: Global) -> Tried<Self> {
         let BookOpening { bodies, owners } = self;
         match Book::open(alloc, RUN, LIMITS, &CAPACITIES, bodies, owners) {
             Ok((book, passes)) => {
@@ -107,7 +105,7 @@ impl Trial for CoreOpening {
         (self.bodies.as_slice() != BODIES.as_slice()).then_some("the bodies of a core")
     }
 
-    fn tried<R: Threads + Wait + Sync>(self, _rt: &R, alloc: Global) -> Tried<Self> {
+    fn tried(self, alloc: Global) -> Tried<Self> {
         match Core::open(alloc, RUN, LIMITS, &CAPACITIES, self.bodies) {
             Ok(core) => {
                 core.close();
@@ -142,7 +140,7 @@ impl Trial for QueueOpening {
         None
     }
 
-    fn tried<R: Threads + Wait + Sync>(self, _rt: &R, alloc: Global) -> Tried<Self> {
+    fn tried(self, alloc: Global) -> Tried<Self> {
         match gmp_queue::open(alloc, RUN, LIMITS.procs, LIMITS.machines) {
             Ok((owners, thieves)) if owners.len() == 2 && thieves.len() == 3 => Tried::Done,
             Ok(_) => Tried::Wrong("the ends of queues"),

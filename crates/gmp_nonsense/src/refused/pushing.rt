@@ -5,8 +5,6 @@ use crate::short::Short;
 use gmp_base::{GNo, Ticket};
 use gmp_queue::{Owner, Thief};
 use std::alloc::Global;
-use std::sync::Wait;
-use std::thread::Threads;
 
 /// The run's number.
 const RUN: u64 = 7;
@@ -54,7 +52,7 @@ impl Trial for Pushing {
         (self.thief.hint() != u32::from(self.pushed)).then_some("the queue of a push")
     }
 
-    fn tried<R: Threads + Wait + Sync>(self, _rt: &R, _alloc: Global) -> Tried<Self> {
+    fn tried(self, _alloc: Global) -> Tried<Self> {
         let mut trial = self;
         for g in trial.pushed..TICKETS {
             if let Err(back) = trial.owner.push(Ticket::of(RUN, GNo(g), EPOCH)) {

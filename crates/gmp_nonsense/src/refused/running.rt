@@ -1,13 +1,12 @@
 //! Runs in threads, in which main makes a channel and starts more goroutines than a queue has room for at first.
 
-use super::{Trial, Tried};
 use crate::short::Short;
 use crate::threads::Last;
 use gmp_base::{Ask, Body, GNo, Refusal, Woke};
 use gmp_run::{Open, Report, Unrun, run};
 use gmp_seq::{Call, Entry, Limits, Outcome};
 use gmp_worker::{Boxed, audit};
-use std::alloc::{AllocError, Global};
+use std::alloc::Global;
 use std::sync::Wait;
 use std::thread::Threads;
 
@@ -28,6 +27,17 @@ enum Stage {
 struct Numbered {
     number: u16,
     stage: Stage,
+}
+
+impl Numbered {
+    fn of(number: u16) -> Self {
+        let stage = if number == 0 {
+            Stage::Makes
+        } else {
+            Stage::Exits
+        };
+        Numbered { number, stage }
+    }
 }
 
 impl Body for Numbered {
@@ -56,48 +66,30 @@ impl Body for Numbered {
     }
 }
 
-/// Main and the others.
-fn main_and_others(alloc: Global) -> Result<Vec<Boxed>, AllocError> {
-    let mut bodies: Vec<Boxed> = Vec::new(alloc);
-    for number in 0..BODIES {
-        let stage = if number == 0 {
-            Stage::Makes
-        } else {
-            Stage::Exits
-        };
-        bodies.push(Box::new(alloc, Numbered { number, stage })?)?;
-    }
-    Ok(bodies)
-}
-
-/// By so many processors and machines.
-#[derive(Drop)]
-pub(super) struct Running<const PROCS: u8, const MACHINES: u8> {
-    bodies: Vec<Boxed>,
-}
-
 /// All bodies are there, in order.
 fn are_in_order(bodies: &mut Vec<Boxed>) -> bool {
-    let mut next = 0;
-    for body in bodies.iter_mut() {
-        if body.blocking() != next {
+    if bodies.len() != usize::from(BODIES) {
+        return false;
+    }
+    for (body, number) in bodies.iter_mut().zip(0..BODIES) {
+        if body.blocking() != u64::from(number) {
             return false;
         }
-        next += 1;
     }
-    next == u64::from(BODIES)
+    true
 }
 
 /// How many makes, puts and exits there are.
 fn counts(history: &[Entry]) -> [usize; 3] {
-    let mut counts = [0; 3];
+    let mut counts = [0usize; 3];
     for entry in history {
-        match entry.call {
-            Call::Make(_) => counts[0] += 1,
-            Call::Put(_) => counts[1] += 1,
-            Call::Exit => counts[2] += 1,
-            _ => {}
-        }
+        let place = match entry.call {
+            Call::Make(_) => 0,
+            Call::Put(_) => 1,
+            Call::Exit => 2,
+            _ => continue,
+        };
+        counts[place] = counts[place].saturating_add(1);
     }
     counts
 }
@@ -120,40 +112,56 @@ fn wrong_in(mut report: Report<Boxed>) -> Option<&'static str> {
     }
 }
 
-impl<const PROCS: u8, const MACHINES: u8> Trial for Running<PROCS, MACHINES> {
-    fn new(alloc: Global) -> Result<Self, Short> {
-        let bodies = main_and_others(alloc)?;
-        Ok(Running { bodies })
+/// The body of this number, at the second time where memory was refused.
+fn boxed(alloc: Global, number: u16) -> Option<Box<Numbered, Global>> {
+    match Box::new(alloc, Numbered::of(number)) {
+        Ok(body) => Some(body),
+        Err(_) => Box::new(alloc, Numbered::of(number)).ok(),
     }
+}
 
-    fn changed(&mut self, _was_refused: bool) -> Option<&'static str> {
-        if are_in_order(&mut self.bodies) {
-            None
-        } else {
-            Some("the bodies of a run")
-        }
+/// What came of a run that was begun.
+fn judged(report: Report<Boxed>) -> Result<(), Short> {
+    match wrong_in(report) {
+        None => Ok(()),
+        Some(what) => Err(Short::Wrong(what)),
     }
+}
 
-    fn tried<R: Threads + Wait + Sync>(self, rt: &R, alloc: Global) -> Tried<Self> {
-        let limits = Limits {
-            procs: PROCS,
-            machines: MACHINES,
-            channels: 1,
-            entries: 10_000,
+/// Runs the bodies by so many processors and machines. Where memory is refused they come back in order, and are run again.
+pub(super) fn play_run<R: Threads + Wait + Sync>(
+    rt: &R,
+    alloc: Global,
+    (procs, machines): (u8, u8),
+) -> Result<(), Short> {
+    let limits = Limits {
+        procs,
+        machines,
+        channels: 1,
+        entries: 10_000,
+    };
+    let mut bodies: Vec<Boxed> = match Vec::with_capacity(alloc, usize::from(BODIES)) {
+        Ok(bodies) => bodies,
+        Err(_) => Vec::with_capacity(alloc, usize::from(BODIES))?,
+    };
+    for number in 0..BODIES {
+        let Some(body) = boxed(alloc, number) else {
+            return Err(Short::OutOfMemory);
         };
-        match run(rt, alloc, 7, limits, &[], self.bodies, &Last, &Open, 0) {
-            Ok(report) => match wrong_in(report) {
-                None => Tried::Done,
-                Some(what) => Tried::Wrong(what),
-            },
-            Err(Unrun { why, bodies }) if why == Refusal::OutOfMemory => {
-                Tried::Refused(Running { bodies })
-            }
-            Err(_) => Tried::Wrong("why a run was not begun"),
+        if bodies.push(body).is_err() {
+            return Err(Short::OutOfMemory);
         }
     }
-
-    fn let_go(self) {
-        drop(self);
+    let mut bodies = match run(rt, alloc, 7, limits, &[], bodies, &Last, &Open, 0) {
+        Ok(report) => return judged(report),
+        Err(Unrun { why, bodies }) if why == Refusal::OutOfMemory => bodies,
+        Err(_) => return Err(Short::Wrong("why a run was not begun")),
+    };
+    if !are_in_order(&mut bodies) {
+        return Err(Short::Wrong("the bodies of a run"));
+    }
+    match run(rt, alloc, 7, limits, &[], bodies, &Last, &Open, 0) {
+        Ok(report) => judged(report),
+        Err(_) => Err(Short::OutOfMemory),
     }
 }
