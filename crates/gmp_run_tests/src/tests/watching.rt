@@ -47,7 +47,7 @@ impl Clock for Quiet {
     }
 }
 
-fn quiet() -> Quiet {
+fn nobody_works() -> Quiet {
     Quiet {
         now: AtomicU64::new(0),
         works: AtomicU64::new(0),
@@ -86,7 +86,7 @@ fn entries<R: Threads + Wait + Abort + Sync>(
 ) -> Result<usize, Fail> {
     let mut bodies: Vec<Boxed> = Vec::new(alloc);
     bodies.push(Box::new(alloc, Sleeps { next: 0 })?)?;
-    let quiet = quiet();
+    let quiet = nobody_works();
     let report = report_of(rt, alloc, size, &[], bodies, &quiet, &quiet)?;
     assert!(rt; report.outcome == Outcome::MainEnded);
     Ok(report.history.len())
@@ -172,7 +172,7 @@ fn a_stolen_ticket_is_counted_once(rt: HostRuntime) -> Result<(), Fail> {
         bodies.push(Box::new(alloc, Starts { asked })?)?;
     }
     let gate = Crosses {
-        quiet: quiet(),
+        quiet: nobody_works(),
         main_runs: AtomicBool::new(false),
         pushed: AtomicBool::new(false),
         stolen_runs: AtomicBool::new(false),
