@@ -143,7 +143,7 @@ pub(super) fn checked(alloc: Global, mut trace: &[u8]) -> Ended {
 /// `gmp check` passes the trace.
 fn passes(rt: &impl Abort, alloc: Global, trace: &[u8], line: &str) {
     let checked = checked(alloc, trace);
-    assert_eq!(rt; checked.status, 0, "{line}: {checked:?}");
+    assert_eq!(rt; checked.status, 0, "{line}");
 }
 
 #[test]

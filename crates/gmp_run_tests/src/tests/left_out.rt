@@ -118,9 +118,9 @@ fn ends<R: Threads + Wait + Abort + Sync>(
     are_left_out(rt, &report, gate);
     let mut trace = Vec::new(alloc);
     let ended = told(alloc, settings, &capacities, Ok(report), &mut trace);
-    assert_eq!(rt; ended.status, status, "{text} by {:b}", gate.0);
+    assert_eq!(rt; ended.status, status, "{text}");
     let checked = checked(alloc, &trace);
-    assert_eq!(rt; checked.status, 0, "{text} by {:b}: {checked:?}", gate.0);
+    assert_eq!(rt; checked.status, 0, "{text}");
     Ok(())
 }
 

@@ -77,18 +77,27 @@ enum Step {
 /// Steps, each with how often it is made.
 type Steps = &'static [(Step, u16)];
 
+/// A goroutine of this kind in this row.
 #[derive(Drop)]
 struct Walks {
-    steps: Steps,
+    row: usize,
+    kind: usize,
     at: usize,
     times: u16,
     seen: Arc<Seen, Global>,
 }
 
 impl Walks {
+    /// The step at this place, and how often it is made.
+    fn step(&self, at: usize) -> Option<(Step, u16)> {
+        let (_, _, _, kinds) = *ROWS.get(self.row)?;
+        let (steps, _) = *kinds.get(self.kind)?;
+        steps.get(at).copied()
+    }
+
     /// The step to make, and how often it was made before.
     fn next(&mut self) -> Option<(Step, u16)> {
-        let (step, most) = *self.steps.get(self.at)?;
+        let (step, most) = self.step(self.at)?;
         let times = self.times;
         self.times = times.saturating_add(1);
         if self.times >= most {
@@ -127,8 +136,7 @@ impl Body for Walks {
     }
 
     fn blocking(&mut self) -> u64 {
-        let made = self.steps.get(self.at.saturating_sub(1));
-        match made {
+        match self.step(self.at.saturating_sub(1)) {
             Some((Step::UntilMinded, _)) => self.seen.awaits(&self.seen.minded, 1),
             Some((Step::UntilRan, _)) => self.seen.awaits(&self.seen.ran, 1),
             _ => {}
@@ -293,17 +301,19 @@ fn nothing_seen(alloc: Global) -> Result<Arc<Seen, Global>, Fail> {
     Ok(Arc::new(alloc, seen)?)
 }
 
-/// Bodies of these steps.
+/// The bodies of this row.
 fn bodies_of(
     alloc: Global,
+    row: usize,
     kinds: &[(Steps, u16)],
     seen: &Arc<Seen, Global>,
 ) -> Result<Vec<Boxed>, Fail> {
     let mut bodies: Vec<Boxed> = Vec::new(alloc);
-    for (steps, count) in kinds {
+    for (kind, (_, count)) in kinds.iter().enumerate() {
         for _ in 0..*count {
             let walks = Walks {
-                steps: *steps,
+                row,
+                kind,
                 at: 0,
                 times: 0,
                 seen: Arc::try_clone(seen)?,
@@ -338,12 +348,13 @@ pub(super) fn report_of<R: Threads + Wait + Sync, C: Clock + Sync, G: Gate + Syn
 fn is_heard<R: Threads + Wait + Abort + Sync, C: Clock + Sync>(
     rt: &R,
     alloc: Global,
-    (name, size, capacities, kinds): Row,
+    row: usize,
     clock: &C,
     open: bool,
 ) -> Result<(), Fail> {
+    let (name, size, capacities, kinds) = *ROWS.get(row).ok_or("a row")?;
     let seen = nothing_seen(alloc)?;
-    let bodies = bodies_of(alloc, kinds, &seen)?;
+    let bodies = bodies_of(alloc, row, kinds, &seen)?;
     let gate = Sees {
         seen: Arc::try_clone(&seen)?,
         open,
@@ -358,7 +369,7 @@ fn is_heard<R: Threads + Wait + Abort + Sync, C: Clock + Sync>(
 
 #[test]
 fn who_minds_hears_of_work(rt: HostRuntime) -> Result<(), Fail> {
-    for row in ROWS {
+    for row in 0..ROWS.len() {
         for open in [false, true] {
             let counting = Counting {
                 next: AtomicU64::new(1),
