@@ -95,10 +95,10 @@ fn ran<R: Threads + Wait + Sync>(
 
 /// Those who are let in were started, and each other made no call.
 fn are_left_out(rt: &impl Abort, report: &Report<Boxed>, gate: &Admits) {
-    let mut started = 1;
+    let mut started = 1u8;
     for log in &report.logs {
         if log.m != MNo(0) && gate.has(log.m.0) {
-            started += 1;
+            started = started.saturating_add(1);
         } else {
             assert!(rt; log.m == MNo(0) || log.calls == 0, "{log:?}");
         }

@@ -98,7 +98,7 @@ fn one_minds_for_all(rt: HostRuntime) -> Result<(), Fail> {
     let alone = entries(&rt, rt.alloc(), (1, 1))?;
     let among_many = entries(&rt, rt.alloc(), (32, 64))?;
     assert_eq!(rt; alone, 904);
-    assert!(rt; among_many <= 4 * alone, "{among_many}");
+    assert!(rt; among_many <= alone.saturating_mul(4), "{among_many}");
     Ok(())
 }
 
