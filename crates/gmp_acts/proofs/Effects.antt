@@ -17,7 +17,7 @@ use Rattle.gmp_driver.specs.Seen.{own_processor}
 use Rattle.gmp_acts.specs.Hands.{PlainHand}
 use Rattle.gmp_driver.specs.Uses.{Uses}
 use Rattle.gmp_acts.specs.Hands.{hand_after}
-use Rattle.gmp_acts.proofs.Gears.{Gear, Standing, same_gear, goes_gear, take_processor, put_processor, acquires_gear, spins_gear, unspins_gear, pokes_gear, declares_gear, bares_gear, looks_gear, enters_gear, returns_gear, parks_gear}
+use Rattle.gmp_acts.proofs.Gears.{Gear, Standing, same_gear, goes_gear, take_processor, put_processor, acquires_gear, spins_gear, unspins_gear, pokes_gear, sets_gear, keeps_gear, declares_gear, bares_gear, looks_gear, enters_gear, returns_gear, parks_gear}
 
 deals_same : (g : GNo) (c : Case) (answer : Reply) (old new : State) → Step.Deals g c answer old new → SameMachines old new
 deals_same g c (reply.Sent to) old new (made, (how, h, told, is, more)) = more
@@ -58,6 +58,7 @@ effect_gear limits m (call.Recv c) answer old new hand u s (g, running, h) = goe
 effect_gear limits m (call.Close c) answer old new hand u s (g, running, h) = goes_gear m (call.Close c) answer _ _ hand refl refl (closes_same c answer old new h)
 effect_gear limits m (call.Len c) answer old new hand u s (g, running, (h, is, more)) = goes_gear m (call.Len c) answer _ _ hand refl refl more
 effect_gear limits m (call.Cap c) answer old new hand u s (g, running, (h, is, more)) = goes_gear m (call.Cap c) answer _ _ hand refl refl more
+effect_gear limits m (call.Procs n) answer old new hand u s (g, running, (h, is, rest)) = sets_gear m _ _ old.table hand n answer h
 effect_gear limits m (call.Select cases has_default until) answer old new hand u s (few, (g, running, h)) =
     goes_gear m (call.Select cases has_default until) answer _ _ hand refl refl (selects_same g cases has_default until answer old new h)
 effect_gear limits m (call.Sleep until) answer old new hand u s (g, running, (h, rest, more)) = goes_gear m (call.Sleep until) answer _ _ hand refl refl more
@@ -67,6 +68,7 @@ effect_gear limits m call.Enter answer old new hand u s (g, running, (is, h, mor
 effect_gear limits m (call.Leave number) answer old new hand u s (g, calling, (h, machines, more)) = returns_gear m _ _ old.table hand number answer u.2 (s.caller g calling) machines
 effect_gear limits m call.Spin answer old new hand u s (free, (h, is, rest)) = spins_gear m _ _ old.table hand answer s.spins_row s.spins_at h
 effect_gear limits m call.Woken answer old new hand u s (h, is, rest) = looks_gear m _ _ old.table hand answer h
+effect_gear limits m call.Keep answer old new hand u s (h, is, rest) = keeps_gear m _ _ old.table hand answer h
 effect_gear limits m call.Unspin answer old new hand u s (h, is, rest) = unspins_gear m _ _ old.table hand answer s.spins_row s.spins_at h
 effect_gear limits m call.Poke answer old new hand u s (h, is, rest) = pokes_gear m _ _ old.table hand answer h
 effect_gear limits m call.Declare answer old new hand u s (free, (h, is, rest)) = declares_gear m _ _ old.table hand answer h

@@ -2,6 +2,7 @@
 use Rattle.std.proofs.Common.{◌≡◌, ◌≢◌, ◌⊎◌, inl, inr, ℕ, Bool, true, false, Option, None, Some, List, set, refl, sym, ap, subst, ◌∙◌}
 use Rattle.std.specs.Option.{unwrap_or}
 use Rattle.std.specs.List.{slice_get}
+use Rattle.gmp_base.specs.declared.ask.Fault.TheVariants as fault
 use Rattle.gmp_base.specs.declared.number.GNo.{GNo}
 use Rattle.gmp_base.specs.declared.number.MNo.{MNo}
 use Rattle.gmp_base.specs.declared.number.PNo.{PNo}
@@ -13,7 +14,7 @@ use Rattle.gmp_seq.specs.declared.call.Reply.{Reply}
 use Rattle.gmp_seq.specs.declared.call.Reply.TheVariants as reply
 use Rattle.gmp_seq.specs.declared.status.Mode.{Mode}
 use Rattle.gmp_seq.specs.declared.status.Mode.TheVariants as mode
-use Rattle.gmp_seq.specs.Machines.{Machines, Acquires, Spins, Unspins, Pokes, Declares, Bares, Looks, Enters, Returns, IsAwake, spins}
+use Rattle.gmp_seq.specs.Machines.{Machines, Acquires, MayKeep, Sets, Spins, Unspins, Pokes, Declares, Bares, Looks, Enters, Returns, IsAwake, spins}
 use Rattle.gmp_seq.specs.State.{State}
 use Rattle.gmp_seq.specs.Step
 use Rattle.gmp_seq.specs.Table.{Table, IsRunning, IsCalling}
@@ -120,7 +121,7 @@ holder_gear m c answer old new q o p p' is hold modes spinning = record {
 }
 
 -- a mode that another's write leaves
-mode_kept : (modes : List Mode) (m n : MNo) (x : Mode) → n ≢ m → slice_get (set modes m.0 x) n.0 ≡ slice_get modes n.0
+pub mode_kept : (modes : List Mode) (m n : MNo) (x : Mode) → n ≢ m → slice_get (set modes m.0 x) n.0 ≡ slice_get modes n.0
 mode_kept modes m n x ne = at_set (λ (o : Option Mode). o ≡ slice_get modes n.0) modes m.0 n.0 x (λ same. absurd (ne (same_machine n m (sym same)))) refl
 
 -- whoever wakes was parked
@@ -163,7 +164,7 @@ put_processor (Some r) hand = refl
 
 module _ (m : MNo) (old new : Machines) (t : Table) (hand : PlainHand) where
   pub acquires_gear : (answer : Reply) → hand.processor ≡ None → Acquires m answer old new → Gear m call.Acquire answer old new (own_processor hand) (own_processor (hand_after t call.Acquire answer hand))
-  acquires_gear (reply.Proc q) free (awake, bare, idle, is) =
+  acquires_gear (reply.Proc q) free (awake, bare, (idle, active), is) =
       holder_gear m call.Acquire (reply.Proc q) old new q (Some m) (own_processor hand) (Some q) is (gains q idle refl (ap number_of free) refl) refl refl
   acquires_gear reply.Nothing free (awake, bare, none, is) = same_gear m call.Acquire reply.Nothing old new (own_processor hand) (own_processor hand) is refl refl refl
   acquires_gear _ free h = absurd h
@@ -189,12 +190,39 @@ module _ (m : MNo) (old new : Machines) (t : Table) (hand : PlainHand) where
   pokes_gear _ h = absurd h
 
   pub declares_gear : (answer : Reply) → Declares m answer old new → Gear m call.Declare answer old new (own_processor hand) None
-  declares_gear (reply.Idle q) (still, holds, is) = holder_gear m call.Declare (reply.Idle q) old new q None (own_processor hand) None is (gives q holds refl refl) refl refl
+  declares_gear (reply.Idle q) (still, holds, is) = record {
+    holders = gives q holds (ap (λ (w : Machines). w.holders) is) refl;
+    mode = ap (λ (w : Machines). slice_get w.modes m.0) is;
+    spinning = ap (λ (w : Machines). spins w m) is;
+    others = λ n ne. inl (ap (λ (w : Machines). slice_get w.modes n.0) is);
+    still = λ n ne. ap (λ (w : Machines). spins w n) is;
+  }
   declares_gear _ h = absurd h
 
   pub bares_gear : (answer : Reply) → Bares m answer old new → Gear m call.Bare answer old new (own_processor hand) (own_processor hand)
-  bares_gear reply.Done (bare, is) = same_gear m call.Bare reply.Done old new (own_processor hand) (own_processor hand) is refl refl refl
+  bares_gear reply.Done (bare, is) = record {
+    holders = keeps (ap (λ (w : Machines). w.holders) is) refl;
+    mode = ap (λ (w : Machines). slice_get w.modes m.0) is;
+    spinning = ap (λ (w : Machines). spins w m) is;
+    others = λ n ne. inl (ap (λ (w : Machines). slice_get w.modes n.0) is);
+    still = λ n ne. ap (λ (w : Machines). spins w n) is;
+  }
   bares_gear _ h = absurd h
+
+  pub sets_gear : (n : ℕ) (answer : Reply) → Sets n answer old new → Gear m (call.Procs n) answer old new (own_processor hand) (own_processor (left_by answer hand))
+  sets_gear n (reply.Number before) (good, told, is) = record {
+    holders = keeps (ap (λ (w : Machines). w.holders) is) refl;
+    mode = ap (λ (w : Machines). slice_get w.modes m.0) is;
+    spinning = ap (λ (w : Machines). spins w m) is;
+    others = λ n ne. inl (ap (λ (w : Machines). slice_get w.modes n.0) is);
+    still = λ n ne. ap (λ (w : Machines). spins w n) is;
+  }
+  sets_gear n (reply.Fault fault.BadProcs) (bad, is) = same_gear m (call.Procs n) (reply.Fault fault.BadProcs) old new (own_processor hand) (own_processor hand) is refl refl refl
+  sets_gear n _ h = absurd h
+
+  pub keeps_gear : (answer : Reply) → MayKeep m answer old new → Gear m call.Keep answer old new (own_processor hand) (own_processor hand)
+  keeps_gear (reply.Answer b) (awake, p, holds, told, is) = same_gear m call.Keep (reply.Answer b) old new (own_processor hand) (own_processor hand) is refl refl refl
+  keeps_gear _ h = absurd h
 
   pub looks_gear : (answer : Reply) → Looks m answer old new → Gear m call.Woken answer old new (own_processor hand) (own_processor hand)
   looks_gear (reply.Answer true) (awake, is) = same_gear m call.Woken (reply.Answer true) old new (own_processor hand) (own_processor hand) is refl refl refl
@@ -226,7 +254,7 @@ module _ (m : MNo) (old new : Machines) (t : Table) (hand : PlainHand) where
 
   pub returns_gear : (k : ℕ) (answer : Reply) → hand.processor ≡ None → slice_get old.modes m.0 ≡ Some mode.Calling → Returns m answer old new
       → Gear m (call.Leave k) answer old new (own_processor hand) (own_processor (hand_after t (call.Leave k) answer hand))
-  returns_gear k (reply.Runs q) free calling (idle, is) = record {
+  returns_gear k (reply.Runs q) free calling ((idle, active), is) = record {
     holders = gains q idle (ap (λ (w : Machines). w.holders) is) (ap number_of free) refl;
     mode = ap (λ (w : Machines). slice_get w.modes m.0) is ∙ slice_get-set_same old.modes m.0 mode.Awake mode.Calling calling;
     spinning = ap (λ (w : Machines). spins w m) is;
@@ -247,7 +275,8 @@ pub parks_gear : (m : MNo) (answer : Reply) (old new : State) (hand : PlainHand)
 parks_gear m reply.Work old new hand awake (work, (same, more, is)) = same_gear m call.Park reply.Work old.machines new.machines (own_processor hand) (own_processor hand) is refl refl refl
 parks_gear m reply.AllAsleep old new hand awake (work, asleep, (same, more, is)) = same_gear m call.Park reply.AllAsleep old.machines new.machines (own_processor hand) (own_processor hand) is refl refl refl
 parks_gear m (reply.Mind until) old new hand awake (work, astir, minds, (same, more, is)) = same_gear m call.Park (reply.Mind until) old.machines new.machines (own_processor hand) (own_processor hand) is refl refl refl
-parks_gear m reply.Parked old new hand awake (work, astir, minds, same, more, is) = record {
+parks_gear m reply.LookAgain old new hand awake (work, astir, minds, marked, (same, more, is)) = same_gear m call.Park reply.LookAgain old.machines new.machines (own_processor hand) (own_processor hand) is refl refl refl
+parks_gear m reply.Parked old new hand awake (work, astir, minds, unmarked, same, more, is) = record {
   holders = keeps (ap (λ (w : Machines). w.holders) is) refl;
   mode = ap (λ (w : Machines). slice_get w.modes m.0) is ∙ slice_get-set_same old.machines.modes m.0 mode.Parked mode.Awake awake;
   spinning = ap (λ (w : Machines). spins w m) is;

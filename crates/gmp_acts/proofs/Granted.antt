@@ -58,6 +58,9 @@ module _ (procs : ℕ) (fresh : Bool) (turns : ℕ) (hand : PlainHand) (what : O
   call_state place.Start c is d few = subst (λ (q : Call). CallState q what (spins_at place.Start)) (call_is call.Acquire c is) d
   call_state place.Look c is d few = absurd (look_calls (nat_le 16 turns) c is)
   call_state (place.Ticking now) c is d few = subst (λ (q : Call). CallState q what (spins_at (place.Ticking now))) (call_is (call.Tick now) c is) d
+  call_state place.Keep c is d few = subst (λ (q : Call). CallState q what (spins_at place.Keep)) (call_is call.Keep c is) d
+  call_state place.Drain c is d few = absurd (let no : ⊥ = cc in no)
+  call_state place.PutDrain c is d few = (let w = put_calls hand.to_store c is in subst (λ (q : Call). CallState q what (spins_at place.PutDrain)) w.2 d)
   call_state place.Global c is d few = subst (λ (q : Call). CallState q what (spins_at place.Global)) (call_is call.Take c is) d
   call_state place.Spin c is d few = subst (λ (q : Call). CallState q what (spins_at place.Spin)) (call_is call.Spin c is) d
   call_state (place.PutMore v goal) c is d few = (let w = put_calls hand.to_store c is in subst (λ (q : Call). CallState q what (spins_at (place.PutMore v goal))) w.2 d)
@@ -74,6 +77,7 @@ module _ (procs : ℕ) (fresh : Bool) (turns : ℕ) (hand : PlainHand) (what : O
   call_state (place.Do (ask.Cap n)) c is d few = subst (λ (q : Call). CallState q what (spins_at (place.Do (ask.Cap n)))) (call_is (call.Cap n) c is) d
   call_state (place.Do (ask.Select cases has_default until)) c is d few = subst (λ (q : Call). CallState q what (spins_at (place.Do (ask.Select cases has_default until)))) (call_is (call.Select cases has_default until) c is) (d, few)
   call_state (place.Do (ask.Sleep until)) c is d few = subst (λ (q : Call). CallState q what (spins_at (place.Do (ask.Sleep until)))) (call_is (call.Sleep until) c is) d
+  call_state (place.Do (ask.Procs n)) c is d few = subst (λ (q : Call). CallState q what (spins_at (place.Do (ask.Procs n)))) (call_is (call.Procs n) c is) d
   call_state (place.Do ask.Park) c is d few = subst (λ (q : Call). CallState q what (spins_at (place.Do ask.Park))) (call_is call.Gopark c is) d
   call_state (place.Do (ask.Ready g)) c is d few = subst (λ (q : Call). CallState q what (spins_at (place.Do (ask.Ready g)))) (call_is (call.Ready g) c is) d
   call_state (place.Do ask.Yield) c is d few = subst (λ (q : Call). CallState q what (spins_at (place.Do ask.Yield))) (call_is call.Yield c is) d
@@ -181,6 +185,7 @@ module _ (s : State) (m : MNo) (x : PlainMachine) (sees : Sees s m x) (tickets :
   needs call.Declare u d = (idle u.0, d, holds_processor u.2)
   needs call.Spin u d = (d, idle u.0)
   needs call.Woken u d = d
+  needs call.Keep u d = (d, holds_processor u)
   needs call.Unspin u d = d
   needs call.Poke u d = d
   needs call.Bare u d = (d.0, free_of_processor u, d.1)

@@ -23,7 +23,7 @@ use Rattle.gmp_driver.specs.declared.registers.ProcParts.{ProcParts}
 use Rattle.gmp_driver.specs.Fits.{SuitsPlace}
 use Rattle.gmp_acts.specs.Hands.{PlainHand}
 use Rattle.gmp_driver.specs.Seen.{seen_of}
-use Rattle.gmp_driver.specs.Table.{act_at, call_for, next_place}
+use Rattle.gmp_driver.specs.Table.{act_at, call_for, next_place, raised}
 use Rattle.gmp_driver.proofs.Uses.{call_is, look_calls, put_calls, claim_calls}
 use Rattle.gmp_acts.specs.Hands.{hand_after, left_by, retold, called_from, running_again}
 use Rattle.gmp_acts.specs.Sound.{HasFewAt, ModeAt, spins_at, IsEnd}
@@ -67,8 +67,16 @@ module _ (procs : ℕ) (fresh : Bool) (turns : ℕ) (t : Table) (hand : PlainHan
   at_start _ can f does = absurd can
 
   at_ticking : (now : ℕ) (answer : Reply) → CanReply (call.Tick now) answer → SuitsPlace (place.Ticking now) hand → ModeAt (place.Ticking now) what → Landing (call.Tick now) (place.Ticking now) answer
-  at_ticking now (reply.Woke n) can f does = record { fits = f; does = does; spinning = refl; few = tt; ended = λ e. absurd e }
+  at_ticking now (reply.Woke n) can f does = by_procs (procs == 1) where
+    by_procs : (b : Bool) → Lands procs (place.Ticking now) (call.Tick now) (reply.Woke n) (if b then place.Look else place.Keep) hand what
+    by_procs true = record { fits = f; does = does; spinning = refl; few = tt; ended = λ e. absurd e }
+    by_procs false = record { fits = f; does = does; spinning = refl; few = tt; ended = λ e. absurd e }
   at_ticking now _ can f does = absurd can
+
+  at_keep : (answer : Reply) → CanReply call.Keep answer → SuitsPlace place.Keep hand → ModeAt place.Keep what → Landing call.Keep place.Keep answer
+  at_keep (reply.Answer true) can f does = record { fits = f; does = does; spinning = refl; few = tt; ended = λ e. absurd e }
+  at_keep (reply.Answer false) can f does = record { fits = f; does = does; spinning = refl; few = tt; ended = λ e. absurd e }
+  at_keep _ can f does = absurd can
 
   after_global : (b : Bool) → SuitsPlace place.Global hand → ModeAt place.Global what → Lands procs place.Global call.Take reply.Nothing (if b then place.Drop else place.Spin) hand what
   after_global true f does = record { fits = f; does = does; spinning = refl; few = tt; ended = λ e. absurd e }
@@ -120,6 +128,7 @@ module _ (procs : ℕ) (fresh : Bool) (turns : ℕ) (t : Table) (hand : PlainHan
   at_park reply.Parked can f does = record { fits = f; does = inr refl; spinning = refl; few = tt; ended = λ e. absurd e }
   at_park reply.Work can f does = record { fits = f; does = does; spinning = refl; few = tt; ended = λ e. absurd e }
   at_park (reply.Mind until) can f does = record { fits = f; does = does; spinning = refl; few = tt; ended = λ e. absurd e }
+  at_park reply.LookAgain can f does = record { fits = f; does = does; spinning = refl; few = tt; ended = λ e. absurd e }
   at_park reply.AllAsleep can f does = record { fits = tt; does = does; spinning = refl; few = tt; ended = λ e. inr refl }
   at_park _ can f does = absurd can
 
@@ -156,6 +165,12 @@ module _ (procs : ℕ) (fresh : Bool) (turns : ℕ) (t : Table) (hand : PlainHan
   closes c asked n true f does spin = record { fits = record { has_processor = f.has_processor; has_held = retold_some _ hand.held ∙ f.has_held; has_called = f.has_called; has_to_claim = f.has_to_claim; has_to_store = refl }; does = does; spinning = spin; few = tt; ended = λ e. absurd e }
   closes c asked n false f does spin = record { fits = record { has_processor = f.has_processor; has_held = retold_some _ hand.held ∙ f.has_held; has_called = f.has_called; has_to_claim = f.has_to_claim; has_to_store = refl }; does = does; spinning = spin; few = tt; ended = λ e. absurd e }
 
+  -- a number, by which more processors are active than before, or not
+  numbered : (c : Call) (asked : Ask) (n : ℕ) (b : Bool) → SuitsPlace (place.Do asked) hand → ModeAt (place.Do asked) (mode_after c (reply.Number n) what) → spins_after c (reply.Number n) false ≡ false
+      → Lands procs (place.Do asked) c (reply.Number n) (if b then place.Poke else place.Run) (left_by (reply.Number n) hand) what
+  numbered c asked n true f does spin = record { fits = record { has_processor = f.has_processor; has_held = retold_some _ hand.held ∙ f.has_held; has_called = f.has_called; has_to_claim = f.has_to_claim; has_to_store = refl }; does = does; spinning = spin; few = tt; ended = λ e. absurd e }
+  numbered c asked n false f does spin = record { fits = record { has_processor = f.has_processor; has_held = retold_some _ hand.held ∙ f.has_held; has_called = f.has_called; has_to_claim = f.has_to_claim; has_to_store = refl }; does = does; spinning = spin; few = tt; ended = λ e. absurd e }
+
   at_goes : (c : Call) (asked : Ask) (answer : Reply) → Goes answer → SuitsPlace (place.Do asked) hand → ModeAt (place.Do asked) (mode_after c answer what)
       → spins_after c answer false ≡ false → Going c asked answer
   at_goes c asked (reply.Ticket r) can f does spin = record { fits = record { has_processor = f.has_processor; has_held = retold_some _ hand.held ∙ f.has_held; has_called = f.has_called; has_to_claim = f.has_to_claim; has_to_store = refl }; does = does; spinning = spin; few = tt; ended = λ e. absurd e }
@@ -166,7 +181,7 @@ module _ (procs : ℕ) (fresh : Bool) (turns : ℕ) (t : Table) (hand : PlainHan
   at_goes c asked (reply.Got v sent (Some x)) can f does spin = record { fits = record { has_processor = f.has_processor; has_held = retold_some _ hand.held ∙ f.has_held; has_called = f.has_called; has_to_claim = f.has_to_claim; has_to_store = refl }; does = does; spinning = spin; few = tt; ended = λ e. absurd e }
   at_goes c asked reply.Waits can f does spin = record { fits = record { has_processor = f.has_processor; has_held = refl; has_called = f.has_called; has_to_claim = f.has_to_claim; has_to_store = f.has_to_store }; does = does; spinning = spin; few = tt; ended = λ e. absurd e }
   at_goes c asked (reply.Closed n) can f does spin = closes c asked n (nat_lt 0 n) f does spin
-  at_goes c asked (reply.Number n) can f does spin = record { fits = record { has_processor = f.has_processor; has_held = retold_some _ hand.held ∙ f.has_held; has_called = f.has_called; has_to_claim = f.has_to_claim; has_to_store = refl }; does = does; spinning = spin; few = tt; ended = λ e. absurd e }
+  at_goes c asked (reply.Number n) can f does spin = numbered c asked n (raised n asked) f does spin
   at_goes c asked (reply.Chose i (taken.Sent None)) can f does spin = record { fits = record { has_processor = f.has_processor; has_held = retold_some _ hand.held ∙ f.has_held; has_called = f.has_called; has_to_claim = f.has_to_claim; has_to_store = refl }; does = does; spinning = spin; few = tt; ended = λ e. absurd e }
   at_goes c asked (reply.Chose i (taken.Sent (Some r))) can f does spin = record { fits = record { has_processor = f.has_processor; has_held = retold_some _ hand.held ∙ f.has_held; has_called = f.has_called; has_to_claim = f.has_to_claim; has_to_store = refl }; does = does; spinning = spin; few = tt; ended = λ e. absurd e }
   at_goes c asked (reply.Chose i (taken.Got v sent None)) can f does spin = record { fits = record { has_processor = f.has_processor; has_held = retold_some _ hand.held ∙ f.has_held; has_called = f.has_called; has_to_claim = f.has_to_claim; has_to_store = refl }; does = does; spinning = spin; few = tt; ended = λ e. absurd e }
@@ -191,6 +206,11 @@ module _ (procs : ℕ) (fresh : Bool) (turns : ℕ) (t : Table) (what : Option M
   at_put_store r (Some s) reply.Shelf can f does = record { fits = record { has_processor = f.has_processor; has_held = f.has_held; has_called = f.has_called; has_to_claim = f.has_to_claim; has_to_store = refl }; does = does; spinning = refl; few = tt; ended = λ e. absurd e }
   at_put_store r None reply.Shelf can f does = absurd (false≢true f.has_to_store)
   at_put_store r s _ can f does = absurd can
+
+  at_put_drain : (r : Readiness) (s : Option Readiness) (answer : Reply) → CanReply (call.Put r) answer → SuitsPlace place.PutDrain (held_with s) → ModeAt place.PutDrain what → Landing procs fresh turns t (held_with s) what (call.Put r) place.PutDrain answer
+  at_put_drain r (Some s) reply.Shelf can f does = record { fits = record { has_processor = f.has_processor; has_held = f.has_held; has_called = f.has_called; has_to_claim = f.has_to_claim; has_to_store = refl }; does = does; spinning = refl; few = tt; ended = λ e. absurd e }
+  at_put_drain r None reply.Shelf can f does = absurd (false≢true f.has_to_store)
+  at_put_drain r s _ can f does = absurd can
 
   at_put_have : (r : Readiness) (s : Option Readiness) (answer : Reply) → CanReply (call.Put r) answer → SuitsPlace place.PutHave (held_with s) → ModeAt place.PutHave what → Landing procs fresh turns t (held_with s) what (call.Put r) place.PutHave answer
   at_put_have r None reply.Shelf can f does = record { fits = record { has_processor = f.has_processor; has_held = f.has_held; has_called = f.has_called; has_to_claim = refl; has_to_store = f.has_to_store }; does = does; spinning = refl; few = tt; ended = λ e. absurd e }
@@ -222,6 +242,9 @@ module _ (procs : ℕ) (fresh : Bool) (turns : ℕ) (t : Table) (hand : PlainHan
   lands place.Start c answer is f does can awoke = subst (All place.Start answer) (call_is call.Acquire c is) (λ k a. at_start procs fresh turns t hand what answer k f does) can awoke
   lands place.Look c answer is f does can awoke = absurd (look_calls (nat_le 16 turns) c is)
   lands (place.Ticking now) c answer is f does can awoke = subst (All (place.Ticking now) answer) (call_is (call.Tick now) c is) (λ k a. at_ticking procs fresh turns t hand what now answer k f does) can awoke
+  lands place.Keep c answer is f does can awoke = subst (All place.Keep answer) (call_is call.Keep c is) (λ k a. at_keep procs fresh turns t hand what answer k f does) can awoke
+  lands place.Drain c answer is f does can awoke = absurd (let no : ⊥ = cc in no)
+  lands place.PutDrain c answer is f does can awoke = (let w = put_calls hand.to_store c is in subst (All place.PutDrain answer) w.2 (λ k a. at_put_drain procs fresh turns t what hand.processor hand.held hand.called hand.to_claim w.0 hand.to_store answer k f does) can awoke)
   lands place.Global c answer is f does can awoke = subst (All place.Global answer) (call_is call.Take c is) (λ k a. at_global procs fresh turns t hand what answer k f does) can awoke
   lands place.Spin c answer is f does can awoke = subst (All place.Spin answer) (call_is call.Spin c is) (λ k a. at_spin procs fresh turns t hand what answer k f does) can awoke
   lands (place.PutMore v goal) c answer is f does can awoke = (let w = put_calls hand.to_store c is in subst (All (place.PutMore v goal) answer) w.2 (λ k a. at_put_more procs fresh turns t what hand.processor hand.held hand.called hand.to_claim v goal w.0 hand.to_store answer k f does) can awoke)

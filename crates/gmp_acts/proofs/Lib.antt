@@ -14,3 +14,6 @@ pub mod Room
 pub mod Onward
 pub mod Losing
 pub mod Plain
+pub mod Passing
+pub mod Quiet
+pub mod Watching

@@ -42,11 +42,11 @@ abbrev pub FewTold : Told → Type 0
 FewTold (told.Asked asked) = HasFewCases asked
 FewTold how = Unit {0}
 
-no_put : (o : Option Readiness) (how : Told) → MayCome (put_call o) how → ⊥
+pub no_put : (o : Option Readiness) (how : Told) → MayCome (put_call o) how → ⊥
 no_put None how m = m
 no_put (Some r) how m = m
 
-no_claim : (b : Bool) (o : Option Readiness) (how : Told) → MayCome (if b then act.Call call.Poke else claim_call o) how → ⊥
+pub no_claim : (b : Bool) (o : Option Readiness) (how : Told) → MayCome (if b then act.Call call.Poke else claim_call o) how → ⊥
 no_claim true o how m = m
 no_claim false None how m = m
 no_claim false (Some r) how m = m
@@ -94,6 +94,10 @@ module _ (what : Option Mode) where
   -- s is what the table saw when it named the act, and t what it sees when it is told
   pub leads : (s t : Seen) (here : Place) (how : Told) → MayCome (act_at s here) how → FewTold how → Leads here (next_place t here how) what
   leads s t place.Look how m f = looked t (nat_le 16 s.turns) how m
+  leads s t place.Drain told.Drained m f = record { does = λ d. d; spinning = refl; few = tt; ended = λ e. e }
+  leads s t place.Drain told.Empty m f = record { does = λ d. d; spinning = refl; few = tt; ended = λ e. e }
+  leads s t place.Drain _ m f = absurd m
+  leads s t place.PutDrain how m f = absurd (no_put s.to_store how m)
   leads s t (place.Hunt None) (told.Drew word how) m f = hunts t None (begun t word) how
   leads s t (place.Hunt None) _ m f = absurd m
   leads s t (place.Hunt (Some r)) (told.Tried how) m f = hunts t (Some r) r how
@@ -144,6 +148,15 @@ ticket_fits x how r f m e =
     came_with r x.hand.to_claim (used (next_act x) x.hand) (unused (next_act x) x.hand) ∙ ap (λ (h : PlainHand). with_ticket r h x.hand.to_claim) (whole (next_act x) x.hand) in
     subst (FitsWith x how) all (can_be_told x how (with_ticket r (used (next_act x) x.hand) x.hand.to_claim) f m e).1
 
+-- a ticket that is drained is one to store
+pub drained_fits : (x : PlainMachine) (r : Readiness) → SuitsPlace x.place x.hand → next_act x ≡ act.Drain → FitsWith x told.Drained (record x.hand { to_store = Some r })
+drained_fits x r f e =
+    let came : PlainHand = record (used act.Drain x.hand) { to_store = Some r } in
+    let all : joined came (unused act.Drain x.hand) ≡ record x.hand { to_store = Some r } = ap (λ (h : PlainHand). let l : PlainHand = record h { to_store = Some r } in l) (whole act.Drain x.hand) in
+    subst (FitsWith x told.Drained) all
+    (subst (λ (a : Act). SuitsPlace x.place x.hand → MayCome a told.Drained → filled came ≡ come_back told.Drained (is_some x.hand.to_claim) (filled (used a x.hand)) → FitsWith x told.Drained (joined came (unused a x.hand))) e
+    (λ f m b. (can_be_told x told.Drained came f m b).1) f tt refl)
+
 -- a ticket that is pushed doesn't
 pub pushed_fits : (x : PlainMachine) → SuitsPlace x.place x.hand → next_act x ≡ act.Push → FitsWith x told.Pushed (record x.hand { to_store = None })
 pushed_fits x f e =
@@ -168,6 +181,7 @@ stolen_back t handed (Some r) = refl
 -- What an act finds in the registers
 abbrev pub Finds : Seen → Place → PlainHand → Act → Type 0
 Finds s here hand act.Pop = (hand.to_claim ≡ None) × (hand.to_store ≡ None)
+Finds s here hand act.Drain = (hand.to_claim ≡ None) × (hand.to_store ≡ None)
 Finds s here hand act.Hunt = hand.to_store ≡ None
 Finds s here hand (act.Steal v) = hand.to_store ≡ None
 Finds s here hand act.Push = (is_some hand.processor ≡ true) × (is_some hand.to_store ≡ true)
@@ -195,6 +209,8 @@ module _ (s : Seen) (hand : PlainHand) where
 
   pub finds : (here : Place) → SuitsPlace here hand → Finds s here hand (act_at s here)
   finds place.Look f = looks (nat_le 16 s.turns) f
+  finds place.Drain f = (none_of hand.to_claim f.has_to_claim, none_of hand.to_store f.has_to_store)
+  finds place.PutDrain f = puts place.PutDrain s.to_store
   finds (place.Hunt None) f = none_of hand.to_store f.has_to_store
   finds (place.Hunt (Some r)) f = none_of hand.to_store f.has_to_store
   finds (place.More v goal) f = none_of hand.to_store f.has_to_store

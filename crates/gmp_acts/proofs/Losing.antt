@@ -20,7 +20,7 @@ use Rattle.gmp_driver.specs.Seen.{number_of, own_processor, seen}
 use Rattle.gmp_driver.specs.Table.{act_at, after, next_act, next_place}
 use Rattle.gmp_acts.specs.declared.choice.Choice.{Choice}
 use Rattle.gmp_acts.specs.declared.made.Made.{Made}
-use Rattle.gmp_acts.specs.Acts.{Acts, Answers, DoesAct, given_back, popped_from, pushed, queue_of, stolen, stolen_from, with_local, with_queue, with_ticket}
+use Rattle.gmp_acts.specs.Acts.{Acts, Answers, DoesAct, given_back, drained_from, popped_from, pushed, queue_of, stolen, stolen_from, with_local, with_queue, with_ticket}
 use Rattle.gmp_acts.specs.Hands.{PlainMachine}
 use Rattle.gmp_acts.specs.Kept.{IsLocal, KeepsAll}
 use Rattle.gmp_acts.specs.Sound.{IsSound}
@@ -85,6 +85,16 @@ module _ (k : System) (m : MNo) (inside : m.0 < length k.machines) where
         subst (λ (q : Option PNo). KeepsAll k m (with_local k m (after (record X { hand = record X.hand { to_claim = Some t } }) told.Got, with_queue k.queues q rest))) (sym own)
         (took_keeps p.0 t rest told.Got None is free.1 free.0)
 
+    drains : (o : Option PNo) (queue : List Readiness) → own_processor (machine_at k m).hand ≡ o → queue_of k.queues o ≡ queue → next_act (machine_at k m) ≡ act.Drain
+        → KeepsAll k m (with_local k m (drained_from (machine_at k m) k.queues queue))
+    drains o [] own is e = told_keeps told.Empty
+    drains None (t ∷ rest) own is e = absurd (let no : [] ≡ t ∷ rest = is in cc)
+    drains (Some p) (t ∷ rest) own is e =
+        let free = found k m inside s act.Drain e in
+        subst (λ (q : Option PNo). KeepsAll k m (with_local k m (after (record X { hand = record X.hand { to_store = Some t } }) told.Drained, with_queue k.queues q rest))) (sym own)
+        (keeps (after (record X { hand = record X.hand { to_store = Some t } }) told.Drained) (set k.queues p.0 rest) refl refl refl (λ r.
+        (let a = taken k.queues p.0 t rest r is in let b : is_ticket r X.hand.to_store ≡ 0 = ap (is_ticket r) free.1 in omega (arith, a, b))))
+
     steals : (drawn : Option ℕ) (v : PNo) (queue : List Readiness) → get_or k.queues v.0 [] ≡ queue → (machine_at k m).hand.to_store ≡ None → KeepsAll k m (with_local k m (stolen_from (machine_at k m) drawn k.queues v queue))
     steals drawn v [] is free = told_keeps _
     steals drawn v (t ∷ rest) is free = took_keeps v.0 t rest _ (machine_at k m).hand.to_claim is free refl
@@ -105,6 +115,7 @@ module _ (k : System) (m : MNo) (inside : m.0 < length k.machines) where
 
     by_act : (a : Act) (choice : Choice) (k' : System) → IsLocal a → next_act (machine_at k m) ≡ a → DoesAct a k m choice k' → KeepsAll k m k'
     by_act act.Pop choice k' l e d = subst (KeepsAll k m) (sym d) (pops (own_processor X.hand) (queue_of k.queues (own_processor X.hand)) refl refl e)
+    by_act act.Drain choice k' l e d = subst (KeepsAll k m) (sym d) (drains (own_processor X.hand) (queue_of k.queues (own_processor X.hand)) refl refl e)
     by_act act.Push choice k' l e d = subst (KeepsAll k m) (sym d) (pushes X.hand.to_store choice.push_refused refl e)
     by_act act.Hunt choice k' l e d = subst (KeepsAll k m) (sym d) (steals_or (Some choice.word) (victim_of X.procs (begun (seen X) choice.word)) choice.unsure (found k m inside s act.Hunt e))
     by_act (act.Steal v) choice k' l e d = subst (KeepsAll k m) (sym d) (steals_or None v choice.unsure (found k m inside s (act.Steal v) e))

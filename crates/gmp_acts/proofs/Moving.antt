@@ -47,13 +47,13 @@ use Rattle.gmp_acts.specs.Hands.{hand_unmade}
 use Rattle.gmp_acts.specs.declared.choice.Choice.{Choice}
 use Rattle.gmp_acts.specs.declared.made.Made.{Made}
 use Rattle.gmp_acts.specs.System.{System, Has, machine_at, no_machine, held_number, called_number, is_same, is_ticket, in_hand, in_queue}
-use Rattle.gmp_acts.specs.Acts.{Answers, HasFewCases, Unmade, with_local, with_queue, queue_of, with_ticket, popped_from, stolen_from, stolen, pushed, given_back, DoesAct, Acts, ActsAll}
+use Rattle.gmp_acts.specs.Acts.{Answers, HasFewCases, Unmade, with_local, with_queue, queue_of, with_ticket, popped_from, drained_from, stolen_from, stolen, pushed, given_back, DoesAct, Acts, ActsAll}
 use Rattle.gmp_acts.specs.Sound.{Agrees, HasFewAt, IsEnd, IsSound}
 use Rattle.gmp_acts.proofs.Kept.{at_machine, hands_set, turns_few, accepted_sound}
 use Rattle.gmp_acts.proofs.Lands.{retold_some, some_of}
 use Rattle.gmp_acts.proofs.Turning.{retold_number}
 use Rattle.gmp_acts.proofs.Granted.{granted}
-use Rattle.gmp_acts.proofs.Local.{FewTold, Finds, Leads, finds, leads, popped_back, pushed_fits, same_fits, stolen_back, ticket_fits, unmade_leads}
+use Rattle.gmp_acts.proofs.Local.{FewTold, Finds, Leads, finds, leads, drained_fits, popped_back, pushed_fits, same_fits, stolen_back, ticket_fits, unmade_leads}
 
 -- An act of m on what it alone holds and on local queues: the tickets stay as many
 pub record Moves (k : System) (m : MNo) (queues : List (List Readiness)) (x : PlainMachine) : Type 0 where
@@ -214,7 +214,7 @@ over_from : (s : Seen) (here : Place) → next_place s here (told.Refused Over) 
 over_from s here = refl
 
 -- a make takes memory
-memory_is : (limits : Limits) (asked : Call) (s : State) → WantsMemory limits asked s → (capacity : ℕ) × (asked ≡ call.Make capacity)
+pub memory_is : (limits : Limits) (asked : Call) (s : State) → WantsMemory limits asked s → (capacity : ℕ) × (asked ≡ call.Make capacity)
 memory_is limits (call.Make capacity) s h = (capacity, refl)
 memory_is limits _ s h = absurd h
 
@@ -286,6 +286,23 @@ module _ (k : System) (m : MNo) (inside : m.0 < length k.machines) (s : IsSound 
       subst (λ (q : Option PNo). IsSound (with_local k m (after (record X { hand = record X.hand { to_claim = Some t } }) told.Got, with_queue k.queues q rest))) (sym own)
       (subst (λ (h : PlainHand). IsSound (record k { machines = set k.machines m.0 (after (record X { hand = h }) told.Got); queues = set k.queues p.0 rest })) taken
       (took act.Pop p.0 t rest told.Got e tt tt is free.1 (popped_back t X.hand free.0)))
+
+  drains : (o : Option PNo) (queue : List Readiness) → own_processor (machine_at k m).hand ≡ o → queue_of k.queues o ≡ queue → next_act (machine_at k m) ≡ act.Drain
+      → IsSound (with_local k m (drained_from (machine_at k m) k.queues queue))
+  drains o [] own is e = same_hand act.Drain told.Empty e tt tt refl
+  drains None (t ∷ rest) own is e = absurd (let no : [] ≡ t ∷ rest = is in cc)
+  drains (Some p) (t ∷ rest) own is e =
+      let free = found act.Drain e in
+      let hand : PlainHand = record X.hand { to_store = Some t } in
+      let count : (r : Readiness) → sum_by (in_queue r) (set k.queues p.0 rest) + in_hand r hand ≡ sum_by (in_queue r) k.queues + in_hand r X.hand = (λ (r : Readiness).
+      let a = taken k.queues p.0 t rest r is in let b : is_ticket r X.hand.to_store ≡ 0 = ap (is_ticket r) free.1 in omega (arith, a, b)) in
+      subst (λ (q : Option PNo). IsSound (with_local k m (after (record X { hand = hand }) told.Drained, with_queue k.queues q rest))) (sym own)
+      (moved_sound k m (set k.queues p.0 rest) (after (record X { hand = hand }) told.Drained) inside s (record {
+        agrees = agrees_told k.book m X told.Drained hand mine (record { processor = refl; held = refl; called = refl }) (drained_fits X t fits e) (leads_to act.Drain told.Drained hand e tt tt);
+        long = length-set k.queues p.0 rest;
+        at_most = λ r. (let c = count r in omega (arith, c));
+        same = λ goes r. count r;
+      }))
 
   steals : (v : PNo) (queue : List Readiness) → get_or k.queues v.0 [] ≡ queue → next_act (machine_at k m) ≡ act.Steal v → IsSound (with_local k m (stolen_from (machine_at k m) None k.queues v queue))
   steals v [] is e = same_hand (act.Steal v) (told.Tried tried.Empty) e tt tt refl
@@ -404,6 +421,7 @@ module _ (k : System) (m : MNo) (inside : m.0 < length k.machines) (s : IsSound 
   pub does : (a : Act) (choice : Choice) (k' : System) → HasFewCases choice.ask → next_act (machine_at k m) ≡ a → DoesAct a k m choice k' → IsSound k'
   does (act.Call asked) choice k' few e d = subst IsSound (sym d.4) (answers asked d.0 d.1 d.2 e d.3)
   does act.Pop choice k' few e d = subst IsSound (sym d) (pops (own_processor X.hand) (queue_of k.queues (own_processor X.hand)) refl refl e)
+  does act.Drain choice k' few e d = subst IsSound (sym d) (drains (own_processor X.hand) (queue_of k.queues (own_processor X.hand)) refl refl e)
   does act.Push choice k' few e d = subst IsSound (sym d) (pushes X.hand.to_store choice.push_refused refl e)
   does act.Hunt choice k' few e d = subst IsSound (sym d) (hunts_or choice.word (victim_of X.procs (begun (seen X) choice.word)) choice.unsure e)
   does (act.Steal v) choice k' few e d = subst IsSound (sym d) (steals_or v choice.unsure e)

@@ -75,6 +75,7 @@ module _ (k : System) (m : MNo) (inside : m.0 < length k.machines) (s : IsSound 
   does : (a : Act) (choice : Choice) → next_act (machine_at k m) ≡ a → (k' : System) × DoesAct a k m choice k'
   does (act.Call c) choice e = (let w = answered c e in (record k { book = w.1; machines = set k.machines m.0 w.0; own = w.2 }, (w.0, w.1, w.2, w.3, refl)))
   does act.Pop choice e = (_, refl)
+  does act.Drain choice e = (_, refl)
   does act.Push choice e = (_, refl)
   does act.Hunt choice e = (_, refl)
   does (act.Steal v) choice e = (_, refl)
@@ -132,6 +133,7 @@ from_answers x m c book own x' book' own' (inr (inr (inr declined))) = from_equa
 opened_by : (a : Act) (k : System) (m : MNo) (choice : Choice) (k' : System) → DoesAct a k m choice k' → SameOpening k.book k'.book
 opened_by (act.Call c) k m choice k' d = subst (λ (j : System). SameOpening k.book j.book) (sym d.4) (from_answers (machine_at k m) m c k.book k.own d.0 d.1 d.2 d.3)
 opened_by act.Pop k m choice k' d = from_equal k.book k'.book (ap (λ (j : System). j.book) d)
+opened_by act.Drain k m choice k' d = from_equal k.book k'.book (ap (λ (j : System). j.book) d)
 opened_by act.Push k m choice k' d = from_equal k.book k'.book (ap (λ (j : System). j.book) d)
 opened_by act.Hunt k m choice k' d = from_equal k.book k'.book (ap (λ (j : System). j.book) d)
 opened_by (act.Steal v) k m choice k' d = from_equal k.book k'.book (ap (λ (j : System). j.book) d)

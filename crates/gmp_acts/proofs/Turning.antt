@@ -31,6 +31,7 @@ use Rattle.gmp_seq.specs.declared.status.Place.TheVariants.{Shelf, Out}
 use Rattle.gmp_seq.specs.declared.status.Status.{Status}
 use Rattle.gmp_seq.specs.declared.status.Status.TheVariants as status
 use Rattle.gmp_seq.specs.declared.status.Transfer.TheVariants.{Handed, Relayed, Failed, Stored, First, Drained}
+use Rattle.gmp_seq.specs.Machines.{Sets}
 use Rattle.gmp_seq.specs.State.{State}
 use Rattle.gmp_seq.specs.Step
 use Rattle.gmp_seq.specs.Table.{Table, IsRunning, IsCalling, status_at, epoch_at, next_of, is_held, is_out, is_parked, is_waiting, set_status, made_ready, made_wait, all_woken, due_answer}
@@ -431,6 +432,11 @@ module _ (m : MNo) (old new : State) (hand : PlainHand) (store : hand.to_store �
   tells_turn number c (reply.Fault fault.NoSuchChannel) (h, is, more) = stays (ap rows is) (on_same _ hand None store refl)
   tells_turn number c _ (h, is, more) = absurd h
 
+  sets_turn : (n : ℕ) (answer : Reply) → Step.OnMachines (Sets n answer) old new → Turn m old.table new.table hand (left_by answer hand)
+  sets_turn n (reply.Number before) (h, is, rest) = stays (ap rows is) (on_same _ hand None store refl)
+  sets_turn n (reply.Fault fault.BadProcs) (h, is, rest) = stays (ap rows is) (on_same _ hand None store refl)
+  sets_turn n _ (h, is, rest) = absurd h
+
 same_hand : (hand : PlainHand) → SameHand hand hand
 same_hand hand = record { held = refl; called = refl; tickets = λ r. refl }
 
@@ -438,7 +444,8 @@ parks_turn : (m : MNo) (answer : Reply) (old new : State) (hand : PlainHand) →
 parks_turn m reply.Work old new hand (work, (is, rest, more)) = stays (ap rows is) (same_hand hand)
 parks_turn m reply.AllAsleep old new hand (work, asleep, (is, rest, more)) = stays (ap rows is) (same_hand hand)
 parks_turn m (reply.Mind until) old new hand (work, astir, minds, (is, rest, more)) = stays (ap rows is) (same_hand hand)
-parks_turn m reply.Parked old new hand (work, astir, minds, is, rest, more) = stays (ap rows is) (same_hand hand)
+parks_turn m reply.LookAgain old new hand (work, astir, minds, marked, (is, rest, more)) = stays (ap rows is) (same_hand hand)
+parks_turn m reply.Parked old new hand (work, astir, minds, unmarked, is, rest, more) = stays (ap rows is) (same_hand hand)
 parks_turn m _ old new hand h = absurd h
 
 -- each call, by a machine whose registers are as the call finds them
@@ -458,6 +465,7 @@ effect_turn limits m (call.Recv c) answer old new hand u runs calls (g, running,
 effect_turn limits m (call.Close c) answer old new hand u runs calls (g, running, h) = closes_turn m old new hand u.2 c answer h
 effect_turn limits m (call.Len c) answer old new hand u runs calls (g, running, h) = tells_turn m old new hand u.2 _ c answer h
 effect_turn limits m (call.Cap c) answer old new hand u runs calls (g, running, h) = tells_turn m old new hand u.2 _ c answer h
+effect_turn limits m (call.Procs n) answer old new hand u runs calls (g, running, h) = sets_turn m old new hand u.2 n answer h
 effect_turn limits m (call.Select cases has_default until) answer old new hand u runs calls (few, (g, running, h)) = selects_turn m old new hand u.2 g cases has_default until answer running h
 effect_turn limits m (call.Sleep until) answer old new hand u runs calls (g, running, (h, rest, more)) = sleeps_turn m _ _ hand g until answer running h
 effect_turn limits m call.Gopark answer old new hand u runs calls (g, running, (h, rest, more)) = goparks_turn m _ _ hand g answer running h
@@ -466,6 +474,7 @@ effect_turn limits m call.Enter answer old new hand u runs calls (g, running, (i
 effect_turn limits m (call.Leave number) answer old new hand u runs calls (g, calling, (h, rest, more)) = resumes_turn m _ _ hand g number answer calling ((calls g).1 calling) u.1 h
 effect_turn limits m call.Spin answer old new hand u runs calls (free, (h, is, rest)) = stays (ap rows is) (same_hand hand)
 effect_turn limits m call.Woken answer old new hand u runs calls (h, is, rest) = stays (ap rows is) (same_hand hand)
+effect_turn limits m call.Keep answer old new hand u runs calls (h, is, rest) = stays (ap rows is) (same_hand hand)
 effect_turn limits m call.Unspin answer old new hand u runs calls (h, is, rest) = stays (ap rows is) (same_hand hand)
 effect_turn limits m call.Poke answer old new hand u runs calls (h, is, rest) = stays (ap rows is) (same_hand hand)
 effect_turn limits m call.Declare answer old new hand u runs calls (free, (h, is, rest)) = stays (ap rows is) (record { held = refl; called = refl; tickets = λ r. refl })

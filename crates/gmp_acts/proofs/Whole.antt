@@ -100,7 +100,7 @@ headline_of k s = record {
 
 -- The opening
 
-sum_zero : {A : Type 0} (f : A → ℕ) (xs : List A) (d : A) → ((i : ℕ) → i < length xs → f (get_or xs i d) ≡ 0) → sum_by f xs ≡ 0
+pub sum_zero : {A : Type 0} (f : A → ℕ) (xs : List A) (d : A) → ((i : ℕ) → i < length xs → f (get_or xs i d) ≡ 0) → sum_by f xs ≡ 0
 sum_zero f [] d h = refl
 sum_zero f (x ∷ xs) d h =
     let first : f x ≡ 0 = h 0 (omega arith) in
@@ -113,7 +113,7 @@ same_row zero i x y at = absurd cc
 same_row (suc n) zero x y at = cc
 same_row (suc n) (suc i) x y at = same_row n i x y at
 
-row_there : {A : Type 0} (n i : ℕ) (x : A) → i < n → slice_get (replicate n x) i ≡ Some x
+pub row_there : {A : Type 0} (n i : ℕ) (x : A) → i < n → slice_get (replicate n x) i ≡ Some x
 row_there zero i x h = absurd (omega arith)
 row_there (suc n) zero x h = refl
 row_there (suc n) (suc i) x h = row_there n i x (omega arith)

@@ -120,6 +120,15 @@ popped_from x queues (r ∷ rest) =
 abbrev pub popped : PlainMachine → List (List Readiness) → WithQueues
 popped x queues = popped_from x queues (queue_of queues (own_processor x.hand))
 
+-- the machine takes the first of the own queue, to store it, or there is none
+abbrev pub drained_from : PlainMachine → List (List Readiness) → List Readiness → WithQueues
+drained_from x queues [] = (after x told.Empty, queues)
+drained_from x queues (r ∷ rest) =
+    (after (record x { hand = record x.hand { to_store = Some r } }) told.Drained, with_queue queues (own_processor x.hand) rest)
+
+abbrev pub drained : PlainMachine → List (List Readiness) → WithQueues
+drained x queues = drained_from x queues (queue_of queues (own_processor x.hand))
+
 -- what a machine is told of a steal: with the word, where it drew one
 abbrev pub tells : Option ℕ → Tried → Told
 tells None how = told.Tried how
@@ -157,6 +166,7 @@ with_told k m what = record k { machines = slice_set k.machines m.0 (after (mach
 abbrev pub DoesAct : Act → System → MNo → Choice → System → Type 0
 DoesAct (act.Call asked) k m choice k' = MakesCall k m asked k'
 DoesAct act.Pop k m choice k' = k' ≡ with_local k m (popped (machine_at k m) k.queues)
+DoesAct act.Drain k m choice k' = k' ≡ with_local k m (drained (machine_at k m) k.queues)
 DoesAct act.Push k m choice k' = k' ≡ with_local k m (pushed (machine_at k m) k.queues (machine_at k m).hand.to_store choice.push_refused)
 DoesAct act.Hunt k m choice k' =
     k' ≡ with_local k m (stolen (machine_at k m) (Some choice.word) k.queues (victim_of (machine_at k m).procs (begun (seen (machine_at k m)) choice.word)) choice.unsure)

@@ -89,6 +89,7 @@ hand_after t (call.Leave number) answer hand = record hand { called = None }
 hand_after t call.Declare answer hand = record hand { processor = None }
 hand_after t call.Spin answer hand = hand
 hand_after t call.Woken answer hand = hand
+hand_after t call.Keep answer hand = hand
 hand_after t call.Unspin answer hand = hand
 hand_after t call.Poke answer hand = hand
 hand_after t call.Bare answer hand = hand

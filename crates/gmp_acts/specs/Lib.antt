@@ -4,3 +4,4 @@ pub mod Acts
 pub mod Kept
 pub mod Sound
 pub mod Headline
+pub mod Lookouts

@@ -50,6 +50,7 @@ meet c l = record { processor = c.processor && l.processor; held = c.held && l.h
 -- what an act is handed, and what it leaves
 abbrev given_by : Act → Filled → Filled
 given_by act.Pop f = record none { processor = f.processor }
+given_by act.Drain f = record none { processor = f.processor }
 given_by act.Push f = record none { processor = f.processor; to_store = f.to_store }
 given_by act.Resume f = record none { held = f.held }
 given_by act.Block f = record none { called = f.called }
@@ -57,6 +58,7 @@ given_by _ f = none
 
 abbrev left_by : Act → Filled → Filled
 left_by act.Pop f = record f { processor = false }
+left_by act.Drain f = record f { processor = false }
 left_by act.Push f = record f { processor = false; to_store = false }
 left_by act.Resume f = record f { held = false }
 left_by act.Block f = record f { called = false }
@@ -187,6 +189,10 @@ module _ {T Q : Type 0} (procs : ℕ) (fresh : Bool) (turns : ℕ) (hand came : 
   pub at_place : (here : Place) (what : Told) → SuitsPlace here hand → MayCome (act_at (seen_of procs fresh turns hand) here) what → Came (act_at (seen_of procs fresh turns hand) here) what
       → Can (act_at (seen_of procs fresh turns hand) here) here what
   at_place place.Look what f m e = at_look (nat_le 16 turns) what f m e
+  at_place place.Drain told.Drained f m e = at act.Drain place.Drain told.Drained _ (with_proc f) refl refl e refl (λ h is. is_filled h _ is)
+  at_place place.Drain told.Empty f m e = at act.Drain place.Drain told.Empty _ (with_proc f) refl refl e refl (λ h is. is_filled h _ is)
+  at_place place.Drain _ f m e = absurd m
+  at_place place.PutDrain what f m e = absurd (no_put hand.to_store what m)
   at_place (place.Hunt None) (told.Drew word how) f m e = at_hunt word how f e
   at_place (place.Hunt None) _ f m e = absurd m
   at_place (place.Hunt (Some r)) (told.Tried how) f m e = at_victim r (victim_of procs r) how f e

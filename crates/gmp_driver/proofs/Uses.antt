@@ -59,6 +59,7 @@ module _ {T Q : Type 0} (procs : ℕ) (fresh : Bool) (turns : ℕ) (hand : Regis
   asks (ask.Cap n) f = (f.has_held, none_of hand.called f.has_called, none_of hand.to_store f.has_to_store)
   asks (ask.Select cases has_default until) f = (f.has_held, none_of hand.called f.has_called, none_of hand.to_store f.has_to_store)
   asks (ask.Sleep until) f = (f.has_held, none_of hand.called f.has_called, none_of hand.to_store f.has_to_store)
+  asks (ask.Procs n) f = (f.has_held, none_of hand.called f.has_called, none_of hand.to_store f.has_to_store)
   asks ask.Park f = (f.has_held, none_of hand.called f.has_called, none_of hand.to_store f.has_to_store)
   asks (ask.Ready g) f = (f.has_held, none_of hand.called f.has_called, none_of hand.to_store f.has_to_store)
   asks ask.Exit f = (f.has_held, none_of hand.called f.has_called, none_of hand.to_store f.has_to_store)
@@ -71,6 +72,9 @@ module _ {T Q : Type 0} (procs : ℕ) (fresh : Bool) (turns : ℕ) (hand : Regis
   uses_at place.Start c is f = is_the call.Acquire c is (none_of hand.processor f.has_processor)
   uses_at place.Look c is f = absurd (look_calls (nat_le 16 turns) c is)
   uses_at (place.Ticking now) c is f = is_the (call.Tick now) c is tt
+  uses_at place.Keep c is f = is_the call.Keep c is f.has_processor
+  uses_at place.Drain c is f = absurd (let no : ⊥ = cc in no)
+  uses_at place.PutDrain c is f = puts hand.to_store c is (stored hand.to_store refl f.has_to_store)
   uses_at place.Global c is f = is_the call.Take c is (none_of hand.to_claim f.has_to_claim)
   uses_at place.Spin c is f = is_the call.Spin c is (none_of hand.held f.has_held, none_of hand.called f.has_called)
   uses_at (place.PutMore v goal) c is f = puts hand.to_store c is (stored hand.to_store refl f.has_to_store)

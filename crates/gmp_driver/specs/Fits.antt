@@ -48,6 +48,9 @@ abbrev pub SuitsPlace : {T Q : Type 0} → Place → Registers T Q → Type 0
 SuitsPlace place.Start hand = HasNothing hand
 SuitsPlace place.Look hand = HasProcessor hand
 SuitsPlace (place.Ticking now) hand = HasProcessor hand
+SuitsPlace place.Keep hand = HasProcessor hand
+SuitsPlace place.Drain hand = HasProcessor hand
+SuitsPlace place.PutDrain hand = IsFilled true false false false true hand
 SuitsPlace place.Global hand = HasProcessor hand
 SuitsPlace place.Spin hand = HasProcessor hand
 SuitsPlace (place.Hunt r) hand = HasProcessor hand

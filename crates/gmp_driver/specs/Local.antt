@@ -22,6 +22,8 @@ filled hand = record { processor = is_some hand.processor; held = is_some hand.h
 abbrev pub MayCome : Act → Told → Type 0
 MayCome act.Pop told.Got = Unit {0}
 MayCome act.Pop told.Empty = Unit {0}
+MayCome act.Drain told.Drained = Unit {0}
+MayCome act.Drain told.Empty = Unit {0}
 MayCome act.Push told.Pushed = Unit {0}
 MayCome act.Push told.PushRefused = Unit {0}
 MayCome act.Hunt (told.Drew word how) = Unit {0}
@@ -40,6 +42,7 @@ filled_with_stolen false f = record f { to_claim = true }
 abbrev pub come_back : Told → Bool → Filled → Filled
 come_back told.Pushed has f = record f { to_store = false }
 come_back told.Got has f = record f { to_claim = true }
+come_back told.Drained has f = record f { to_store = true }
 come_back (told.Tried (tried.Got hint)) has f = filled_with_stolen has f
 come_back (told.Drew word (tried.Got hint)) has f = filled_with_stolen has f
 come_back what has f = f

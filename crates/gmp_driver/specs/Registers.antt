@@ -82,6 +82,7 @@ one_used (act.Call (call.Claim r)) hand = Some value.ToClaim
 one_used (act.Call (call.Leave number)) hand = Some value.Called
 one_used (act.Call call.Spin) hand = None
 one_used (act.Call call.Woken) hand = None
+one_used (act.Call call.Keep) hand = None
 one_used (act.Call call.Unspin) hand = None
 one_used (act.Call call.Poke) hand = None
 one_used (act.Call call.Declare) hand = Some value.Proc
@@ -91,6 +92,7 @@ one_used (act.Call (call.Tick moment)) hand = None
 -- all other calls are of the goroutine that runs
 one_used (act.Call asked) hand = Some value.Held
 one_used act.Pop hand = Some value.Proc
+one_used act.Drain hand = Some value.Proc
 one_used act.Push hand = Some value.ToStore
 one_used act.Resume hand = Some value.Held
 one_used act.Block hand = Some value.Called

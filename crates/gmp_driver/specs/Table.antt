@@ -36,6 +36,7 @@ call_for (ask.Len c) = call.Len c
 call_for (ask.Cap c) = call.Cap c
 call_for (ask.Select cases has_default until) = call.Select cases has_default until
 call_for (ask.Sleep until) = call.Sleep until
+call_for (ask.Procs n) = call.Procs n
 call_for ask.Park = call.Gopark
 call_for (ask.Ready g) = call.Ready g
 call_for ask.Block = call.Enter
@@ -56,6 +57,9 @@ abbrev pub act_at : Seen → Place → Act
 act_at x place.Start = act.Call call.Acquire
 act_at x place.Look = if nat_le 16 x.turns then act.Clock None else act.Pop
 act_at x (place.Ticking now) = act.Call (call.Tick now)
+act_at x place.Keep = act.Call call.Keep
+act_at x place.Drain = act.Drain
+act_at x place.PutDrain = put_call x.to_store
 act_at x place.Global = act.Call call.Take
 act_at x place.Spin = act.Call call.Spin
 act_at x (place.Hunt None) = act.Hunt
@@ -89,15 +93,21 @@ next_act x = act_at (seen x) x.place
 
 -- Where it stands then
 
+-- more processors are active than before
+abbrev pub raised : ℕ → Ask → Bool
+raised before (ask.Procs n) = nat_lt before n
+raised before asked = false
+
 -- after a call of the body. It waits, is shelved or is dead: Look. Entered: Block. Main ended: Over. It goes on otherwise: with a ticket Store,
--- after a close that woke somebody Poke, else Run.
-abbrev pub after_ask : Reply → Place
-after_ask reply.Waits = place.Look
-after_ask (reply.Shelved r) = place.Look
-after_ask reply.Dead = place.Look
-after_ask (reply.Entered p m) = place.Block
-after_ask reply.MainEnded = place.Over
-after_ask answer = if is_some (ticket_in answer) then place.Store else if nat_lt 0 (closed_in answer) then place.Poke else place.Run
+-- after a close that woke somebody, and where more processors are active, Poke, else Run.
+abbrev pub after_ask : Ask → Reply → Place
+after_ask asked reply.Waits = place.Look
+after_ask asked (reply.Shelved r) = place.Look
+after_ask asked reply.Dead = place.Look
+after_ask asked (reply.Entered p m) = place.Block
+after_ask asked reply.MainEnded = place.Over
+after_ask asked (reply.Number before) = if raised before asked then place.Poke else place.Run
+after_ask asked answer = if is_some (ticket_in answer) then place.Store else if nat_lt 0 (closed_in answer) then place.Poke else place.Run
 
 -- empty: the next queue, after the last Park
 abbrev pub scanned : ℕ → PNo → Place
@@ -111,7 +121,12 @@ next_place x here (told.Refused refusal.Over) = place.Over
 next_place x place.Start (told.Replied (reply.Proc p)) = place.Look
 next_place x place.Start (told.Replied reply.Nothing) = place.Bare
 next_place x place.Look (told.Moment now) = place.Ticking now
-next_place x (place.Ticking now) (told.Replied (reply.Woke n)) = place.Look
+next_place x (place.Ticking now) (told.Replied (reply.Woke n)) = if x.procs == 1 then place.Look else place.Keep
+next_place x place.Keep (told.Replied (reply.Answer true)) = place.Look
+next_place x place.Keep (told.Replied (reply.Answer false)) = place.Drain
+next_place x place.Drain told.Drained = place.PutDrain
+next_place x place.Drain told.Empty = place.Drop
+next_place x place.PutDrain (told.Replied reply.Shelf) = place.Drain
 next_place x place.Look told.Got = place.Claim
 next_place x place.Look told.Empty = place.Global
 next_place x place.Global (told.Replied (reply.Ticket r)) = place.Claim
@@ -131,7 +146,7 @@ next_place x place.Claim (told.Replied (reply.Wakes m)) = place.Claim
 next_place x place.Claim (told.Replied reply.Nothing) = place.Claim
 next_place x place.Claim (told.Replied reply.Held) = place.Run
 next_place x place.Run (told.Asked asked) = place.Do asked
-next_place x (place.Do asked) (told.Replied answer) = after_ask answer
+next_place x (place.Do asked) (told.Replied answer) = after_ask asked answer
 -- a make without memory
 next_place x (place.Do (ask.Make capacity)) (told.Refused refusal.OutOfMemory) = place.Run
 next_place x place.Store told.Pushed = place.Poke
@@ -154,6 +169,7 @@ next_place x place.Park (told.Replied reply.Parked) = place.Rest
 next_place x place.Park (told.Replied reply.Work) = place.Start
 next_place x place.Park (told.Replied (reply.Mind deadline)) = place.Mind deadline
 next_place x place.Park (told.Replied reply.AllAsleep) = place.Over
+next_place x place.Park (told.Replied reply.LookAgain) = place.Bare
 next_place x place.Rest (told.Replied (reply.Answer true)) = place.Start
 next_place x place.Rest (told.Replied (reply.Answer false)) = place.Rest
 next_place x (place.Mind deadline) (told.Moment now) = place.MindTick now

@@ -17,6 +17,7 @@ Uses (call.Leave number) hand = IsSome hand.called × (hand.held ≡ None) × (h
 Uses call.Declare hand = (hand.held ≡ None) × (hand.called ≡ None) × IsSome hand.processor
 Uses call.Spin hand = (hand.held ≡ None) × (hand.called ≡ None)
 Uses call.Woken hand = Unit {0}
+Uses call.Keep hand = IsSome hand.processor
 Uses call.Unspin hand = Unit {0}
 Uses call.Poke hand = Unit {0}
 Uses call.Bare hand = hand.processor ≡ None

@@ -20,6 +20,8 @@ pub enum Act {
     Call(Call),
     /// Pops its own queue.
     Pop,
+    /// Pops its own queue, and the ticket is one to store.
+    Drain,
     /// Pushes the ticket to store onto its own queue.
     Push,
     /// Draws a word, and steals from the first victim of the hunt that begins by it.
@@ -57,6 +59,8 @@ pub enum Told {
     Refused(Refusal),
     /// The own queue had a ticket.
     Got,
+    /// It had one, which is to store.
+    Drained,
     /// It had none.
     Empty,
     /// The word that was drawn, and what came of the steal from its first victim.

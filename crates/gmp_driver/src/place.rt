@@ -21,6 +21,12 @@ pub enum Place {
     Look,
     /// Tells the book this moment, in nanoseconds.
     Ticking(u64),
+    /// Asks whether it may keep its processor.
+    Keep,
+    /// Pops its own queue, before it gives its processor up.
+    Drain,
+    /// Puts the ticket onto the shelf.
+    PutDrain,
     /// Takes from the shelf.
     Global,
     /// Asks whether it may look for work at others.

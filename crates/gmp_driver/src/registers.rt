@@ -114,12 +114,13 @@ impl<T, Q> Registers<T, Q> {
             }
             Act::Call(Call::Claim(_)) => Some(Value::ToClaim),
             Act::Call(Call::Leave(_)) | Act::Block => Some(Value::Called),
-            Act::Call(Call::Declare) | Act::Pop => Some(Value::Proc),
+            Act::Call(Call::Declare) | Act::Pop | Act::Drain => Some(Value::Proc),
             Act::Call(
                 Call::Acquire
                 | Call::Take
                 | Call::Spin
                 | Call::Woken
+                | Call::Keep
                 | Call::Unspin
                 | Call::Poke
                 | Call::Bare

@@ -30,6 +30,7 @@ fn call_for(ask: &Ask) -> Call
             *until,
         ),
         Ask::Sleep(until) => Call::Sleep(*until),
+        Ask::Procs(n) => Call::Procs(*n),
         Ask::Park => Call::Gopark,
         Ask::Ready(g) => Call::Ready(*g),
         Ask::Block => Call::Enter,
@@ -70,6 +71,9 @@ pub(crate) fn act_at(here: &Place, seen: Seen) -> Act
         Place::Look if seen.turns >= 16 => Act::Clock(None),
         Place::Look => Act::Pop,
         Place::Ticking(now) => Act::Call(Call::Tick(*now)),
+        Place::Keep => Act::Call(Call::Keep),
+        Place::Drain => Act::Drain,
+        Place::PutDrain => put_call(seen.to_store),
         Place::Global => Act::Call(Call::Take),
         Place::Spin => Act::Call(Call::Spin),
         Place::Hunt(None) => Act::Hunt,
@@ -101,16 +105,27 @@ pub(crate) fn act_at(here: &Place, seen: Seen) -> Act
     }
 }
 
+/// Whether more processors are active than before.
+fn raised(before: u64, ask: &Ask) -> bool
+    ensures { result ≡ table.raised before ask.now }
+{
+    match ask {
+        Ask::Procs(n) => before < u64::from(*n),
+        _ => false,
+    }
+}
+
 /// Where a call of the body leads.
 #[inline(always)]
-fn after_ask(reply: Reply) -> Place
-    ensures { result ≡ table.after_ask reply }
+fn after_ask(ask: &Ask, reply: Reply) -> Place
+    ensures { result ≡ table.after_ask ask.now reply }
 {
     match reply {
         Reply::Waits | Reply::Shelved(_) | Reply::Dead => Place::Look,
         Reply::MainEnded => Place::Over,
         Reply::Entered(_, _) => Place::Block,
         _ if reply.ticket().is_some() => Place::Store,
+        Reply::Number(before) if raised(before, ask) => Place::Poke,
         _ if reply.closed() > 0 => Place::Poke,
         _ => Place::Run,
     }
@@ -135,8 +150,12 @@ fn go_on_by(here: &mut Place, seen: Seen, reply: Reply)
     let there = match (&*here, reply) {
         (Place::Start, Reply::Proc(_)) => Place::Look,
         (Place::Start, Reply::Nothing) => Place::Bare,
-        (Place::Ticking(_), Reply::Woke(_)) => Place::Look,
+        (Place::Ticking(_), Reply::Woke(_)) if seen.procs == 1 => Place::Look,
+        (Place::Ticking(_), Reply::Woke(_)) => Place::Keep,
         (Place::Global, Reply::Ticket(_)) => Place::Claim,
+        (Place::Keep, Reply::Answer(true)) => Place::Look,
+        (Place::Keep, Reply::Answer(false)) => Place::Drain,
+        (Place::PutDrain, Reply::Shelf) => Place::Drain,
         (Place::Global, Reply::Nothing) if seen.procs == 1 => Place::Drop,
         (Place::Global, Reply::Nothing) => Place::Spin,
         (Place::Spin, Reply::Answer(true)) => Place::Hunt(None),
@@ -146,7 +165,7 @@ fn go_on_by(here: &mut Place, seen: Seen, reply: Reply)
         (Place::Unspin, Reply::Done) => Place::Drop,
         (Place::Claim, Reply::Wakes(_) | Reply::Nothing) => Place::Claim,
         (Place::Claim, Reply::Held) => Place::Run,
-        (Place::Do(_), reply) => after_ask(reply),
+        (Place::Do(ask), reply) => after_ask(ask, reply),
         (Place::PutStore, Reply::Shelf) => Place::Poke,
         (Place::Poke, Reply::Wakes(_) | Reply::Nothing) => Place::Run,
         (Place::Leave(_), Reply::Runs(_)) => Place::Run,
@@ -160,6 +179,7 @@ fn go_on_by(here: &mut Place, seen: Seen, reply: Reply)
         (Place::Park, Reply::Work) => Place::Start,
         (Place::Park, Reply::Mind(deadline)) => Place::Mind(deadline),
         (Place::Park, Reply::AllAsleep) => Place::Over,
+        (Place::Park, Reply::LookAgain) => Place::Bare,
         (Place::Rest, Reply::Answer(true)) => Place::Start,
         (Place::Rest, Reply::Answer(false)) => Place::Rest,
         (Place::MindTick(_), Reply::Woke(_)) => Place::Start,
@@ -180,6 +200,8 @@ pub(crate) fn go_on(here: &mut Place, seen: Seen, told: Told)
         (Place::Look, Told::Moment(now)) => Place::Ticking(now),
         (Place::Look, Told::Got) => Place::Claim,
         (Place::Look, Told::Empty) => Place::Global,
+        (Place::Drain, Told::Drained) => Place::PutDrain,
+        (Place::Drain, Told::Empty) => Place::Drop,
         (Place::Hunt(None), Told::Drew(word, tried)) => seen.hunted(seen.begin(word), tried),
         (Place::Hunt(Some(round)), Told::Tried(tried)) => seen.hunted(*round, tried),
         (Place::More(v, goal), Told::Tried(Tried::Got(_))) => Place::StoreMore(

@@ -3,7 +3,7 @@ use Rattle.gmp_base.specs.declared.ask.Fault.TheVariants as fault
 use Rattle.gmp_base.specs.declared.ask.Woke.TheVariants as woke
 use Rattle.gmp_base.specs.declared.cases.Case.TheVariants as case
 use Rattle.gmp_seq.proofs.Runs.{run_join}
-use Rattle.gmp_rows.proofs.Traces.{goroutine, machine, processor, channel, ticket, entry, does, limits}
+use Rattle.gmp_rows.proofs.Traces.{goroutine, machine, processor, channel, ticket, entry, does, limits, under}
 use Rattle.gmp_seq.specs.Run.{Run}
 use Rattle.gmp_seq.specs.State.{State, opening}
 use Rattle.gmp_seq.specs.Waits.{new_channel}
@@ -36,7 +36,7 @@ late_after_1 =
     record {
       table = record { goroutines = does (status.Ready Shelf woke.Late) 2 ∷ []; arrivals = 1; clock = 50 };
       channels = new_channel 0 ∷ [];
-      machines = record { holders = None ∷ []; modes = mode.Awake ∷ []; spinning = false ∷ [] };
+      machines = record { holders = None ∷ []; modes = mode.Awake ∷ []; spinning = false ∷ []; marked = false ∷ []; active = 1 };
       counts = 8 ∷ [];
       outcome = None;
     }
@@ -44,7 +44,7 @@ late_after_1 =
 late_1_goes : Run (limits 1 1 16 10000) (opening (limits 1 1 16 10000) 1 (0 ∷ [])) late_1 late_after_1
 late_1_goes = (
   _,
-  (refl, (refl, ((refl, refl, refl, refl), refl, refl), refl, refl)),
+  (refl, (refl, ((refl, refl, (refl, under refl), refl), refl, refl), refl, refl)),
   (
     _,
     (refl, (refl, (refl, ((_, refl, refl), refl, refl)), refl, refl)),
@@ -87,7 +87,7 @@ late_after_2 =
     record {
       table = record { goroutines = does (status.Ready Out woke.Late) 2 ∷ []; arrivals = 1; clock = 50 };
       channels = new_channel 0 ∷ [];
-      machines = record { holders = Some (machine 0) ∷ []; modes = mode.Awake ∷ []; spinning = false ∷ [] };
+      machines = record { holders = Some (machine 0) ∷ []; modes = mode.Awake ∷ []; spinning = false ∷ []; marked = false ∷ []; active = 1 };
       counts = 10 ∷ [];
       outcome = None;
     }
@@ -95,7 +95,7 @@ late_after_2 =
 late_2_goes : Run (limits 1 1 16 10000) late_after_1 late_2 late_after_2
 late_2_goes = (
   _,
-  (refl, (refl, ((refl, refl, refl, refl), refl, refl), refl, refl)),
+  (refl, (refl, ((refl, refl, (refl, under refl), refl), refl, refl), refl, refl)),
   (
     _,
     (refl, (refl, (refl, ((_, refl, refl), refl, refl)), refl, refl)),
@@ -118,7 +118,7 @@ late_end =
     record {
       table = record { goroutines = does (status.Waiting (record { arrival = 1; kind = kind.Plain; offers = record { case = 0; channel = channel 0; deal = deal.Send 9 } ∷ []; until = None })) 2 ∷ []; arrivals = 2; clock = 50 };
       channels = new_channel 0 ∷ [];
-      machines = record { holders = None ∷ []; modes = mode.Awake ∷ []; spinning = false ∷ [] };
+      machines = record { holders = None ∷ []; modes = mode.Awake ∷ []; spinning = false ∷ []; marked = false ∷ []; active = 1 };
       counts = 16 ∷ [];
       outcome = Some outcome.AllAsleep;
     }
@@ -174,7 +174,7 @@ sleeping_after_1 =
     record {
       table = record { goroutines = does (status.Ready Shelf woke.Done) 2 ∷ []; arrivals = 1; clock = 50 };
       channels = [];
-      machines = record { holders = None ∷ []; modes = mode.Awake ∷ []; spinning = false ∷ [] };
+      machines = record { holders = None ∷ []; modes = mode.Awake ∷ []; spinning = false ∷ []; marked = false ∷ []; active = 1 };
       counts = 8 ∷ [];
       outcome = None;
     }
@@ -182,7 +182,7 @@ sleeping_after_1 =
 sleeping_1_goes : Run (limits 1 1 16 10000) (opening (limits 1 1 16 10000) 1 ([])) sleeping_1 sleeping_after_1
 sleeping_1_goes = (
   _,
-  (refl, (refl, ((refl, refl, refl, refl), refl, refl), refl, refl)),
+  (refl, (refl, ((refl, refl, (refl, under refl), refl), refl, refl), refl, refl)),
   (
     _,
     (refl, (refl, (refl, ((_, refl, refl), refl, refl)), refl, refl)),
@@ -231,7 +231,7 @@ sleeping_after_2 =
     record {
       table = record { goroutines = does (status.Waiting (record { arrival = 1; kind = kind.Sleep; offers = []; until = Some 45 })) 2 ∷ []; arrivals = 2; clock = 50 };
       channels = [];
-      machines = record { holders = None ∷ []; modes = mode.Awake ∷ []; spinning = false ∷ [] };
+      machines = record { holders = None ∷ []; modes = mode.Awake ∷ []; spinning = false ∷ []; marked = false ∷ []; active = 1 };
       counts = 16 ∷ [];
       outcome = None;
     }
@@ -239,7 +239,7 @@ sleeping_after_2 =
 sleeping_2_goes : Run (limits 1 1 16 10000) sleeping_after_1 sleeping_2 sleeping_after_2
 sleeping_2_goes = (
   _,
-  (refl, (refl, ((refl, refl, refl, refl), refl, refl), refl, refl)),
+  (refl, (refl, ((refl, refl, (refl, under refl), refl), refl, refl), refl, refl)),
   (
     _,
     (refl, (refl, (refl, ((_, refl, refl), refl, refl)), refl, refl)),
@@ -286,7 +286,7 @@ sleeping_end =
     record {
       table = record { goroutines = does status.Dead 3 ∷ []; arrivals = 2; clock = 50 };
       channels = [];
-      machines = record { holders = Some (machine 0) ∷ []; modes = mode.Awake ∷ []; spinning = false ∷ [] };
+      machines = record { holders = Some (machine 0) ∷ []; modes = mode.Awake ∷ []; spinning = false ∷ []; marked = false ∷ []; active = 1 };
       counts = 22 ∷ [];
       outcome = Some outcome.MainEnded;
     }
@@ -297,7 +297,7 @@ sleeping_3_goes = (
   (refl, (refl, (refl, ((refl, refl), refl, refl)), refl, refl)),
   (
     _,
-    (refl, (refl, ((refl, refl, refl, refl), refl, refl), refl, refl)),
+    (refl, (refl, ((refl, refl, (refl, under refl), refl), refl, refl), refl, refl)),
     (
       _,
       (refl, (refl, (refl, ((_, refl, refl), refl, refl)), refl, refl)),
@@ -342,7 +342,7 @@ ticking_after_1 =
     record {
       table = record { goroutines = does (status.Waiting (record { arrival = 0; kind = kind.Sleep; offers = []; until = Some 5 })) 1 ∷ []; arrivals = 1; clock = 3 };
       channels = [];
-      machines = record { holders = None ∷ []; modes = mode.Awake ∷ []; spinning = false ∷ [] };
+      machines = record { holders = None ∷ []; modes = mode.Awake ∷ []; spinning = false ∷ []; marked = false ∷ []; active = 1 };
       counts = 8 ∷ [];
       outcome = None;
     }
@@ -350,7 +350,7 @@ ticking_after_1 =
 ticking_1_goes : Run (limits 1 1 16 10000) (opening (limits 1 1 16 10000) 1 ([])) ticking_1 ticking_after_1
 ticking_1_goes = (
   _,
-  (refl, (refl, ((refl, refl, refl, refl), refl, refl), refl, refl)),
+  (refl, (refl, ((refl, refl, (refl, under refl), refl), refl, refl), refl, refl)),
   (
     _,
     (refl, (refl, (refl, ((_, refl, refl), refl, refl)), refl, refl)),
@@ -399,7 +399,7 @@ ticking_after_2 =
     record {
       table = record { goroutines = does (status.Ready Out woke.Done) 2 ∷ []; arrivals = 1; clock = 5 };
       channels = [];
-      machines = record { holders = Some (machine 0) ∷ []; modes = mode.Awake ∷ []; spinning = false ∷ [] };
+      machines = record { holders = Some (machine 0) ∷ []; modes = mode.Awake ∷ []; spinning = false ∷ []; marked = false ∷ []; active = 1 };
       counts = 16 ∷ [];
       outcome = None;
     }
@@ -407,7 +407,7 @@ ticking_after_2 =
 ticking_2_goes : Run (limits 1 1 16 10000) ticking_after_1 ticking_2 ticking_after_2
 ticking_2_goes = (
   _,
-  (refl, (refl, ((refl, refl, refl, refl), refl, refl), refl, refl)),
+  (refl, (refl, ((refl, refl, (refl, under refl), refl), refl, refl), refl, refl)),
   (
     _,
     (refl, (refl, (refl, ((refl, refl), refl, refl)), refl, refl)),
@@ -422,7 +422,7 @@ ticking_2_goes = (
           (refl, (refl, (refl, ((refl, refl), refl, refl)), refl, refl)),
           (
             _,
-            (refl, (refl, ((refl, refl, refl, refl), refl, refl), refl, refl)),
+            (refl, (refl, ((refl, refl, (refl, under refl), refl), refl, refl), refl, refl)),
             (
               _,
               (refl, (refl, (refl, ((_, refl, refl), refl, refl)), refl, refl)),
@@ -450,7 +450,7 @@ ticking_end =
     record {
       table = record { goroutines = does status.Dead 2 ∷ []; arrivals = 1; clock = 5 };
       channels = [];
-      machines = record { holders = Some (machine 0) ∷ []; modes = mode.Awake ∷ []; spinning = false ∷ [] };
+      machines = record { holders = Some (machine 0) ∷ []; modes = mode.Awake ∷ []; spinning = false ∷ []; marked = false ∷ []; active = 1 };
       counts = 18 ∷ [];
       outcome = Some outcome.MainEnded;
     }
@@ -490,7 +490,7 @@ two_deadlines_after_1 =
     record {
       table = record { goroutines = does (status.Waiting (record { arrival = 0; kind = kind.Sleep; offers = []; until = Some 20 })) 1 ∷ does (status.Waiting (record { arrival = 1; kind = kind.Sleep; offers = []; until = Some 30 })) 1 ∷ []; arrivals = 2; clock = 0 };
       channels = [];
-      machines = record { holders = Some (machine 0) ∷ []; modes = mode.Awake ∷ []; spinning = false ∷ [] };
+      machines = record { holders = Some (machine 0) ∷ []; modes = mode.Awake ∷ []; spinning = false ∷ []; marked = false ∷ []; active = 1 };
       counts = 8 ∷ [];
       outcome = None;
     }
@@ -498,7 +498,7 @@ two_deadlines_after_1 =
 two_deadlines_1_goes : Run (limits 1 1 16 10000) (opening (limits 1 1 16 10000) 2 ([])) two_deadlines_1 two_deadlines_after_1
 two_deadlines_1_goes = (
   _,
-  (refl, (refl, ((refl, refl, refl, refl), refl, refl), refl, refl)),
+  (refl, (refl, ((refl, refl, (refl, under refl), refl), refl, refl), refl, refl)),
   (
     _,
     (refl, (refl, (refl, ((_, refl, refl), refl, refl)), refl, refl)),
@@ -548,7 +548,7 @@ two_deadlines_end =
     record {
       table = record { goroutines = does status.Dead 2 ∷ does (status.Waiting (record { arrival = 1; kind = kind.Sleep; offers = []; until = Some 30 })) 1 ∷ []; arrivals = 2; clock = 25 };
       channels = [];
-      machines = record { holders = Some (machine 0) ∷ []; modes = mode.Awake ∷ []; spinning = false ∷ [] };
+      machines = record { holders = Some (machine 0) ∷ []; modes = mode.Awake ∷ []; spinning = false ∷ []; marked = false ∷ []; active = 1 };
       counts = 17 ∷ [];
       outcome = Some outcome.MainEnded;
     }
@@ -568,7 +568,7 @@ two_deadlines_2_goes = (
         (refl, (refl, (refl, ((refl, refl), refl, refl)), refl, refl)),
         (
           _,
-          (refl, (refl, ((refl, refl, refl, refl), refl, refl), refl, refl)),
+          (refl, (refl, ((refl, refl, (refl, under refl), refl), refl, refl), refl, refl)),
           (
             _,
             (refl, (refl, (refl, ((_, refl, refl), refl, refl)), refl, refl)),
@@ -615,7 +615,7 @@ sleeping_long_after_1 =
     record {
       table = record { goroutines = does (status.Ready Shelf woke.Done) 2 ∷ []; arrivals = 1; clock = 18446744073709551615 };
       channels = [];
-      machines = record { holders = None ∷ []; modes = mode.Awake ∷ []; spinning = false ∷ [] };
+      machines = record { holders = None ∷ []; modes = mode.Awake ∷ []; spinning = false ∷ []; marked = false ∷ []; active = 1 };
       counts = 8 ∷ [];
       outcome = None;
     }
@@ -623,7 +623,7 @@ sleeping_long_after_1 =
 sleeping_long_1_goes : Run (limits 1 1 16 10000) (opening (limits 1 1 16 10000) 1 ([])) sleeping_long_1 sleeping_long_after_1
 sleeping_long_1_goes = (
   _,
-  (refl, (refl, ((refl, refl, refl, refl), refl, refl), refl, refl)),
+  (refl, (refl, ((refl, refl, (refl, under refl), refl), refl, refl), refl, refl)),
   (
     _,
     (refl, (refl, (refl, ((_, refl, refl), refl, refl)), refl, refl)),
@@ -669,7 +669,7 @@ sleeping_long_end =
     record {
       table = record { goroutines = does status.Dead 2 ∷ []; arrivals = 1; clock = 18446744073709551615 };
       channels = [];
-      machines = record { holders = Some (machine 0) ∷ []; modes = mode.Awake ∷ []; spinning = false ∷ [] };
+      machines = record { holders = Some (machine 0) ∷ []; modes = mode.Awake ∷ []; spinning = false ∷ []; marked = false ∷ []; active = 1 };
       counts = 13 ∷ [];
       outcome = Some outcome.MainEnded;
     }
@@ -677,7 +677,7 @@ sleeping_long_end =
 sleeping_long_2_goes : Run (limits 1 1 16 10000) sleeping_long_after_1 sleeping_long_2 sleeping_long_end
 sleeping_long_2_goes = (
   _,
-  (refl, (refl, ((refl, refl, refl, refl), refl, refl), refl, refl)),
+  (refl, (refl, ((refl, refl, (refl, under refl), refl), refl, refl), refl, refl)),
   (
     _,
     (refl, (refl, (refl, ((_, refl, refl), refl, refl)), refl, refl)),
@@ -720,7 +720,7 @@ parking_after_1 =
     record {
       table = record { goroutines = does (status.Ready Shelf woke.Done) 2 ∷ does (status.Ready Out woke.First) 1 ∷ does (status.Ready Out woke.First) 1 ∷ []; arrivals = 0; clock = 0 };
       channels = [];
-      machines = record { holders = Some (machine 0) ∷ []; modes = mode.Awake ∷ []; spinning = false ∷ [] };
+      machines = record { holders = Some (machine 0) ∷ []; modes = mode.Awake ∷ []; spinning = false ∷ []; marked = false ∷ []; active = 1 };
       counts = 8 ∷ [];
       outcome = None;
     }
@@ -728,7 +728,7 @@ parking_after_1 =
 parking_1_goes : Run (limits 1 1 16 10000) (opening (limits 1 1 16 10000) 3 ([])) parking_1 parking_after_1
 parking_1_goes = (
   _,
-  (refl, (refl, ((refl, refl, refl, refl), refl, refl), refl, refl)),
+  (refl, (refl, ((refl, refl, (refl, under refl), refl), refl, refl), refl, refl)),
   (
     _,
     (refl, (refl, (refl, ((_, refl, refl), refl, refl)), refl, refl)),
@@ -777,7 +777,7 @@ parking_after_2 =
     record {
       table = record { goroutines = does (status.Running (machine 0)) 2 ∷ does (status.Waiting (record { arrival = 0; kind = kind.Sleep; offers = []; until = Some 100 })) 1 ∷ does (status.Ready Out woke.Done) 2 ∷ []; arrivals = 2; clock = 0 };
       channels = [];
-      machines = record { holders = Some (machine 0) ∷ []; modes = mode.Awake ∷ []; spinning = false ∷ [] };
+      machines = record { holders = Some (machine 0) ∷ []; modes = mode.Awake ∷ []; spinning = false ∷ []; marked = false ∷ []; active = 1 };
       counts = 16 ∷ [];
       outcome = None;
     }
@@ -829,7 +829,7 @@ parking_end =
     record {
       table = record { goroutines = does status.Dead 2 ∷ does (status.Waiting (record { arrival = 0; kind = kind.Sleep; offers = []; until = Some 100 })) 1 ∷ does (status.Ready Out woke.Done) 2 ∷ []; arrivals = 2; clock = 0 };
       channels = [];
-      machines = record { holders = Some (machine 0) ∷ []; modes = mode.Awake ∷ []; spinning = false ∷ [] };
+      machines = record { holders = Some (machine 0) ∷ []; modes = mode.Awake ∷ []; spinning = false ∷ []; marked = false ∷ []; active = 1 };
       counts = 19 ∷ [];
       outcome = Some outcome.MainEnded;
     }
@@ -873,7 +873,7 @@ nonsense_after_1 =
     record {
       table = record { goroutines = does (status.Waiting (record { arrival = 0; kind = kind.Select; offers = []; until = None })) 1 ∷ []; arrivals = 1; clock = 0 };
       channels = [];
-      machines = record { holders = Some (machine 0) ∷ []; modes = mode.Awake ∷ []; spinning = false ∷ [] };
+      machines = record { holders = Some (machine 0) ∷ []; modes = mode.Awake ∷ []; spinning = false ∷ []; marked = false ∷ []; active = 1 };
       counts = 8 ∷ [];
       outcome = None;
     }
@@ -881,7 +881,7 @@ nonsense_after_1 =
 nonsense_1_goes : Run (limits 1 1 16 10000) (opening (limits 1 1 16 10000) 1 ([])) nonsense_1 nonsense_after_1
 nonsense_1_goes = (
   _,
-  (refl, (refl, ((refl, refl, refl, refl), refl, refl), refl, refl)),
+  (refl, (refl, ((refl, refl, (refl, under refl), refl), refl, refl), refl, refl)),
   (
     _,
     (refl, (refl, (refl, ((_, refl, refl), refl, refl)), refl, refl)),
@@ -925,7 +925,7 @@ nonsense_end =
     record {
       table = record { goroutines = does (status.Waiting (record { arrival = 0; kind = kind.Select; offers = []; until = None })) 1 ∷ []; arrivals = 1; clock = 0 };
       channels = [];
-      machines = record { holders = None ∷ []; modes = mode.Awake ∷ []; spinning = false ∷ [] };
+      machines = record { holders = None ∷ []; modes = mode.Awake ∷ []; spinning = false ∷ []; marked = false ∷ []; active = 1 };
       counts = 11 ∷ [];
       outcome = Some outcome.AllAsleep;
     }

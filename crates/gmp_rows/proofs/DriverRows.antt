@@ -1,6 +1,6 @@
 -- Rows of a machine's program, worked by hand: the act of a place, where the machine stands once it was told this, and whether it is fresh
 -- then.
-use Rattle.std.proofs.Common.{◌≡◌, ℕ, Bool, true, false, Option, None, Some, [], refl}
+use Rattle.std.proofs.Common.{◌≡◌, ℕ, Bool, true, false, None, Some, [], refl}
 use Rattle.gmp_base.specs.declared.ask.Ask.TheVariants as ask
 use Rattle.gmp_base.specs.declared.ask.Fault.TheVariants as fault
 use Rattle.gmp_base.specs.declared.ask.Woke.TheVariants as woke
@@ -64,11 +64,26 @@ start_proc_1 = (refl, refl, refl)
 start_nothing : Leads usual place.Start (told.Replied reply.Nothing) (act.Call call.Acquire) place.Bare false
 start_nothing = (refl, refl, refl)
 
-ticking_5_woke_2 : Leads usual (place.Ticking 5) (told.Replied (reply.Woke 2)) (act.Call (call.Tick 5)) place.Look true
+ticking_5_woke_2 : Leads usual (place.Ticking 5) (told.Replied (reply.Woke 2)) (act.Call (call.Tick 5)) place.Keep true
 ticking_5_woke_2 = (refl, refl, refl)
 
-ticking_5_woke_0 : Leads usual (place.Ticking 5) (told.Replied (reply.Woke 0)) (act.Call (call.Tick 5)) place.Look false
+ticking_5_woke_0 : Leads usual (place.Ticking 5) (told.Replied (reply.Woke 0)) (act.Call (call.Tick 5)) place.Keep false
 ticking_5_woke_0 = (refl, refl, refl)
+
+keep_answer_true : Leads usual place.Keep (told.Replied (reply.Answer true)) (act.Call call.Keep) place.Look false
+keep_answer_true = (refl, refl, refl)
+
+keep_answer_false : Leads usual place.Keep (told.Replied (reply.Answer false)) (act.Call call.Keep) place.Drain false
+keep_answer_false = (refl, refl, refl)
+
+drain_drained : Leads usual place.Drain told.Drained act.Drain place.PutDrain false
+drain_drained = (refl, refl, refl)
+
+drain_empty : Leads usual place.Drain told.Empty act.Drain place.Drop false
+drain_empty = (refl, refl, refl)
+
+put_drain_shelf : Leads usual place.PutDrain (told.Replied reply.Shelf) (act.Call (call.Put (ticket 3 4))) place.Drain false
+put_drain_shelf = (refl, refl, refl)
 
 global_ticket : Leads usual place.Global (told.Replied (reply.Ticket ready)) (act.Call call.Take) place.Claim false
 global_ticket = (refl, refl, refl)
@@ -170,6 +185,15 @@ send_none_fault_send_on_closed = (refl, refl, refl)
 
 len_none_number_0 : Leads usual (place.Do (ask.Len None)) (told.Replied (reply.Number 0)) (act.Call (call.Len None)) place.Run false
 len_none_number_0 = (refl, refl, refl)
+
+procs_2_number_1 : Leads usual (place.Do (ask.Procs 2)) (told.Replied (reply.Number 1)) (act.Call (call.Procs 2)) place.Poke false
+procs_2_number_1 = (refl, refl, refl)
+
+procs_1_number_2 : Leads usual (place.Do (ask.Procs 1)) (told.Replied (reply.Number 2)) (act.Call (call.Procs 1)) place.Run false
+procs_1_number_2 = (refl, refl, refl)
+
+procs_9_fault_bad_procs : Leads usual (place.Do (ask.Procs 9)) (told.Replied (reply.Fault fault.BadProcs)) (act.Call (call.Procs 9)) place.Run false
+procs_9_fault_bad_procs = (refl, refl, refl)
 
 make_1_channel_0 : Leads usual (place.Do (ask.Make 1)) (told.Replied (reply.Channel (channel 0))) (act.Call (call.Make 1)) place.Run false
 make_1_channel_0 = (refl, refl, refl)
@@ -320,7 +344,7 @@ done_nothing = (refl, refl, refl)
 late_look_moment_5 : Leads late place.Look (told.Moment 5) (act.Clock None) (place.Ticking 5) false
 late_look_moment_5 = (refl, refl, refl)
 
-fresh_ticking_5_woke_0 : Leads fresh (place.Ticking 5) (told.Replied (reply.Woke 0)) (act.Call (call.Tick 5)) place.Look true
+fresh_ticking_5_woke_0 : Leads fresh (place.Ticking 5) (told.Replied (reply.Woke 0)) (act.Call (call.Tick 5)) place.Keep true
 fresh_ticking_5_woke_0 = (refl, refl, refl)
 
 fresh_claim_wakes_0 : Leads fresh place.Claim (told.Replied (reply.Wakes (machine 0))) (act.Call call.Poke) place.Claim false
@@ -328,6 +352,9 @@ fresh_claim_wakes_0 = (refl, refl, refl)
 
 fresh_claim_nothing : Leads fresh place.Claim (told.Replied reply.Nothing) (act.Call call.Poke) place.Claim false
 fresh_claim_nothing = (refl, refl, refl)
+
+alone_ticking_5_woke_0 : Leads alone (place.Ticking 5) (told.Replied (reply.Woke 0)) (act.Call (call.Tick 5)) place.Look false
+alone_ticking_5_woke_0 = (refl, refl, refl)
 
 alone_global_nothing : Leads alone place.Global (told.Replied reply.Nothing) (act.Call call.Take) place.Drop false
 alone_global_nothing = (refl, refl, refl)

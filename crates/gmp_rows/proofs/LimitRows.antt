@@ -1,7 +1,7 @@
 -- Worked traces that end at the limit of entries.
 use Rattle.gmp_base.specs.declared.ask.Woke.TheVariants as woke
 use Rattle.gmp_seq.proofs.Runs.{run_join}
-use Rattle.gmp_rows.proofs.Traces.{goroutine, machine, processor, ticket, entry, does, limits}
+use Rattle.gmp_rows.proofs.Traces.{goroutine, machine, processor, ticket, entry, does, limits, under}
 use Rattle.gmp_seq.specs.Run.{Run}
 use Rattle.gmp_seq.specs.State.{State, opening}
 use Rattle.gmp_seq.specs.declared.call.Call.TheVariants as call
@@ -32,7 +32,7 @@ filling_after_1 =
     record {
       table = record { goroutines = does (status.Ready Out woke.Done) 3 ∷ []; arrivals = 0; clock = 0 };
       channels = [];
-      machines = record { holders = Some (machine 0) ∷ []; modes = mode.Awake ∷ []; spinning = false ∷ [] };
+      machines = record { holders = Some (machine 0) ∷ []; modes = mode.Awake ∷ []; spinning = false ∷ []; marked = false ∷ []; active = 1 };
       counts = 8 ∷ [];
       outcome = None;
     }
@@ -40,7 +40,7 @@ filling_after_1 =
 filling_1_goes : Run (limits 1 1 16 16) (opening (limits 1 1 16 16) 1 ([])) filling_1 filling_after_1
 filling_1_goes = (
   _,
-  (refl, (refl, ((refl, refl, refl, refl), refl, refl), refl, refl)),
+  (refl, (refl, ((refl, refl, (refl, under refl), refl), refl, refl), refl, refl)),
   (
     _,
     (refl, (refl, (refl, ((_, refl, refl), refl, refl)), refl, refl)),
@@ -89,7 +89,7 @@ filling_end =
     record {
       table = record { goroutines = does (status.Ready Shelf woke.Done) 6 ∷ []; arrivals = 0; clock = 0 };
       channels = [];
-      machines = record { holders = Some (machine 0) ∷ []; modes = mode.Awake ∷ []; spinning = false ∷ [] };
+      machines = record { holders = Some (machine 0) ∷ []; modes = mode.Awake ∷ []; spinning = false ∷ []; marked = false ∷ []; active = 1 };
       counts = 16 ∷ [];
       outcome = Some outcome.BookFull;
     }
@@ -152,7 +152,7 @@ filling_late_after_1 =
     record {
       table = record { goroutines = does (status.Ready Out woke.Done) 3 ∷ []; arrivals = 0; clock = 0 };
       channels = [];
-      machines = record { holders = Some (machine 0) ∷ []; modes = mode.Awake ∷ []; spinning = false ∷ [] };
+      machines = record { holders = Some (machine 0) ∷ []; modes = mode.Awake ∷ []; spinning = false ∷ []; marked = false ∷ []; active = 1 };
       counts = 8 ∷ [];
       outcome = None;
     }
@@ -160,7 +160,7 @@ filling_late_after_1 =
 filling_late_1_goes : Run (limits 1 1 16 51) (opening (limits 1 1 16 51) 1 ([])) filling_late_1 filling_late_after_1
 filling_late_1_goes = (
   _,
-  (refl, (refl, ((refl, refl, refl, refl), refl, refl), refl, refl)),
+  (refl, (refl, ((refl, refl, (refl, under refl), refl), refl, refl), refl, refl)),
   (
     _,
     (refl, (refl, (refl, ((_, refl, refl), refl, refl)), refl, refl)),
@@ -209,7 +209,7 @@ filling_late_after_2 =
     record {
       table = record { goroutines = does (status.Ready Shelf woke.Done) 6 ∷ []; arrivals = 0; clock = 0 };
       channels = [];
-      machines = record { holders = Some (machine 0) ∷ []; modes = mode.Awake ∷ []; spinning = false ∷ [] };
+      machines = record { holders = Some (machine 0) ∷ []; modes = mode.Awake ∷ []; spinning = false ∷ []; marked = false ∷ []; active = 1 };
       counts = 16 ∷ [];
       outcome = None;
     }
@@ -266,7 +266,7 @@ filling_late_after_3 =
     record {
       table = record { goroutines = does (status.Running (machine 0)) 8 ∷ []; arrivals = 0; clock = 0 };
       channels = [];
-      machines = record { holders = Some (machine 0) ∷ []; modes = mode.Awake ∷ []; spinning = false ∷ [] };
+      machines = record { holders = Some (machine 0) ∷ []; modes = mode.Awake ∷ []; spinning = false ∷ []; marked = false ∷ []; active = 1 };
       counts = 24 ∷ [];
       outcome = None;
     }
@@ -323,7 +323,7 @@ filling_late_after_4 =
     record {
       table = record { goroutines = does (status.Ready Out woke.Done) 11 ∷ []; arrivals = 0; clock = 0 };
       channels = [];
-      machines = record { holders = Some (machine 0) ∷ []; modes = mode.Awake ∷ []; spinning = false ∷ [] };
+      machines = record { holders = Some (machine 0) ∷ []; modes = mode.Awake ∷ []; spinning = false ∷ []; marked = false ∷ []; active = 1 };
       counts = 32 ∷ [];
       outcome = None;
     }
@@ -380,7 +380,7 @@ filling_late_after_5 =
     record {
       table = record { goroutines = does (status.Ready Shelf woke.Done) 14 ∷ []; arrivals = 0; clock = 0 };
       channels = [];
-      machines = record { holders = Some (machine 0) ∷ []; modes = mode.Awake ∷ []; spinning = false ∷ [] };
+      machines = record { holders = Some (machine 0) ∷ []; modes = mode.Awake ∷ []; spinning = false ∷ []; marked = false ∷ []; active = 1 };
       counts = 40 ∷ [];
       outcome = None;
     }
@@ -437,7 +437,7 @@ filling_late_after_6 =
     record {
       table = record { goroutines = does (status.Running (machine 0)) 16 ∷ []; arrivals = 0; clock = 0 };
       channels = [];
-      machines = record { holders = Some (machine 0) ∷ []; modes = mode.Awake ∷ []; spinning = false ∷ [] };
+      machines = record { holders = Some (machine 0) ∷ []; modes = mode.Awake ∷ []; spinning = false ∷ []; marked = false ∷ []; active = 1 };
       counts = 48 ∷ [];
       outcome = None;
     }
@@ -489,7 +489,7 @@ filling_late_end =
     record {
       table = record { goroutines = does (status.Ready Out woke.Done) 17 ∷ []; arrivals = 0; clock = 0 };
       channels = [];
-      machines = record { holders = Some (machine 0) ∷ []; modes = mode.Awake ∷ []; spinning = false ∷ [] };
+      machines = record { holders = Some (machine 0) ∷ []; modes = mode.Awake ∷ []; spinning = false ∷ []; marked = false ∷ []; active = 1 };
       counts = 51 ∷ [];
       outcome = Some outcome.BookFull;
     }
@@ -537,7 +537,7 @@ exit_at_the_limit_after_1 =
     record {
       table = record { goroutines = does (status.Ready Out woke.Done) 3 ∷ []; arrivals = 0; clock = 0 };
       channels = [];
-      machines = record { holders = Some (machine 0) ∷ []; modes = mode.Awake ∷ []; spinning = false ∷ [] };
+      machines = record { holders = Some (machine 0) ∷ []; modes = mode.Awake ∷ []; spinning = false ∷ []; marked = false ∷ []; active = 1 };
       counts = 8 ∷ [];
       outcome = None;
     }
@@ -545,7 +545,7 @@ exit_at_the_limit_after_1 =
 exit_at_the_limit_1_goes : Run (limits 1 1 16 16) (opening (limits 1 1 16 16) 1 ([])) exit_at_the_limit_1 exit_at_the_limit_after_1
 exit_at_the_limit_1_goes = (
   _,
-  (refl, (refl, ((refl, refl, refl, refl), refl, refl), refl, refl)),
+  (refl, (refl, ((refl, refl, (refl, under refl), refl), refl, refl), refl, refl)),
   (
     _,
     (refl, (refl, (refl, ((_, refl, refl), refl, refl)), refl, refl)),
@@ -594,7 +594,7 @@ exit_at_the_limit_end =
     record {
       table = record { goroutines = does status.Dead 5 ∷ []; arrivals = 0; clock = 0 };
       channels = [];
-      machines = record { holders = Some (machine 0) ∷ []; modes = mode.Awake ∷ []; spinning = false ∷ [] };
+      machines = record { holders = Some (machine 0) ∷ []; modes = mode.Awake ∷ []; spinning = false ∷ []; marked = false ∷ []; active = 1 };
       counts = 16 ∷ [];
       outcome = Some outcome.MainEnded;
     }
@@ -657,7 +657,7 @@ asleep_at_the_limit_after_1 =
     record {
       table = record { goroutines = does (status.Ready Out woke.Done) 3 ∷ []; arrivals = 0; clock = 0 };
       channels = [];
-      machines = record { holders = Some (machine 0) ∷ []; modes = mode.Awake ∷ []; spinning = false ∷ [] };
+      machines = record { holders = Some (machine 0) ∷ []; modes = mode.Awake ∷ []; spinning = false ∷ []; marked = false ∷ []; active = 1 };
       counts = 8 ∷ [];
       outcome = None;
     }
@@ -665,7 +665,7 @@ asleep_at_the_limit_after_1 =
 asleep_at_the_limit_1_goes : Run (limits 1 1 16 16) (opening (limits 1 1 16 16) 1 ([])) asleep_at_the_limit_1 asleep_at_the_limit_after_1
 asleep_at_the_limit_1_goes = (
   _,
-  (refl, (refl, ((refl, refl, refl, refl), refl, refl), refl, refl)),
+  (refl, (refl, ((refl, refl, (refl, under refl), refl), refl, refl), refl, refl)),
   (
     _,
     (refl, (refl, (refl, ((_, refl, refl), refl, refl)), refl, refl)),
@@ -714,7 +714,7 @@ asleep_at_the_limit_end =
     record {
       table = record { goroutines = does (status.Waiting (record { arrival = 0; kind = kind.Parked; offers = []; until = None })) 4 ∷ []; arrivals = 1; clock = 0 };
       channels = [];
-      machines = record { holders = None ∷ []; modes = mode.Awake ∷ []; spinning = false ∷ [] };
+      machines = record { holders = None ∷ []; modes = mode.Awake ∷ []; spinning = false ∷ []; marked = false ∷ []; active = 1 };
       counts = 16 ∷ [];
       outcome = Some outcome.AllAsleep;
     }

@@ -1,7 +1,7 @@
 -- Worked traces of several machines and processors.
 use Rattle.gmp_base.specs.declared.ask.Woke.TheVariants as woke
 use Rattle.gmp_seq.proofs.Runs.{run_join}
-use Rattle.gmp_rows.proofs.Traces.{goroutine, machine, processor, ticket, entry, does, limits}
+use Rattle.gmp_rows.proofs.Traces.{goroutine, machine, processor, ticket, entry, does, limits, under}
 use Rattle.gmp_seq.specs.Run.{Run}
 use Rattle.gmp_seq.specs.State.{State, opening}
 use Rattle.gmp_seq.specs.declared.call.Call.TheVariants as call
@@ -31,7 +31,7 @@ handing_off_after_1 =
     record {
       table = record { goroutines = does (status.Running (machine 0)) 1 ∷ does (status.Ready Out woke.First) 1 ∷ []; arrivals = 0; clock = 0 };
       channels = [];
-      machines = record { holders = Some (machine 0) ∷ []; modes = mode.Awake ∷ mode.Parked ∷ []; spinning = false ∷ false ∷ [] };
+      machines = record { holders = Some (machine 0) ∷ []; modes = mode.Awake ∷ mode.Parked ∷ []; spinning = false ∷ false ∷ []; marked = false ∷ false ∷ []; active = 1 };
       counts = 5 ∷ 3 ∷ [];
       outcome = None;
     }
@@ -39,7 +39,7 @@ handing_off_after_1 =
 handing_off_1_goes : Run (limits 1 2 16 10000) (opening (limits 1 2 16 10000) 2 ([])) handing_off_1 handing_off_after_1
 handing_off_1_goes = (
   _,
-  (refl, (refl, ((refl, refl, refl, refl), refl, refl), refl, refl)),
+  (refl, (refl, ((refl, refl, (refl, under refl), refl), refl, refl), refl, refl)),
   (
     _,
     (refl, (refl, ((refl, refl, refl, refl), refl, refl), refl, refl)),
@@ -54,7 +54,7 @@ handing_off_1_goes = (
           (refl, (refl, ((refl, refl, refl), refl, ((_, refl, refl), refl, refl)), refl, refl)),
           (
             _,
-            (refl, (refl, ((refl, refl, refl), (refl, refl, refl, refl, refl, refl)), refl, refl)),
+            (refl, (refl, ((refl, refl, refl), (refl, refl, refl, refl, refl, refl, refl)), refl, refl)),
             (
               _,
               (refl, (refl, (goroutine 0, refl, ((refl, refl, refl), refl, refl)), refl, refl)),
@@ -82,7 +82,7 @@ handing_off_after_2 =
     record {
       table = record { goroutines = does (status.Calling (machine 0)) 1 ∷ does (status.Ready Out woke.First) 1 ∷ []; arrivals = 0; clock = 0 };
       channels = [];
-      machines = record { holders = None ∷ []; modes = mode.Calling ∷ mode.Awake ∷ []; spinning = false ∷ false ∷ [] };
+      machines = record { holders = None ∷ []; modes = mode.Calling ∷ mode.Awake ∷ []; spinning = false ∷ false ∷ []; marked = false ∷ true ∷ []; active = 1 };
       counts = 6 ∷ 4 ∷ [];
       outcome = None;
     }
@@ -108,7 +108,7 @@ handing_off_after_3 =
     record {
       table = record { goroutines = does (status.Calling (machine 0)) 1 ∷ does (status.Ready Out woke.First) 1 ∷ []; arrivals = 0; clock = 0 };
       channels = [];
-      machines = record { holders = Some (machine 1) ∷ []; modes = mode.Calling ∷ mode.Awake ∷ []; spinning = false ∷ false ∷ [] };
+      machines = record { holders = Some (machine 1) ∷ []; modes = mode.Calling ∷ mode.Awake ∷ []; spinning = false ∷ false ∷ []; marked = false ∷ true ∷ []; active = 1 };
       counts = 6 ∷ 5 ∷ [];
       outcome = None;
     }
@@ -116,7 +116,7 @@ handing_off_after_3 =
 handing_off_3_goes : Run (limits 1 2 16 10000) handing_off_after_2 handing_off_3 handing_off_after_3
 handing_off_3_goes = (
   _,
-  (refl, (refl, ((refl, refl, refl, refl), refl, refl), refl, refl)),
+  (refl, (refl, ((refl, refl, (refl, under refl), refl), refl, refl), refl, refl)),
   refl,
 )
 
@@ -131,7 +131,7 @@ handing_off_after_4 =
     record {
       table = record { goroutines = does (status.Ready Shelf (woke.Number 9)) 2 ∷ does (status.Ready Out woke.First) 1 ∷ []; arrivals = 0; clock = 0 };
       channels = [];
-      machines = record { holders = Some (machine 1) ∷ []; modes = mode.Awake ∷ mode.Awake ∷ []; spinning = false ∷ false ∷ [] };
+      machines = record { holders = Some (machine 1) ∷ []; modes = mode.Awake ∷ mode.Awake ∷ []; spinning = false ∷ false ∷ []; marked = false ∷ true ∷ []; active = 1 };
       counts = 8 ∷ 5 ∷ [];
       outcome = None;
     }
@@ -163,7 +163,7 @@ handing_off_end =
     record {
       table = record { goroutines = does status.Dead 2 ∷ does status.Dead 1 ∷ []; arrivals = 0; clock = 0 };
       channels = [];
-      machines = record { holders = Some (machine 1) ∷ []; modes = mode.Parked ∷ mode.Awake ∷ []; spinning = false ∷ false ∷ [] };
+      machines = record { holders = Some (machine 1) ∷ []; modes = mode.Parked ∷ mode.Awake ∷ []; spinning = false ∷ false ∷ []; marked = false ∷ true ∷ []; active = 1 };
       counts = 9 ∷ 11 ∷ [];
       outcome = Some outcome.MainEnded;
     }
@@ -177,7 +177,7 @@ handing_off_5_goes = (
     (refl, (refl, ((refl, refl, refl), refl, ((_, refl, refl), refl, refl)), refl, refl)),
     (
       _,
-      (refl, (refl, ((refl, refl, refl), (refl, refl, refl, refl, refl, refl)), refl, refl)),
+      (refl, (refl, ((refl, refl, refl), (refl, refl, refl, refl, refl, refl, refl)), refl, refl)),
       (
         _,
         (refl, (refl, (goroutine 1, refl, (((λ e. cc), refl), refl, refl)), refl, refl)),
@@ -207,6 +207,110 @@ handing_off_is_legal =
     (run_join (limits 1 2 16 10000) handing_off_after_3 handing_off_after_4 handing_off_end handing_off_4 (handing_off_5) handing_off_4_goes
     (handing_off_5_goes))))
 
+-- machine 1 has looked at the queue before machine 0 pushes onto it and goes into a blocking call, so it looks again, and finds the ticket
+abbrev pub looking_again_1 : List Entry
+looking_again_1 =
+    entry 0 0 call.Acquire (reply.Proc (processor 0)) ∷
+    entry 1 0 call.Acquire reply.Nothing ∷
+    entry 1 1 call.Bare reply.Done ∷
+    entry 0 1 call.Take (reply.Ticket (ticket 0 1)) ∷
+    entry 0 2 (call.Claim (ticket 0 1)) reply.Held ∷
+    entry 0 3 (call.Go (goroutine 1)) (reply.Ticket (ticket 1 1)) ∷
+    entry 0 4 call.Poke reply.Nothing ∷
+    entry 0 5 call.Enter (reply.Entered (processor 0) None) ∷
+    []
+
+abbrev pub looking_again_after_1 : State
+looking_again_after_1 =
+    record {
+      table = record { goroutines = does (status.Calling (machine 0)) 1 ∷ does (status.Ready Out woke.First) 1 ∷ []; arrivals = 0; clock = 0 };
+      channels = [];
+      machines = record { holders = None ∷ []; modes = mode.Calling ∷ mode.Awake ∷ []; spinning = false ∷ false ∷ []; marked = false ∷ true ∷ []; active = 1 };
+      counts = 6 ∷ 2 ∷ [];
+      outcome = None;
+    }
+
+looking_again_1_goes : Run (limits 1 2 16 10000) (opening (limits 1 2 16 10000) 2 ([])) looking_again_1 looking_again_after_1
+looking_again_1_goes = (
+  _,
+  (refl, (refl, ((refl, refl, (refl, under refl), refl), refl, refl), refl, refl)),
+  (
+    _,
+    (refl, (refl, ((refl, refl, refl, refl), refl, refl), refl, refl)),
+    (
+      _,
+      (refl, (refl, (((refl, refl, refl), refl), refl, refl), refl, refl)),
+      (
+        _,
+        (refl, (refl, (refl, ((_, refl, refl), refl, refl)), refl, refl)),
+        (
+          _,
+          (refl, (refl, ((refl, refl, refl), refl, ((_, refl, refl), refl, refl)), refl, refl)),
+          (
+            _,
+            (refl, (refl, (goroutine 0, refl, ((refl, refl, refl), refl, refl)), refl, refl)),
+            (
+              _,
+              (refl, (refl, ((refl, refl, refl), refl, refl), refl, refl)),
+              (
+                _,
+                (refl, (refl, (goroutine 0, refl, (refl, (refl, refl, refl), refl)), refl, refl)),
+                refl,
+              ),
+            ),
+          ),
+        ),
+      ),
+    ),
+  ),
+)
+
+abbrev pub looking_again_2 : List Entry
+looking_again_2 =
+    entry 1 2 call.Park reply.LookAgain ∷
+    entry 1 3 call.Bare reply.Done ∷
+    entry 1 4 call.Acquire (reply.Proc (processor 0)) ∷
+    entry 1 5 call.Poke reply.Nothing ∷
+    entry 1 6 (call.Claim (ticket 1 1)) reply.Held ∷
+    []
+
+abbrev pub looking_again_end : State
+looking_again_end =
+    record {
+      table = record { goroutines = does (status.Calling (machine 0)) 1 ∷ does (status.Running (machine 1)) 1 ∷ []; arrivals = 0; clock = 0 };
+      channels = [];
+      machines = record { holders = Some (machine 1) ∷ []; modes = mode.Calling ∷ mode.Awake ∷ []; spinning = false ∷ false ∷ []; marked = false ∷ false ∷ []; active = 1 };
+      counts = 6 ∷ 7 ∷ [];
+      outcome = None;
+    }
+
+looking_again_2_goes : Run (limits 1 2 16 10000) looking_again_after_1 looking_again_2 looking_again_end
+looking_again_2_goes = (
+  _,
+  (refl, (refl, ((refl, refl, refl), (refl, refl, refl, refl, (refl, refl, refl))), refl, refl)),
+  (
+    _,
+    (refl, (refl, (((refl, refl, refl), refl), refl, refl), refl, refl)),
+    (
+      _,
+      (refl, (refl, ((refl, refl, (refl, under refl), refl), refl, refl), refl, refl)),
+      (
+        _,
+        (refl, (refl, ((refl, refl, refl), refl, refl), refl, refl)),
+        (
+          _,
+          (refl, (refl, ((refl, refl, refl), refl, ((_, refl, refl), refl, refl)), refl, refl)),
+          refl,
+        ),
+      ),
+    ),
+  ),
+)
+
+pub looking_again_is_legal : Run (limits 1 2 16 10000) (opening (limits 1 2 16 10000) 2 ([])) (looking_again_1 ++ looking_again_2) looking_again_end
+looking_again_is_legal =
+    run_join (limits 1 2 16 10000) (opening (limits 1 2 16 10000) 2 ([])) looking_again_after_1 looking_again_end looking_again_1 looking_again_2 looking_again_1_goes looking_again_2_goes
+
 -- a call that finds its processor again
 abbrev pub blocking : List Entry
 blocking =
@@ -223,7 +327,7 @@ blocking_end =
     record {
       table = record { goroutines = does status.Dead 1 ∷ []; arrivals = 0; clock = 0 };
       channels = [];
-      machines = record { holders = Some (machine 0) ∷ []; modes = mode.Awake ∷ []; spinning = false ∷ [] };
+      machines = record { holders = Some (machine 0) ∷ []; modes = mode.Awake ∷ []; spinning = false ∷ []; marked = false ∷ []; active = 1 };
       counts = 6 ∷ [];
       outcome = Some outcome.MainEnded;
     }
@@ -231,7 +335,7 @@ blocking_end =
 pub blocking_is_legal : Run (limits 1 1 16 10000) (opening (limits 1 1 16 10000) 1 ([])) blocking blocking_end
 blocking_is_legal = (
   _,
-  (refl, (refl, ((refl, refl, refl, refl), refl, refl), refl, refl)),
+  (refl, (refl, ((refl, refl, (refl, under refl), refl), refl, refl), refl, refl)),
   (
     _,
     (refl, (refl, (refl, ((_, refl, refl), refl, refl)), refl, refl)),
@@ -243,7 +347,7 @@ blocking_is_legal = (
         (refl, (refl, (goroutine 0, refl, (refl, (refl, refl, refl), refl)), refl, refl)),
         (
           _,
-          (refl, (refl, (goroutine 0, refl, (refl, (refl, refl), refl)), refl, refl)),
+          (refl, (refl, (goroutine 0, refl, (refl, ((refl, under refl), refl), refl)), refl, refl)),
           (
             _,
             (refl, (refl, (goroutine 0, refl, ((refl, refl), refl, refl)), refl, refl)),
@@ -273,7 +377,7 @@ helping_after_1 =
     record {
       table = record { goroutines = does (status.Running (machine 0)) 1 ∷ does (status.Ready Out woke.First) 1 ∷ does status.Dormant 0 ∷ []; arrivals = 0; clock = 0 };
       channels = [];
-      machines = record { holders = Some (machine 0) ∷ Some (machine 1) ∷ []; modes = mode.Awake ∷ mode.Awake ∷ []; spinning = false ∷ false ∷ [] };
+      machines = record { holders = Some (machine 0) ∷ Some (machine 1) ∷ []; modes = mode.Awake ∷ mode.Awake ∷ []; spinning = false ∷ false ∷ []; marked = false ∷ false ∷ []; active = 2 };
       counts = 4 ∷ 4 ∷ [];
       outcome = None;
     }
@@ -281,10 +385,10 @@ helping_after_1 =
 helping_1_goes : Run (limits 2 2 16 10000) (opening (limits 2 2 16 10000) 3 ([])) helping_1 helping_after_1
 helping_1_goes = (
   _,
-  (refl, (refl, ((refl, refl, refl, refl), refl, refl), refl, refl)),
+  (refl, (refl, ((refl, refl, (refl, under refl), refl), refl, refl), refl, refl)),
   (
     _,
-    (refl, (refl, ((refl, refl, refl, refl), refl, refl), refl, refl)),
+    (refl, (refl, ((refl, refl, (refl, under refl), refl), refl, refl), refl, refl)),
     (
       _,
       (refl, (refl, (refl, ((_, refl, refl), refl, refl)), refl, refl)),
@@ -330,7 +434,7 @@ helping_after_2 =
     record {
       table = record { goroutines = does (status.Running (machine 0)) 1 ∷ does status.Dead 1 ∷ does (status.Ready Out woke.First) 1 ∷ []; arrivals = 0; clock = 0 };
       channels = [];
-      machines = record { holders = Some (machine 0) ∷ Some (machine 1) ∷ []; modes = mode.Awake ∷ mode.Awake ∷ []; spinning = false ∷ false ∷ [] };
+      machines = record { holders = Some (machine 0) ∷ Some (machine 1) ∷ []; modes = mode.Awake ∷ mode.Awake ∷ []; spinning = false ∷ false ∷ []; marked = false ∷ false ∷ []; active = 2 };
       counts = 7 ∷ 9 ∷ [];
       outcome = None;
     }
@@ -344,7 +448,7 @@ helping_2_goes = (
     (refl, (refl, ((refl, refl, refl), refl, refl), refl, refl)),
     (
       _,
-      (refl, (refl, ((refl, refl, refl, refl), refl, refl), refl, refl)),
+      (refl, (refl, ((refl, refl, (refl, under refl), refl), refl, refl), refl, refl)),
       (
         _,
         (refl, (refl, (goroutine 0, refl, ((refl, refl, refl), refl, refl)), refl, refl)),
@@ -385,7 +489,7 @@ helping_end =
     record {
       table = record { goroutines = does status.Dead 2 ∷ does status.Dead 1 ∷ does status.Dead 1 ∷ []; arrivals = 0; clock = 0 };
       channels = [];
-      machines = record { holders = Some (machine 0) ∷ Some (machine 1) ∷ []; modes = mode.Awake ∷ mode.Awake ∷ []; spinning = false ∷ false ∷ [] };
+      machines = record { holders = Some (machine 0) ∷ Some (machine 1) ∷ []; modes = mode.Awake ∷ mode.Awake ∷ []; spinning = false ∷ false ∷ []; marked = false ∷ false ∷ []; active = 2 };
       counts = 10 ∷ 12 ∷ [];
       outcome = Some outcome.MainEnded;
     }
@@ -442,7 +546,7 @@ stealing_after_1 =
     record {
       table = record { goroutines = does (status.Running (machine 0)) 1 ∷ does (status.Ready Out woke.First) 1 ∷ does (status.Ready Out woke.First) 1 ∷ does (status.Ready Out woke.First) 1 ∷ []; arrivals = 0; clock = 0 };
       channels = [];
-      machines = record { holders = Some (machine 0) ∷ None ∷ []; modes = mode.Awake ∷ mode.Awake ∷ []; spinning = false ∷ false ∷ [] };
+      machines = record { holders = Some (machine 0) ∷ None ∷ []; modes = mode.Awake ∷ mode.Awake ∷ []; spinning = false ∷ false ∷ []; marked = false ∷ false ∷ []; active = 2 };
       counts = 9 ∷ 0 ∷ [];
       outcome = None;
     }
@@ -450,7 +554,7 @@ stealing_after_1 =
 stealing_1_goes : Run (limits 2 2 16 10000) (opening (limits 2 2 16 10000) 4 ([])) stealing_1 stealing_after_1
 stealing_1_goes = (
   _,
-  (refl, (refl, ((refl, refl, refl, refl), refl, refl), refl, refl)),
+  (refl, (refl, ((refl, refl, (refl, under refl), refl), refl, refl), refl, refl)),
   (
     _,
     (refl, (refl, (refl, ((_, refl, refl), refl, refl)), refl, refl)),
@@ -502,7 +606,7 @@ stealing_end =
     record {
       table = record { goroutines = does (status.Running (machine 0)) 1 ∷ does (status.Running (machine 1)) 1 ∷ does (status.Ready Shelf woke.First) 1 ∷ does (status.Ready Out woke.First) 1 ∷ []; arrivals = 0; clock = 0 };
       channels = [];
-      machines = record { holders = Some (machine 0) ∷ Some (machine 1) ∷ []; modes = mode.Awake ∷ mode.Awake ∷ []; spinning = false ∷ false ∷ [] };
+      machines = record { holders = Some (machine 0) ∷ Some (machine 1) ∷ []; modes = mode.Awake ∷ mode.Awake ∷ []; spinning = false ∷ false ∷ []; marked = false ∷ false ∷ []; active = 2 };
       counts = 9 ∷ 7 ∷ [];
       outcome = None;
     }
@@ -510,7 +614,7 @@ stealing_end =
 stealing_2_goes : Run (limits 2 2 16 10000) stealing_after_1 stealing_2 stealing_end
 stealing_2_goes = (
   _,
-  (refl, (refl, ((refl, refl, refl, refl), refl, refl), refl, refl)),
+  (refl, (refl, ((refl, refl, (refl, under refl), refl), refl, refl), refl, refl)),
   (
     _,
     (refl, (refl, (refl, ((refl, refl), refl, refl)), refl, refl)),
@@ -559,7 +663,7 @@ spinning_end =
     record {
       table = record { goroutines = does (status.Ready Shelf woke.First) 1 ∷ []; arrivals = 0; clock = 0 };
       channels = [];
-      machines = record { holders = None ∷ None ∷ []; modes = mode.Awake ∷ mode.Awake ∷ mode.Awake ∷ []; spinning = false ∷ true ∷ true ∷ [] };
+      machines = record { holders = None ∷ None ∷ []; modes = mode.Awake ∷ mode.Awake ∷ mode.Awake ∷ []; spinning = false ∷ true ∷ true ∷ []; marked = false ∷ false ∷ false ∷ []; active = 2 };
       counts = 3 ∷ 1 ∷ 2 ∷ [];
       outcome = None;
     }
@@ -608,7 +712,7 @@ poking_end =
     record {
       table = record { goroutines = does (status.Ready Out woke.First) 1 ∷ []; arrivals = 0; clock = 0 };
       channels = [];
-      machines = record { holders = Some (machine 0) ∷ None ∷ []; modes = mode.Awake ∷ mode.Awake ∷ mode.Awake ∷ []; spinning = false ∷ false ∷ false ∷ [] };
+      machines = record { holders = Some (machine 0) ∷ None ∷ []; modes = mode.Awake ∷ mode.Awake ∷ mode.Awake ∷ []; spinning = false ∷ false ∷ false ∷ []; marked = false ∷ false ∷ false ∷ []; active = 2 };
       counts = 4 ∷ 2 ∷ 1 ∷ [];
       outcome = None;
     }
@@ -616,13 +720,13 @@ poking_end =
 pub poking_is_legal : Run (limits 2 3 16 10000) (opening (limits 2 3 16 10000) 1 ([])) poking poking_end
 poking_is_legal = (
   _,
-  (refl, (refl, ((refl, refl, refl, refl), refl, refl), refl, refl)),
+  (refl, (refl, ((refl, refl, (refl, under refl), refl), refl, refl), refl, refl)),
   (
     _,
     (refl, (refl, (refl, ((_, refl, refl), refl, refl)), refl, refl)),
     (
       _,
-      (refl, (refl, ((refl, refl, refl), (refl, refl, refl, refl, refl, refl)), refl, refl)),
+      (refl, (refl, ((refl, refl, refl), (refl, refl, refl, refl, refl, refl, refl)), refl, refl)),
       (
         _,
         (refl, (refl, (refl, ((refl, refl, refl), refl, refl)), refl, refl)),
@@ -658,7 +762,7 @@ parking_machines_end =
     record {
       table = record { goroutines = does (status.Ready Shelf woke.First) 1 ∷ []; arrivals = 0; clock = 0 };
       channels = [];
-      machines = record { holders = Some (machine 0) ∷ []; modes = mode.Awake ∷ mode.Parked ∷ []; spinning = false ∷ false ∷ [] };
+      machines = record { holders = Some (machine 0) ∷ []; modes = mode.Awake ∷ mode.Parked ∷ []; spinning = false ∷ false ∷ []; marked = false ∷ false ∷ []; active = 1 };
       counts = 2 ∷ 2 ∷ [];
       outcome = None;
     }
@@ -669,10 +773,10 @@ parking_machines_is_legal = (
   (refl, (refl, ((refl, refl, refl), (refl, (refl, refl, refl))), refl, refl)),
   (
     _,
-    (refl, (refl, ((refl, refl, refl, refl), refl, refl), refl, refl)),
+    (refl, (refl, ((refl, refl, (refl, under refl), refl), refl, refl), refl, refl)),
     (
       _,
-      (refl, (refl, ((refl, refl, refl), (refl, refl, refl, refl, refl, refl)), refl, refl)),
+      (refl, (refl, ((refl, refl, refl), (refl, refl, refl, refl, refl, refl, refl)), refl, refl)),
       (
         _,
         (refl, (refl, ((refl, refl, refl), refl, refl), refl, refl)),
@@ -681,3 +785,106 @@ parking_machines_is_legal = (
     ),
   ),
 )
+
+-- the number of active processors goes down to one and up again: who holds the other gives it up, and is woken for it
+abbrev pub changing_1 : List Entry
+changing_1 =
+    entry 0 0 call.Acquire (reply.Proc (processor 0)) ∷
+    entry 1 0 call.Acquire (reply.Proc (processor 1)) ∷
+    entry 0 1 call.Take (reply.Ticket (ticket 0 1)) ∷
+    entry 0 2 (call.Claim (ticket 0 1)) reply.Held ∷
+    entry 0 3 (call.Procs 1) (reply.Number 2) ∷
+    entry 1 1 call.Keep (reply.Answer false) ∷
+    entry 0 4 call.Keep (reply.Answer true) ∷
+    entry 1 2 call.Declare (reply.Idle (processor 1)) ∷
+    []
+
+abbrev pub changing_after_1 : State
+changing_after_1 =
+    record {
+      table = record { goroutines = does (status.Running (machine 0)) 1 ∷ []; arrivals = 0; clock = 0 };
+      channels = [];
+      machines = record { holders = Some (machine 0) ∷ None ∷ []; modes = mode.Awake ∷ mode.Awake ∷ []; spinning = false ∷ false ∷ []; marked = false ∷ false ∷ []; active = 1 };
+      counts = 5 ∷ 3 ∷ [];
+      outcome = None;
+    }
+
+changing_1_goes : Run (limits 2 2 16 10000) (opening (limits 2 2 16 10000) 1 ([])) changing_1 changing_after_1
+changing_1_goes = (
+  _,
+  (refl, (refl, ((refl, refl, (refl, under refl), refl), refl, refl), refl, refl)),
+  (
+    _,
+    (refl, (refl, ((refl, refl, (refl, under refl), refl), refl, refl), refl, refl)),
+    (
+      _,
+      (refl, (refl, (refl, ((_, refl, refl), refl, refl)), refl, refl)),
+      (
+        _,
+        (refl, (refl, ((refl, refl, refl), refl, ((_, refl, refl), refl, refl)), refl, refl)),
+        (
+          _,
+          (refl, (refl, (goroutine 0, refl, ((refl, refl, refl), refl, refl)), refl, refl)),
+          (
+            _,
+            (refl, (refl, ((refl, processor 1, refl, refl, refl), refl, refl), refl, refl)),
+            (
+              _,
+              (refl, (refl, ((refl, processor 0, refl, refl, refl), refl, refl), refl, refl)),
+              (
+                _,
+                (refl, (refl, (refl, ((refl, refl, refl), refl, refl)), refl, refl)),
+                refl,
+              ),
+            ),
+          ),
+        ),
+      ),
+    ),
+  ),
+)
+
+abbrev pub changing_2 : List Entry
+changing_2 =
+    entry 1 3 call.Acquire reply.Nothing ∷
+    entry 1 4 call.Park reply.Parked ∷
+    entry 0 5 call.Poke reply.Nothing ∷
+    entry 0 6 (call.Procs 2) (reply.Number 1) ∷
+    entry 0 7 call.Poke (reply.Wakes (machine 1)) ∷
+    []
+
+abbrev pub changing_end : State
+changing_end =
+    record {
+      table = record { goroutines = does (status.Running (machine 0)) 1 ∷ []; arrivals = 0; clock = 0 };
+      channels = [];
+      machines = record { holders = Some (machine 0) ∷ None ∷ []; modes = mode.Awake ∷ mode.Awake ∷ []; spinning = false ∷ false ∷ []; marked = false ∷ false ∷ []; active = 2 };
+      counts = 8 ∷ 5 ∷ [];
+      outcome = None;
+    }
+
+changing_2_goes : Run (limits 2 2 16 10000) changing_after_1 changing_2 changing_end
+changing_2_goes = (
+  _,
+  (refl, (refl, ((refl, refl, refl, refl), refl, refl), refl, refl)),
+  (
+    _,
+    (refl, (refl, ((refl, refl, refl), (refl, refl, refl, refl, refl, refl, refl)), refl, refl)),
+    (
+      _,
+      (refl, (refl, ((refl, refl, refl), refl, refl), refl, refl)),
+      (
+        _,
+        (refl, (refl, (goroutine 0, refl, ((refl, refl, refl), refl, refl)), refl, refl)),
+        (
+          _,
+          (refl, (refl, ((refl, refl, refl, refl), refl, refl), refl, refl)),
+          refl,
+        ),
+      ),
+    ),
+  ),
+)
+
+pub changing_is_legal : Run (limits 2 2 16 10000) (opening (limits 2 2 16 10000) 1 ([])) (changing_1 ++ changing_2) changing_end
+changing_is_legal = run_join (limits 2 2 16 10000) (opening (limits 2 2 16 10000) 1 ([])) changing_after_1 changing_end changing_1 changing_2 changing_1_goes changing_2_goes

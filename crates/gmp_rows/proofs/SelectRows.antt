@@ -3,7 +3,7 @@ use Rattle.gmp_base.specs.declared.ask.Fault.TheVariants as fault
 use Rattle.gmp_base.specs.declared.ask.Woke.TheVariants as woke
 use Rattle.gmp_base.specs.declared.cases.Case.TheVariants as case
 use Rattle.gmp_seq.proofs.Runs.{run_join}
-use Rattle.gmp_rows.proofs.Traces.{goroutine, machine, processor, channel, ticket, entry, does, limits}
+use Rattle.gmp_rows.proofs.Traces.{goroutine, machine, processor, channel, ticket, entry, does, limits, under}
 use Rattle.gmp_seq.specs.Run.{Run}
 use Rattle.gmp_seq.specs.State.{State, opening}
 use Rattle.gmp_seq.specs.Waits.{new_channel}
@@ -37,7 +37,7 @@ selecting_alone_end =
     record {
       table = record { goroutines = does (status.Waiting (record { arrival = 0; kind = kind.Select; offers = record { case = 0; channel = channel 0; deal = deal.Send 7 } ∷ record { case = 1; channel = channel 0; deal = deal.Receive } ∷ []; until = None })) 1 ∷ []; arrivals = 1; clock = 0 };
       channels = new_channel 0 ∷ [];
-      machines = record { holders = None ∷ []; modes = mode.Awake ∷ []; spinning = false ∷ [] };
+      machines = record { holders = None ∷ []; modes = mode.Awake ∷ []; spinning = false ∷ []; marked = false ∷ []; active = 1 };
       counts = 7 ∷ [];
       outcome = Some outcome.AllAsleep;
     }
@@ -45,7 +45,7 @@ selecting_alone_end =
 pub selecting_alone_is_legal : Run (limits 1 1 16 10000) (opening (limits 1 1 16 10000) 1 (0 ∷ [])) selecting_alone selecting_alone_end
 selecting_alone_is_legal = (
   _,
-  (refl, (refl, ((refl, refl, refl, refl), refl, refl), refl, refl)),
+  (refl, (refl, ((refl, refl, (refl, under refl), refl), refl, refl), refl, refl)),
   (
     _,
     (refl, (refl, (refl, ((_, refl, refl), refl, refl)), refl, refl)),
@@ -91,7 +91,7 @@ selecting_after_1 =
     record {
       table = record { goroutines = does (status.Ready Shelf woke.Done) 2 ∷ does (status.Waiting (record { arrival = 0; kind = kind.Select; offers = record { case = 0; channel = channel 0; deal = deal.Send 8 } ∷ record { case = 1; channel = channel 0; deal = deal.Receive } ∷ []; until = None })) 1 ∷ []; arrivals = 1; clock = 0 };
       channels = new_channel 0 ∷ [];
-      machines = record { holders = Some (machine 0) ∷ []; modes = mode.Awake ∷ []; spinning = false ∷ [] };
+      machines = record { holders = Some (machine 0) ∷ []; modes = mode.Awake ∷ []; spinning = false ∷ []; marked = false ∷ []; active = 1 };
       counts = 8 ∷ [];
       outcome = None;
     }
@@ -99,7 +99,7 @@ selecting_after_1 =
 selecting_1_goes : Run (limits 1 1 16 10000) (opening (limits 1 1 16 10000) 2 (0 ∷ [])) selecting_1 selecting_after_1
 selecting_1_goes = (
   _,
-  (refl, (refl, ((refl, refl, refl, refl), refl, refl), refl, refl)),
+  (refl, (refl, ((refl, refl, (refl, under refl), refl), refl, refl), refl, refl)),
   (
     _,
     (refl, (refl, (refl, ((_, refl, refl), refl, refl)), refl, refl)),
@@ -145,7 +145,7 @@ selecting_end =
     record {
       table = record { goroutines = does status.Dead 2 ∷ does (status.Ready Out (woke.Chose 1 (Some (7, true)))) 2 ∷ []; arrivals = 1; clock = 0 };
       channels = new_channel 0 ∷ [];
-      machines = record { holders = Some (machine 0) ∷ []; modes = mode.Awake ∷ []; spinning = false ∷ [] };
+      machines = record { holders = Some (machine 0) ∷ []; modes = mode.Awake ∷ []; spinning = false ∷ []; marked = false ∷ []; active = 1 };
       counts = 13 ∷ [];
       outcome = Some outcome.MainEnded;
     }
@@ -196,7 +196,7 @@ selecting_otherwise_after_1 =
     record {
       table = record { goroutines = does (status.Ready Shelf woke.Done) 2 ∷ does (status.Waiting (record { arrival = 0; kind = kind.Select; offers = record { case = 0; channel = channel 0; deal = deal.Send 8 } ∷ record { case = 1; channel = channel 0; deal = deal.Receive } ∷ []; until = None })) 1 ∷ []; arrivals = 1; clock = 0 };
       channels = new_channel 0 ∷ [];
-      machines = record { holders = Some (machine 0) ∷ []; modes = mode.Awake ∷ []; spinning = false ∷ [] };
+      machines = record { holders = Some (machine 0) ∷ []; modes = mode.Awake ∷ []; spinning = false ∷ []; marked = false ∷ []; active = 1 };
       counts = 8 ∷ [];
       outcome = None;
     }
@@ -204,7 +204,7 @@ selecting_otherwise_after_1 =
 selecting_otherwise_1_goes : Run (limits 1 1 16 10000) (opening (limits 1 1 16 10000) 2 (0 ∷ [])) selecting_otherwise_1 selecting_otherwise_after_1
 selecting_otherwise_1_goes = (
   _,
-  (refl, (refl, ((refl, refl, refl, refl), refl, refl), refl, refl)),
+  (refl, (refl, ((refl, refl, (refl, under refl), refl), refl, refl), refl, refl)),
   (
     _,
     (refl, (refl, (refl, ((_, refl, refl), refl, refl)), refl, refl)),
@@ -250,7 +250,7 @@ selecting_otherwise_end =
     record {
       table = record { goroutines = does status.Dead 2 ∷ does (status.Ready Out (woke.Chose 0 None)) 2 ∷ []; arrivals = 1; clock = 0 };
       channels = new_channel 0 ∷ [];
-      machines = record { holders = Some (machine 0) ∷ []; modes = mode.Awake ∷ []; spinning = false ∷ [] };
+      machines = record { holders = Some (machine 0) ∷ []; modes = mode.Awake ∷ []; spinning = false ∷ []; marked = false ∷ []; active = 1 };
       counts = 13 ∷ [];
       outcome = Some outcome.MainEnded;
     }
@@ -301,7 +301,7 @@ selecting_nil_end =
     record {
       table = record { goroutines = does (status.Waiting (record { arrival = 0; kind = kind.Select; offers = []; until = None })) 1 ∷ []; arrivals = 1; clock = 0 };
       channels = [];
-      machines = record { holders = None ∷ []; modes = mode.Awake ∷ []; spinning = false ∷ [] };
+      machines = record { holders = None ∷ []; modes = mode.Awake ∷ []; spinning = false ∷ []; marked = false ∷ []; active = 1 };
       counts = 8 ∷ [];
       outcome = Some outcome.AllAsleep;
     }
@@ -309,7 +309,7 @@ selecting_nil_end =
 pub selecting_nil_is_legal : Run (limits 1 1 16 10000) (opening (limits 1 1 16 10000) 1 ([])) selecting_nil selecting_nil_end
 selecting_nil_is_legal = (
   _,
-  (refl, (refl, ((refl, refl, refl, refl), refl, refl), refl, refl)),
+  (refl, (refl, ((refl, refl, (refl, under refl), refl), refl, refl), refl, refl)),
   (
     _,
     (refl, (refl, (refl, ((_, refl, refl), refl, refl)), refl, refl)),
@@ -357,7 +357,7 @@ choosing_end =
     record {
       table = record { goroutines = does status.Dead 1 ∷ []; arrivals = 0; clock = 0 };
       channels = new_channel 1 ∷ [];
-      machines = record { holders = Some (machine 0) ∷ []; modes = mode.Awake ∷ []; spinning = false ∷ [] };
+      machines = record { holders = Some (machine 0) ∷ []; modes = mode.Awake ∷ []; spinning = false ∷ []; marked = false ∷ []; active = 1 };
       counts = 6 ∷ [];
       outcome = Some outcome.MainEnded;
     }
@@ -365,7 +365,7 @@ choosing_end =
 pub choosing_is_legal : Run (limits 1 1 16 10000) (opening (limits 1 1 16 10000) 1 (1 ∷ [])) choosing choosing_end
 choosing_is_legal = (
   _,
-  (refl, (refl, ((refl, refl, refl, refl), refl, refl), refl, refl)),
+  (refl, (refl, ((refl, refl, (refl, under refl), refl), refl, refl), refl, refl)),
   (
     _,
     (refl, (refl, (refl, ((_, refl, refl), refl, refl)), refl, refl)),
@@ -405,7 +405,7 @@ choosing_closed_end =
     record {
       table = record { goroutines = does status.Dead 1 ∷ []; arrivals = 0; clock = 0 };
       channels = record { capacity = 1; items = []; closed = true } ∷ [];
-      machines = record { holders = Some (machine 0) ∷ []; modes = mode.Awake ∷ []; spinning = false ∷ [] };
+      machines = record { holders = Some (machine 0) ∷ []; modes = mode.Awake ∷ []; spinning = false ∷ []; marked = false ∷ []; active = 1 };
       counts = 6 ∷ [];
       outcome = Some outcome.MainEnded;
     }
@@ -413,7 +413,7 @@ choosing_closed_end =
 pub choosing_closed_is_legal : Run (limits 1 1 16 10000) (opening (limits 1 1 16 10000) 1 (1 ∷ [])) choosing_closed choosing_closed_end
 choosing_closed_is_legal = (
   _,
-  (refl, (refl, ((refl, refl, refl, refl), refl, refl), refl, refl)),
+  (refl, (refl, ((refl, refl, (refl, under refl), refl), refl, refl), refl, refl)),
   (
     _,
     (refl, (refl, (refl, ((_, refl, refl), refl, refl)), refl, refl)),
@@ -453,7 +453,7 @@ choosing_closed_otherwise_end =
     record {
       table = record { goroutines = does status.Dead 1 ∷ []; arrivals = 0; clock = 0 };
       channels = record { capacity = 1; items = []; closed = true } ∷ [];
-      machines = record { holders = Some (machine 0) ∷ []; modes = mode.Awake ∷ []; spinning = false ∷ [] };
+      machines = record { holders = Some (machine 0) ∷ []; modes = mode.Awake ∷ []; spinning = false ∷ []; marked = false ∷ []; active = 1 };
       counts = 6 ∷ [];
       outcome = Some outcome.MainEnded;
     }
@@ -461,7 +461,7 @@ choosing_closed_otherwise_end =
 pub choosing_closed_otherwise_is_legal : Run (limits 1 1 16 10000) (opening (limits 1 1 16 10000) 1 (1 ∷ [])) choosing_closed_otherwise choosing_closed_otherwise_end
 choosing_closed_otherwise_is_legal = (
   _,
-  (refl, (refl, ((refl, refl, refl, refl), refl, refl), refl, refl)),
+  (refl, (refl, ((refl, refl, (refl, under refl), refl), refl, refl), refl, refl)),
   (
     _,
     (refl, (refl, (refl, ((_, refl, refl), refl, refl)), refl, refl)),
@@ -500,7 +500,7 @@ choosing_missing_end =
     record {
       table = record { goroutines = does status.Dead 1 ∷ []; arrivals = 0; clock = 0 };
       channels = new_channel 1 ∷ [];
-      machines = record { holders = Some (machine 0) ∷ []; modes = mode.Awake ∷ []; spinning = false ∷ [] };
+      machines = record { holders = Some (machine 0) ∷ []; modes = mode.Awake ∷ []; spinning = false ∷ []; marked = false ∷ []; active = 1 };
       counts = 5 ∷ [];
       outcome = Some outcome.MainEnded;
     }
@@ -508,7 +508,7 @@ choosing_missing_end =
 pub choosing_missing_is_legal : Run (limits 1 1 16 10000) (opening (limits 1 1 16 10000) 1 (1 ∷ [])) choosing_missing choosing_missing_end
 choosing_missing_is_legal = (
   _,
-  (refl, (refl, ((refl, refl, refl, refl), refl, refl), refl, refl)),
+  (refl, (refl, ((refl, refl, (refl, under refl), refl), refl, refl), refl, refl)),
   (
     _,
     (refl, (refl, (refl, ((_, refl, refl), refl, refl)), refl, refl)),
@@ -546,7 +546,7 @@ least_case_after_1 =
     record {
       table = record { goroutines = does (status.Ready Shelf woke.Done) 2 ∷ does (status.Waiting (record { arrival = 0; kind = kind.Select; offers = record { case = 0; channel = channel 0; deal = deal.Receive } ∷ record { case = 1; channel = channel 0; deal = deal.Receive } ∷ []; until = None })) 1 ∷ []; arrivals = 1; clock = 0 };
       channels = new_channel 0 ∷ [];
-      machines = record { holders = Some (machine 0) ∷ []; modes = mode.Awake ∷ []; spinning = false ∷ [] };
+      machines = record { holders = Some (machine 0) ∷ []; modes = mode.Awake ∷ []; spinning = false ∷ []; marked = false ∷ []; active = 1 };
       counts = 8 ∷ [];
       outcome = None;
     }
@@ -554,7 +554,7 @@ least_case_after_1 =
 least_case_1_goes : Run (limits 1 1 16 10000) (opening (limits 1 1 16 10000) 2 (0 ∷ [])) least_case_1 least_case_after_1
 least_case_1_goes = (
   _,
-  (refl, (refl, ((refl, refl, refl, refl), refl, refl), refl, refl)),
+  (refl, (refl, ((refl, refl, (refl, under refl), refl), refl, refl), refl, refl)),
   (
     _,
     (refl, (refl, (refl, ((_, refl, refl), refl, refl)), refl, refl)),
@@ -598,7 +598,7 @@ least_case_end =
     record {
       table = record { goroutines = does (status.Running (machine 0)) 2 ∷ does (status.Ready Out (woke.Chose 0 (Some (5, true)))) 2 ∷ []; arrivals = 1; clock = 0 };
       channels = new_channel 0 ∷ [];
-      machines = record { holders = Some (machine 0) ∷ []; modes = mode.Awake ∷ []; spinning = false ∷ [] };
+      machines = record { holders = Some (machine 0) ∷ []; modes = mode.Awake ∷ []; spinning = false ∷ []; marked = false ∷ []; active = 1 };
       counts = 11 ∷ [];
       outcome = None;
     }
@@ -641,7 +641,7 @@ least_case_closed_after_1 =
     record {
       table = record { goroutines = does (status.Ready Shelf woke.Done) 2 ∷ does (status.Waiting (record { arrival = 0; kind = kind.Select; offers = record { case = 0; channel = channel 1; deal = deal.Receive } ∷ record { case = 1; channel = channel 0; deal = deal.Send 3 } ∷ record { case = 2; channel = channel 0; deal = deal.Receive } ∷ []; until = None })) 1 ∷ []; arrivals = 1; clock = 0 };
       channels = new_channel 0 ∷ new_channel 0 ∷ [];
-      machines = record { holders = Some (machine 0) ∷ []; modes = mode.Awake ∷ []; spinning = false ∷ [] };
+      machines = record { holders = Some (machine 0) ∷ []; modes = mode.Awake ∷ []; spinning = false ∷ []; marked = false ∷ []; active = 1 };
       counts = 8 ∷ [];
       outcome = None;
     }
@@ -649,7 +649,7 @@ least_case_closed_after_1 =
 least_case_closed_1_goes : Run (limits 1 1 16 10000) (opening (limits 1 1 16 10000) 2 (0 ∷ 0 ∷ [])) least_case_closed_1 least_case_closed_after_1
 least_case_closed_1_goes = (
   _,
-  (refl, (refl, ((refl, refl, refl, refl), refl, refl), refl, refl)),
+  (refl, (refl, ((refl, refl, (refl, under refl), refl), refl, refl), refl, refl)),
   (
     _,
     (refl, (refl, (refl, ((_, refl, refl), refl, refl)), refl, refl)),
@@ -693,7 +693,7 @@ least_case_closed_end =
     record {
       table = record { goroutines = does (status.Running (machine 0)) 2 ∷ does (status.Ready Shelf (woke.Fault fault.SendOnClosed)) 2 ∷ []; arrivals = 1; clock = 0 };
       channels = record { capacity = 0; items = []; closed = true } ∷ new_channel 0 ∷ [];
-      machines = record { holders = Some (machine 0) ∷ []; modes = mode.Awake ∷ []; spinning = false ∷ [] };
+      machines = record { holders = Some (machine 0) ∷ []; modes = mode.Awake ∷ []; spinning = false ∷ []; marked = false ∷ []; active = 1 };
       counts = 11 ∷ [];
       outcome = None;
     }

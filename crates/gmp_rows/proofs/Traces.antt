@@ -1,5 +1,7 @@
 -- The words of worked traces.
-use Rattle.std.proofs.Common.{ℕ}
+use Rattle.std.proofs.Common.{◌≡◌, ◌<◌, ◌≤◌, ◌⊎◌, ℕ, true, inl, inr, sym, ◌∙◌}
+use Rattle.std.specs.Prelude.{nat_lt}
+use Rattle.std.proofs.lemmas.Bool.{cases_lt, false≢true, le-ltb}
 use Rattle.gmp_base.specs.declared.number.CNo.{CNo}
 use Rattle.gmp_base.specs.declared.number.GNo.{GNo}
 use Rattle.gmp_base.specs.declared.number.MNo.{MNo}
@@ -36,3 +38,11 @@ does status epoch = record { status = status; epoch = epoch }
 
 abbrev pub limits : ℕ → ℕ → ℕ → ℕ → Limits
 limits procs machines channels entries = record { procs = procs; machines = machines; channels = channels; entries = entries }
+
+-- a number that is below another by the test
+pub under : {p n : ℕ} → nat_lt p n ≡ true → p < n
+under {p} {n} e = by_place (cases_lt p n)
+  where
+    by_place : (p < n) ⊎ (n ≤ p) → p < n
+    by_place (inl l) = l
+    by_place (inr past) = absurd (false≢true (sym (le-ltb p n past) ∙ e))

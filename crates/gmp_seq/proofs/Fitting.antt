@@ -54,6 +54,7 @@ record IsSmall (limits : Limits) (s : State) : Type 0 where
   epochs : (g : GNo) → epoch_at s.table g ≤ 1000001
   holders : length s.machines.holders ≤ 32
   modes : length s.machines.modes ≤ 64
+  active : s.machines.active ≤ 32
   room : (i : ℕ) → length (row_items (slice_get s.channels i)) ≤ row_capacity (slice_get s.channels i)
   stock : limits.channels ≤ 1024
 
@@ -111,7 +112,7 @@ module _ (t : Table) (few : length t.goroutines ≤ 4096) (epochs : (g : GNo) �
 
   resumes : (g : GNo) (m : MNo) (number : ℕ) (answer : Reply) (new : Table) (old_machines new_machines : Machines.Machines) → length old_machines.holders ≤ 32
       → status_at t g ≡ Some (status.Calling m) → Step.Resumes g m number answer t new → Machines.Returns m answer old_machines new_machines → FitsReply answer
-  resumes g m number (reply.Runs p) new old_machines new_machines holders calling is (idle, held) =
+  resumes g m number (reply.Runs p) new old_machines new_machines holders calling is ((idle, active), held) =
       let within = slice_get_within old_machines.holders p.0 _ idle in omega arith
   resumes g m number (reply.Shelved r) new old_machines new_machines holders calling (next, is) h = next_is_fit g r (does_in_stock t g _ calling) next
   resumes g m number _ new old_machines new_machines holders calling h machines = absurd h
@@ -146,7 +147,7 @@ goparks g _ old new h = absurd h
 
 module _ (m : MNo) (old new : Machines.Machines) (holders : length old.holders ≤ 32) (modes : length old.modes ≤ 64) where
   acquires : (answer : Reply) → Machines.Acquires m answer old new → FitsReply answer
-  acquires (reply.Proc p) (awake, bare, idle, is) = let within = slice_get_within old.holders p.0 _ idle in omega arith
+  acquires (reply.Proc p) (awake, bare, (idle, active), is) = let within = slice_get_within old.holders p.0 _ idle in omega arith
   acquires reply.Nothing h = tt
   acquires _ h = absurd h
 
@@ -182,6 +183,15 @@ module _ (m : MNo) (old new : Machines.Machines) (holders : length old.holders �
   enters (reply.Entered p (Some n)) (holds, parked, is) =
       (let within = slice_get_within old.holders p.0 _ holds in omega arith, let within = slice_get_within old.modes n.0 _ parked in omega arith)
   enters _ h = absurd h
+
+  sets : (n : ℕ) → old.active ≤ 32 → (answer : Reply) → Machines.Sets n answer old new → FitsReply answer
+  sets n active (reply.Number before) (good, told, is) = omega (arith, active, told)
+  sets n active (reply.Fault fault.BadProcs) h = tt
+  sets n active _ h = absurd h
+
+  keeps : (answer : Reply) → Machines.MayKeep m answer old new → FitsReply answer
+  keeps (reply.Answer b) h = tt
+  keeps _ h = absurd h
 
 -- Channels
 
@@ -251,6 +261,7 @@ module _ (limits : Limits) (old new : State) (small : IsSmall limits old) where
   parks m reply.Work h = tt
   parks m reply.AllAsleep h = tt
   parks m (reply.Mind until) (work, astir, minded, same) = minds until (some_status is_ready_or_running old.table) minded
+  parks m reply.LookAgain h = tt
   parks m reply.Parked h = tt
   parks m _ h = absurd h
 
@@ -275,6 +286,7 @@ module _ (limits : Limits) (old new : State) (small : IsSmall limits old) where
   effect_fits m (call.Close c) answer fits (g, running, h) = closes c answer h
   effect_fits m (call.Len c) answer fits (g, running, (h, is, rest)) = tells _ c answer old.channels new.channels low_length h
   effect_fits m (call.Cap c) answer fits (g, running, (h, is, rest)) = tells _ c answer old.channels new.channels low_capacity h
+  effect_fits m (call.Procs n) answer fits (g, running, (h, is, rest)) = sets m old.machines new.machines small.holders small.modes n small.active answer h
   effect_fits m (call.Select cases has_default until) answer fits (few, (g, running, h)) = selects g cases has_default until answer few fits.1 h
   effect_fits m (call.Sleep until) answer fits (g, running, (h, rest, more)) = sleeps g until answer old.table new.table h
   effect_fits m call.Gopark answer fits (g, running, (h, rest, more)) = goparks g answer old.table new.table h
@@ -284,6 +296,7 @@ module _ (limits : Limits) (old new : State) (small : IsSmall limits old) where
       resumes old.table small.goroutines small.epochs g m number answer new.table old.machines new.machines small.holders calling h machines
   effect_fits m call.Spin answer fits (free, (h, is, rest)) = spins m old.machines new.machines small.holders small.modes answer h
   effect_fits m call.Woken answer fits (h, is, rest) = looks m old.machines new.machines small.holders small.modes answer h
+  effect_fits m call.Keep answer fits (h, is, rest) = keeps m old.machines new.machines small.holders small.modes answer h
   effect_fits m call.Unspin answer fits (h, is, rest) = unspins m old.machines new.machines small.holders small.modes answer h
   effect_fits m call.Poke answer fits (h, is, rest) = pokes m old.machines new.machines small.holders small.modes answer h
   effect_fits m call.Declare answer fits (free, (h, is, rest)) = declares m old.machines new.machines small.holders small.modes answer h
@@ -319,6 +332,7 @@ module _ (limits : Limits) (bodies : ℕ) (capacities : List ℕ) (are : AreLimi
         epochs = λ g. let low : epoch_at s.table g ≤ sum s.counts + 1 = order.together.epochs g in omega arith;
         holders = omega arith;
         modes = omega arith;
+        active = (let most_active = order.active.1 in omega (arith, most_active, holders, procs));
         room = sound.within;
         stock = are.channels.1;
       }

@@ -248,7 +248,8 @@ parks : (c : Call) (m : MNo) (answer : Reply) (old new : State) → Step.Parks m
 parks c m reply.Work old new (work, (is, rest, more)) = stays c reply.Work old.table new.table is
 parks c m reply.AllAsleep old new (work, asleep, (is, rest, more)) = stays c reply.AllAsleep old.table new.table is
 parks c m (reply.Mind until) old new (work, astir, minds, (is, rest, more)) = stays c (reply.Mind until) old.table new.table is
-parks c m reply.Parked old new (work, astir, minds, is, rest, more) = stays c reply.Parked old.table new.table is
+parks c m reply.LookAgain old new (work, astir, minds, marked, (is, rest, more)) = stays c reply.LookAgain old.table new.table is
+parks c m reply.Parked old new (work, astir, minds, unmarked, is, rest, more) = stays c reply.Parked old.table new.table is
 parks c m _ old new h = absurd h
 
 pub effect_lands : (limits : Limits) (m : MNo) (c : Call) (answer : Reply) (old new : State) → Step.Effect limits m c answer old new → Moves c answer old.table new.table
@@ -265,6 +266,7 @@ effect_lands limits m (call.Recv c) answer old new (g, running, h) = deals (call
 effect_lands limits m (call.Close c) answer old new (g, running, h) = closes (call.Close c) c answer old new h
 effect_lands limits m (call.Len c) answer old new (g, running, (h, is, rest)) = stays (call.Len c) answer old.table new.table is
 effect_lands limits m (call.Cap c) answer old new (g, running, (h, is, rest)) = stays (call.Cap c) answer old.table new.table is
+effect_lands limits m (call.Procs n) answer old new (g, running, (h, is, rest)) = stays (call.Procs n) answer old.table new.table is
 effect_lands limits m (call.Select cases has_default until) answer old new (few, (g, running, h)) = selects g cases has_default until answer old new h
 effect_lands limits m (call.Sleep until) answer old new (g, running, (h, rest, more)) = sleeps g until answer _ _ h
 effect_lands limits m call.Gopark answer old new (g, running, (h, rest, more)) = goparks call.Gopark g answer _ _ h
@@ -273,6 +275,7 @@ effect_lands limits m call.Enter answer old new (g, running, (is, rest, more)) =
 effect_lands limits m (call.Leave number) answer old new (g, calling, (h, rest, more)) = resumes (call.Leave number) g m number answer _ _ calling h
 effect_lands limits m call.Spin answer old new (free, (h, is, rest)) = stays call.Spin answer old.table new.table is
 effect_lands limits m call.Woken answer old new (h, is, rest) = stays call.Woken answer old.table new.table is
+effect_lands limits m call.Keep answer old new (h, is, rest) = stays call.Keep answer old.table new.table is
 effect_lands limits m call.Unspin answer old new (h, is, rest) = stays call.Unspin answer old.table new.table is
 effect_lands limits m call.Poke answer old new (h, is, rest) = stays call.Poke answer old.table new.table is
 effect_lands limits m call.Declare answer old new (free, (h, is, rest)) = stays call.Declare answer old.table new.table is

@@ -118,7 +118,8 @@ parks : (m : MNo) (answer : Reply) (old new : State) → Room old → Step.Parks
 parks m reply.Work old new room (work, (table, is, machines)) = same old new room is
 parks m reply.AllAsleep old new room (work, asleep, (table, is, machines)) = same old new room is
 parks m (reply.Mind until) old new room (work, astir, minds, (table, is, machines)) = same old new room is
-parks m reply.Parked old new room (work, astir, minds, table, is, machines) = same old new room is
+parks m reply.LookAgain old new room (work, astir, minds, marked, (table, is, machines)) = same old new room is
+parks m reply.Parked old new room (work, astir, minds, unmarked, table, is, machines) = same old new room is
 parks m _ old new room h = absurd h
 
 pub effect_room : (limits : Limits) (m : MNo) (c : Call) (answer : Reply) (old new : State) → Room old → Step.Effect limits m c answer old new → Room new
@@ -135,6 +136,7 @@ effect_room limits m (call.Recv c) answer old new room (g, running, h) = deals g
 effect_room limits m (call.Close c) answer old new room (g, running, h) = closes c answer old new room h
 effect_room limits m (call.Len c) answer old new room (g, running, (h, table, machines)) = same old new room (tells_same _ c answer _ _ h)
 effect_room limits m (call.Cap c) answer old new room (g, running, (h, table, machines)) = same old new room (tells_same _ c answer _ _ h)
+effect_room limits m (call.Procs n) answer old new room (g, running, (h, table, is)) = same old new room is
 effect_room limits m (call.Select cases has_default until) answer old new room (few, (g, running, h)) = selects g cases has_default until answer old new room h
 effect_room limits m (call.Sleep until) answer old new room (g, running, (h, is, machines)) = same old new room is
 effect_room limits m call.Gopark answer old new room (g, running, (h, is, machines)) = same old new room is
@@ -143,6 +145,7 @@ effect_room limits m call.Enter answer old new room (g, running, (table, h, is))
 effect_room limits m (call.Leave number) answer old new room (g, calling, (h, machines, is)) = same old new room is
 effect_room limits m call.Spin answer old new room (free, (h, table, is)) = same old new room is
 effect_room limits m call.Woken answer old new room (h, table, is) = same old new room is
+effect_room limits m call.Keep answer old new room (h, table, is) = same old new room is
 effect_room limits m call.Unspin answer old new room (h, table, is) = same old new room is
 effect_room limits m call.Poke answer old new room (h, table, is) = same old new room is
 effect_room limits m call.Declare answer old new room (free, (h, table, is)) = same old new room is

@@ -186,7 +186,8 @@ parks : (m : MNo) (answer : Reply) (old new : State) → IsWordy old → Step.Pa
 parks m reply.Work old new wordy (work, (is, same, more)) = stay old new wordy.rows same
 parks m reply.AllAsleep old new wordy (work, asleep, (is, same, more)) = stay old new wordy.rows same
 parks m (reply.Mind until) old new wordy (work, astir, minds, (is, same, more)) = stay old new wordy.rows same
-parks m reply.Parked old new wordy (work, astir, minds, is, same, more) = stay old new wordy.rows same
+parks m reply.LookAgain old new wordy (work, astir, minds, marked, (is, same, more)) = stay old new wordy.rows same
+parks m reply.Parked old new wordy (work, astir, minds, unmarked, is, same, more) = stay old new wordy.rows same
 parks m _ old new wordy h = absurd h
 
 effect_rows : (limits : Limits) (m : MNo) (c : Call) (answer : Reply) (old new : State) → IsWordy old → FitsCall c → Step.Effect limits m c answer old new → RowsFit new.channels
@@ -203,6 +204,7 @@ effect_rows limits m (call.Recv c) answer old new wordy fits (g, running, h) = d
 effect_rows limits m (call.Close c) answer old new wordy fits (g, running, h) = closes c answer old new wordy h
 effect_rows limits m (call.Len c) answer old new wordy fits (g, running, (h, is, more)) = tells _ c answer old.channels new.channels wordy.rows h
 effect_rows limits m (call.Cap c) answer old new wordy fits (g, running, (h, is, more)) = tells _ c answer old.channels new.channels wordy.rows h
+effect_rows limits m (call.Procs n) answer old new wordy fits (g, running, (h, is, same)) = stay old new wordy.rows same
 effect_rows limits m (call.Select cases has_default until) answer old new wordy fits (few, (g, running, h)) = selects g cases has_default until answer old new wordy fits.1 h
 effect_rows limits m (call.Sleep until) answer old new wordy fits (g, running, (h, same, more)) = stay old new wordy.rows same
 effect_rows limits m call.Gopark answer old new wordy fits (g, running, (h, same, more)) = stay old new wordy.rows same
@@ -211,6 +213,7 @@ effect_rows limits m call.Enter answer old new wordy fits (g, running, (is, h, s
 effect_rows limits m (call.Leave number) answer old new wordy fits (g, calling, (h, machines, same)) = stay old new wordy.rows same
 effect_rows limits m call.Spin answer old new wordy fits (free, (h, is, same)) = stay old new wordy.rows same
 effect_rows limits m call.Woken answer old new wordy fits (h, is, same) = stay old new wordy.rows same
+effect_rows limits m call.Keep answer old new wordy fits (h, is, same) = stay old new wordy.rows same
 effect_rows limits m call.Unspin answer old new wordy fits (h, is, same) = stay old new wordy.rows same
 effect_rows limits m call.Poke answer old new wordy fits (h, is, same) = stay old new wordy.rows same
 effect_rows limits m call.Declare answer old new wordy fits (free, (h, is, same)) = stay old new wordy.rows same
