@@ -117,6 +117,7 @@ module _ {T Q : Type 0} (m : MNo) (s : State) (v : Values T Q) where
   }
   handed_by call.Spin are grants = nothing are
   handed_by call.Woken are grants = nothing are
+  handed_by call.Keep are grants = nothing are
   handed_by call.Unspin are grants = nothing are
   handed_by call.Poke are grants = nothing are
   handed_by call.Declare (run, p, are) grants = record {

@@ -188,14 +188,15 @@ parks : (asked : Call) (m : MNo) (answer : Reply) (old new : State) → Parks m 
 parks asked m reply.Work old new (work, (is, rest, machines)) = still old new is machines
 parks asked m reply.AllAsleep old new (work, asleep, (is, rest, machines)) = still old new is machines
 parks asked m (reply.Mind until) old new (work, astir, minds, (is, rest, machines)) = still old new is machines
-parks asked m reply.Parked old new (work, astir, minds, is, rest, machines) = (same_ins old.table new.table is, ap idles machines)
+parks asked m reply.LookAgain old new (work, astir, minds, marked, (is, rest, machines)) = still old new is machines
+parks asked m reply.Parked old new (work, astir, minds, unmarked, is, rest, machines) = (same_ins old.table new.table is, ap idles machines)
 parks asked m _ old new h = absurd h
 
 -- All calls
 
 pub moves : (limits : Limits) (m : MNo) (c : Call) (answer : Reply) (old new : State) → Effect limits m c answer old new → BothMove c answer m old new
 moves limits m call.Acquire (reply.Proc p) old new (h, is, rest) =
-    (same_ins old.table new.table is, (refl, refl, refl, h.2, one_idle old.machines new.machines p (Some m) (holders new.machines _ h.3)))
+    (same_ins old.table new.table is, (refl, refl, refl, h.2.0, one_idle old.machines new.machines p (Some m) (holders new.machines _ h.3)))
 moves limits m call.Acquire reply.Nothing old new (h, is, rest) = (same_ins old.table new.table is, same_idles old.machines new.machines h.3)
 moves limits m call.Acquire _ old new (h, is, rest) = absurd h
 moves limits m call.Take (reply.Ticket r) old new (awake, ((told, ready, is), rest, machines)) =
@@ -233,6 +234,9 @@ moves limits m (call.Len c) _ old new (g, runs, (h, is, machines)) = absurd h
 moves limits m (call.Cap c) (reply.Number n) old new (g, runs, (h, is, machines)) = still old new is machines
 moves limits m (call.Cap c) (reply.Fault f) old new (g, runs, (h, is, machines)) = still old new is machines
 moves limits m (call.Cap c) _ old new (g, runs, (h, is, machines)) = absurd h
+moves limits m (call.Procs n) (reply.Number before) old new (g, runs, (h, is, rest)) = (same_ins old.table new.table is, ap idles h.2)
+moves limits m (call.Procs n) (reply.Fault fault.BadProcs) old new (g, runs, (h, is, rest)) = (same_ins old.table new.table is, ap idles h.1)
+moves limits m (call.Procs n) _ old new (g, runs, (h, is, rest)) = absurd h
 moves limits m (call.Select cases has_default until) answer old new (few, (g, runs, h)) =
     selects (call.Select cases has_default until) m g old new refl refl runs cases has_default until answer h
 moves limits m (call.Sleep until) reply.Waits old new (g, runs, (is, rest, machines)) = waits (call.Sleep until) m g old new refl refl runs _ _ _ is machines
@@ -251,7 +255,7 @@ moves limits m call.Enter (reply.Entered p (Some n)) old new (g, runs, (is, h, r
     ((refl, refl, turns old.table new.table g _ _ runs refl (rows new.table _ is)), (refl, h.0, one_idle old.machines new.machines p None (holders new.machines _ h.2)))
 moves limits m call.Enter _ old new (g, runs, (is, h, rest)) = absurd h
 moves limits m (call.Leave number) (reply.Runs p) old new (g, calls, (is, h, rest)) =
-    ((refl, refl, turns old.table new.table g _ _ calls refl (rows new.table _ is)), (refl, refl, refl, h.0, one_idle old.machines new.machines p (Some m) (holders new.machines _ h.1)))
+    ((refl, refl, turns old.table new.table g _ _ calls refl (rows new.table _ is)), (refl, refl, refl, h.0.0, one_idle old.machines new.machines p (Some m) (holders new.machines _ h.1)))
 moves limits m (call.Leave number) (reply.Shelved r) old new (g, calls, ((ticket, is), h, rest)) =
     ((refl, refl, g, inr calls, one_in old.table new.table g _ (rows new.table _ is)), ap idles h.1)
 moves limits m (call.Leave number) _ old new (g, calls, (h, returns, rest)) = absurd h
@@ -261,6 +265,8 @@ moves limits m call.Spin _ old new (free, (h, is, rest)) = absurd h
 moves limits m call.Woken (reply.Answer true) old new (h, is, rest) = (same_ins old.table new.table is, ap idles h.1)
 moves limits m call.Woken (reply.Answer false) old new (h, is, rest) = (same_ins old.table new.table is, ap idles h.1)
 moves limits m call.Woken _ old new (h, is, rest) = absurd h
+moves limits m call.Keep (reply.Answer b) old new (h, is, rest) = (same_ins old.table new.table is, ap idles h.4)
+moves limits m call.Keep _ old new (h, is, rest) = absurd h
 moves limits m call.Unspin reply.Done old new (h, is, rest) = (same_ins old.table new.table is, ap idles h.1)
 moves limits m call.Unspin _ old new (h, is, rest) = absurd h
 moves limits m call.Poke (reply.Wakes n) old new (h, is, rest) = (same_ins old.table new.table is, ap idles h.3)

@@ -12,6 +12,7 @@ hands_held (call.Claim r) = false
 hands_held (call.Leave number) = false
 hands_held call.Spin = false
 hands_held call.Woken = false
+hands_held call.Keep = false
 hands_held call.Unspin = false
 hands_held call.Poke = false
 hands_held call.Declare = false
@@ -57,6 +58,7 @@ goes_on (call.Make capacity) = true
 goes_on (call.Close c) = true
 goes_on (call.Len c) = true
 goes_on (call.Cap c) = true
+goes_on (call.Procs n) = true
 goes_on (call.Ready g) = true
 goes_on _ = false
 

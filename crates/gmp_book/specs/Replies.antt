@@ -19,5 +19,6 @@ exit_reply exited.MainEnded = reply.MainEnded
 abbrev pub park_reply : Parking → Reply
 park_reply parks.Parked = reply.Parked
 park_reply parks.Work = reply.Work
+park_reply parks.LookAgain = reply.LookAgain
 park_reply (parks.Mind until) = reply.Mind until
 park_reply parks.AllAsleep = reply.AllAsleep

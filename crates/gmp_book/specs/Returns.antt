@@ -30,7 +30,7 @@ ComesBack old now called number (Runs held proc) =
     (held ≡ record { run = called.run; g = called.g; woke = woke.Number number; body = called.body }) × HandsOutOwner old now proc
 ComesBack old now called number Shelved = TakesBackCalled old now called
 
--- it runs on exactly where a processor was idle, with the least of these
+-- it runs on exactly where an active processor was idle, with the least of these
 abbrev pub ByLeast : {T Q : Type 0} → Machines → Returned T Q → Type 0
 ByLeast w (Runs held proc) = position is_none w.holders ≡ Some proc.p.0
 ByLeast w Shelved = some_idle w ≡ false

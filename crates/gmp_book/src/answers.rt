@@ -13,8 +13,10 @@ pub enum Exited {
 pub enum Parking {
     /// It is parked, until it is woken.
     Parked,
-    /// There is a goroutine on the shelf and an idle processor.
+    /// There is a goroutine on the shelf and an active processor is idle.
     Work,
+    /// A machine went into a blocking call since this one began to look, so it looks again.
+    LookAgain,
     /// The least deadline, in nanoseconds: one stands, and nobody is ready or running.
     Mind(u64),
     /// Nobody can ever go on, and the run is over.

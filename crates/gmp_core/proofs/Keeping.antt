@@ -35,6 +35,7 @@ use Rattle.gmp_acts.specs.Acts.{Acts}
 use Rattle.gmp_acts.specs.Sound.{Agrees, IsSound}
 use Rattle.gmp_acts.specs.System.{System, called_number, held_number, made_of}
 use Rattle.gmp_acts.proofs.Moving.{act_sound}
+use Rattle.gmp_acts.proofs.Watching.{act_watchful}
 use Rattle.gmp_acts.proofs.Onward.{act_opened}
 use Rattle.gmp_acts.proofs.Whole.{headline_of}
 use Rattle.gmp_turn.specs.Surrenders.{Surrenders}
@@ -137,6 +138,7 @@ module _ {T : Type 0} (c : Parts T) (m : MNo) (x : Machine T Unit) (choice : Cho
   keeps : (a : Act) → next_act x ≡ a → Does a m choice old now made → Kept
   keeps (act.Call asked) next d = turn_kept asked d.0 next d.1
   keeps act.Pop next d = kept_by d.0.hand d.0.book
+  keeps act.Drain next d = kept_by d.0.hand d.0.book
   keeps act.Push next d = kept_by d.0.hand d.0.book
   keeps act.Hunt next d = kept_by d.0.hand d.0.book
   keeps (act.Steal v) next d = kept_by d.0.hand d.0.book
@@ -149,6 +151,7 @@ module _ {T : Type 0} (c : Parts T) (m : MNo) (x : Machine T Unit) (choice : Cho
   room_same : (a : Act) → Does a m choice old now made → now.rings.room ≡ c.rings.room
   room_same (act.Call asked) d = ap (λ (r : Rings). r.room) d.2
   room_same act.Pop d = d.0.room
+  room_same act.Drain d = d.0.room
   room_same act.Push d = d.0.room
   room_same act.Hunt d = d.0.room
   room_same (act.Steal v) d = d.0.room
@@ -181,6 +184,7 @@ module _ {T : Type 0} (c : Parts T) (m : MNo) (x : Machine T Unit) (choice : Cho
         let opened = act_opened (system_of c) m choice (system_of c') acts in
         record {
           sound = sound';
+          watchful = act_watchful (system_of c) m choice (system_of c') acts core.sound core.watchful;
           bodies = out_same (λ (y : Machine T Unit). body_in y.hand) c.machines m.0 x now.machine c.book.bodies now.book.bodies is kept.0 apart_bodies core.bodies;
           owners = out_same (λ (y : Machine T Unit). owner_in y.hand) c.machines m.0 x now.machine c.book.owners now.book.owners is kept.1 apart_owners core.owners;
           tickets_room = room_same (next_act x) d ∙ core.tickets_room ∙ sym opened.bodies;
@@ -216,6 +220,7 @@ module _ {T : Type 0} (c : Parts T) (core : IsCore c) where
     pub room_for : (a : Act) → Does a m choice (record { machine = x; book = c.book; rings = c.rings }) now (Some mk) → length c.calls < c.room
     room_for (act.Call asked) d = by_result asked d.0 d.1 d.3
     room_for act.Pop d = no_call d.1
+    room_for act.Drain d = no_call d.1
     room_for act.Push d = no_call d.1
     room_for act.Hunt d = no_call d.1
     room_for (act.Steal v) d = no_call d.1

@@ -94,6 +94,14 @@ module _ {T Q : Type 0} (x : Machine T Q) (what : Told) (fits : SuitsPlace x.pla
       lands_by came (with_taken r has x.hand) (taken_joined r has (used (next_act x) x.hand) (left_of x) ∙ ap (with_taken r has) (whole (next_act x) x.hand))
       (can_be_told x what came fits may (taken_filled r has (used (next_act x) x.hand) ∙ sym (comes (filled (used (next_act x) x.hand))) ∙ ap (λ (b : Bool). come_back what b (filled (used (next_act x) x.hand))) (sym holds)))
 
+  -- and a ticket besides, which is one to store, whatever there is to claim
+  pub drained_lands : (r : Readiness) → ((has : Bool) (f : Filled) → come_back what has f ≡ filled_with_stolen true f)
+      → Lands x (with_taken r true (used (next_act x) x.hand)) what (with_taken r true x.hand)
+  drained_lands r comes =
+      let came = with_taken r true (used (next_act x) x.hand) in
+      lands_by came (with_taken r true x.hand) (taken_joined r true (used (next_act x) x.hand) (left_of x) ∙ ap (with_taken r true) (whole (next_act x) x.hand))
+      (can_be_told x what came fits may (taken_filled r true (used (next_act x) x.hand) ∙ sym (comes (is_some x.hand.to_claim) (filled (used (next_act x) x.hand)))))
+
 -- a ticket that is pushed doesn't come back
 abbrev pub without_stored : {T Q : Type 0} → Registers T Q → Registers T Q
 without_stored hand = record hand { to_store = None }

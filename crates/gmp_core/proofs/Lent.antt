@@ -22,6 +22,7 @@ use Rattle.gmp_driver.specs.Fits.{SuitsPlace}
 use Rattle.gmp_driver.specs.Machine.{Machine, held_at}
 use Rattle.gmp_driver.specs.Registers.{first_of}
 use Rattle.gmp_acts.specs.Hands.{PlainMachine, plain, plain_called, plain_held, plain_machine}
+use Rattle.gmp_acts.specs.Lookouts.{IsWatchful}
 use Rattle.gmp_acts.specs.Sound.{IsSound}
 use Rattle.gmp_acts.specs.System.{called_number, held_number, machine_at}
 use Rattle.gmp_acts.proofs.Lands.{some_of}
@@ -205,6 +206,7 @@ module _ {T : Type 0} (c : Parts T) (m : MNo) (x : Machine T Unit) (is : slice_g
   pub lent_core : (w : T) → IsCore (lent w)
   lent_core w = record {
     sound = subst IsSound (sym (system_same w)) core.sound;
+    watchful = subst IsWatchful (sym (system_same w)) core.watchful;
     bodies = still_out (λ (y : Machine T Unit). body_in y.hand) (with_body x w) c.book.bodies (λ i. still_in x.place x.hand w i either) core.bodies;
     owners = still_out (λ (y : Machine T Unit). owner_in y.hand) (with_body x w) c.book.owners (λ i some. subst (λ (o : ℕ → Option Unit). IsSome (o i)) (owner_same x.place x.hand w) some) core.owners;
     tickets_room = core.tickets_room;

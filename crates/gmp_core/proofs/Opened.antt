@@ -13,6 +13,7 @@ use Rattle.gmp_acts.specs.declared.made.Made.{Made}
 use Rattle.gmp_acts.specs.Hands.{PlainMachine, plain_machine}
 use Rattle.gmp_acts.specs.Headline.{machine_at_start, opening_system}
 use Rattle.gmp_acts.specs.System.{System}
+use Rattle.gmp_acts.proofs.Watching.{opening_watchful}
 use Rattle.gmp_acts.proofs.Whole.{opening_sound}
 use Rattle.gmp_turn.specs.Values.{AreOut, body_in, owner_in}
 use Rattle.gmp_core.specs.Inside.{IsCore, Parts, system_of}
@@ -72,6 +73,7 @@ module _ {T : Type 0} (run : ℕ) (limits : Limits) (capacities : List ℕ) (bod
       → rings.room ≡ length bodies → limits.entries ≤ room → IsCore (c rings calls)
   opening_core rings calls queues none within tickets entries = record {
     sound = rw (opening_is rings calls queues none) (opening_sound run limits (length bodies) capacities within);
+    watchful = rw (opening_is rings calls queues none) (opening_watchful run limits (length bodies) capacities within);
     bodies = nothing_out (λ (x : Machine T Unit). body_in x.hand) book.bodies (λ x i e. ap (λ h. body_in h i) e);
     owners = nothing_out (λ (x : Machine T Unit). owner_in x.hand) book.owners (λ x i e. ap (λ h. owner_in h i) e);
     tickets_room = tickets;

@@ -29,6 +29,7 @@ use Rattle.gmp_acts.specs.declared.made.Made.{Made}
 use Rattle.gmp_acts.specs.Acts.{Acts, HasFewCases}
 use Rattle.gmp_acts.specs.Hands.{PlainMachine, plain_held, plain_machine}
 use Rattle.gmp_acts.specs.Headline.{NoClaimIsRefused, SameOpening}
+use Rattle.gmp_acts.specs.Lookouts.{NoWorkIsAsleep}
 use Rattle.gmp_acts.specs.Sound.{Agrees}
 use Rattle.gmp_acts.specs.System.{System, count_of, machine_at}
 use Rattle.gmp_acts.proofs.Claimed.{no_claim_refused}
@@ -127,6 +128,9 @@ module _ {T : Type 0} (c : Parts T) (m : MNo) (x : Machine T Unit) (is : slice_g
 
     pub headline_so : HeadlineOf (system_of c')
     headline_so = headline_of (system_of c') core_so.sound
+
+    pub awake_so : NoWorkIsAsleep (system_of c')
+    awake_so = core_so.watchful.awake
 
     pub opened_so : SameOpening k.book (system_of c').book
     opened_so = act_opened k m choice (system_of c') acts_so

@@ -29,7 +29,7 @@ use Rattle.gmp_driver.specs.Seen.{seen}
 use Rattle.gmp_driver.specs.Table.{act_at, after, next_act}
 use Rattle.gmp_acts.specs.declared.choice.Choice.{Choice}
 use Rattle.gmp_acts.specs.declared.made.Made.{Made}
-use Rattle.gmp_acts.specs.Acts.{Acts, Answers, DoesAct, HasFewCases, IsGranted, MakesCall, MayCall, WithQueues, given_back, popped, pushed, stolen, with_local}
+use Rattle.gmp_acts.specs.Acts.{Acts, Answers, DoesAct, HasFewCases, IsGranted, MakesCall, MayCall, WithQueues, drained, given_back, popped, pushed, stolen, with_local}
 use Rattle.gmp_acts.specs.Hands.{PlainMachine, plain, plain_machine}
 use Rattle.gmp_acts.specs.Sound.{Agrees, IsEnd, IsSound}
 use Rattle.gmp_acts.specs.System.{BookRun, System, in_hand, is_ticket, machine_at, no_machine}
@@ -188,6 +188,7 @@ module _ {T : Type 0} (c : Parts T) (m : MNo) (x : Machine T Unit) (choice : Cho
     does_act : (a : Act) → next_act x ≡ a → Does a m choice old now made → DoesAct a k m choice k'
     does_act (act.Call asked) next d = calls asked next d
     does_act act.Pop next d = with_machine (λ (p : PlainMachine). with_local k m (popped p k.queues)) (locally _ d.0 d.1)
+    does_act act.Drain next d = with_machine (λ (p : PlainMachine). with_local k m (drained p k.queues)) (locally _ d.0 d.1)
     does_act act.Push next d = with_machine (λ (p : PlainMachine). with_local k m (pushed p k.queues p.hand.to_store choice.push_refused)) (locally _ d.0 d.1)
     does_act act.Hunt next d =
         with_machine (λ (p : PlainMachine). with_local k m (stolen p (Some choice.word) k.queues (victim_of (machine_at k m).procs (begun (seen (machine_at k m)) choice.word)) choice.unsure))

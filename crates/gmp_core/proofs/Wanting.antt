@@ -42,6 +42,9 @@ reads : {T Q : Type 0} (x : Seen) (here : Place) (hand : Registers T Q) → Suit
 reads x place.Start hand f = refl
 reads x place.Look hand f = looks _
 reads x (place.Ticking now) hand f = refl
+reads x place.Keep hand f = refl
+reads x place.Drain hand f = refl
+reads x place.PutDrain hand f = puts x.to_store
 reads x place.Global hand f = refl
 reads x place.Spin hand f = refl
 reads x (place.Hunt None) hand f = refl

@@ -14,7 +14,7 @@ use Rattle.gmp_driver.specs.Seen.{seen}
 use Rattle.gmp_driver.specs.Table.{after}
 use Rattle.gmp_acts.specs.declared.choice.Choice.{Choice}
 use Rattle.gmp_acts.specs.declared.made.Made.{Made}
-use Rattle.gmp_acts.specs.Acts.{WithQueues, popped, pushed, stolen}
+use Rattle.gmp_acts.specs.Acts.{WithQueues, drained, popped, pushed, stolen}
 use Rattle.gmp_acts.specs.Hands.{plain_machine}
 use Rattle.gmp_turn.specs.Surrenders.{Surrenders}
 use Rattle.gmp_turn.specs.Turns.{Turns}
@@ -49,6 +49,7 @@ abbrev pub Does : {T : Type 0} → Act → MNo → Choice → Desk T → Desk T 
 Does (act.Call asked) m choice old now made =
     (result : Result Reply Refusal) × Turns old.machine old.book asked choice.word result now.machine now.book × (now.rings ≡ old.rings) × (made ≡ made_by m asked result)
 Does act.Pop m choice old now made = Locally (popped (plain_machine old.machine) old.rings.queues) old now × (made ≡ None)
+Does act.Drain m choice old now made = Locally (drained (plain_machine old.machine) old.rings.queues) old now × (made ≡ None)
 Does act.Push m choice old now made = Locally (pushed (plain_machine old.machine) old.rings.queues old.machine.hand.to_store choice.push_refused) old now × (made ≡ None)
 Does act.Hunt m choice old now made =
     Locally (stolen (plain_machine old.machine) (Some choice.word) old.rings.queues (victim_of old.machine.procs (begun (seen old.machine) choice.word)) choice.unsure) old now × (made ≡ None)

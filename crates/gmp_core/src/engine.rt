@@ -76,6 +76,7 @@ fn note(calls: &mut Vec<Made>, made: Option<Made>)
 impl<T> Core<T> {
     ghost use Rattle.gmp_acts.specs.Acts.{Acts, ActsAll};
     ghost use Rattle.gmp_acts.specs.Headline.{NoClaimIsRefused, SameOpening, opening_system};
+    ghost use Rattle.gmp_acts.specs.Lookouts.{NoWorkIsAsleep};
     ghost use Rattle.gmp_acts.specs.System.{machine_at};
     ghost use Rattle.gmp_driver.specs.Machine.{held_at, is_done};
     ghost use Rattle.gmp_driver.specs.Table.{next_act};
@@ -138,6 +139,7 @@ impl<T> Core<T> {
         ensures calls { NoCallIsRefused self.old.system m self.new.system }
         ensures fixed { TakesFixed self.old.system m choice.now.word self.new.system }
         ensures headline { HeadlineOf self.new.system }
+        ensures awake { NoWorkIsAsleep self.new.system }
         ensures opened { SameOpening self.old.system.book self.new.system.book }
     {
         has_few(&choice.ask);
@@ -157,19 +159,21 @@ impl<T> Core<T> {
         note(&mut self.calls, made);
     }
 
-    /// The headline holds: the type keeps it.
+    /// The headline holds, and no work is left asleep: the type keeps it.
     fn keeps(&self)
-        ensures { HeadlineOf self.now.system }
+        ensures headline { HeadlineOf self.now.system }
+        ensures awake { NoWorkIsAsleep self.now.system }
     {
         let _ = &self.book;
     }
 
-    /// Acts in a row, each of the machine beside it. Whatever they are, the headline holds after them.
+    /// Acts in a row, each of the machine beside it. Whatever they are, the headline holds after them, and no work is left asleep.
     pub fn run(&mut self, moves: &[(MNo, Choice)])
         ensures acts { ActsAll self.old.system moves.now self.new.system }
         ensures calls { GrantsAll self.old.system moves.now self.new.system }
         ensures stock { self.new.stock ≡ self.old.stock }
         ensures headline { HeadlineOf self.new.system }
+        ensures awake { NoWorkIsAsleep self.new.system }
         ensures opened { SameOpening self.old.system.book self.new.system.book }
     {
         for (m, choice) in moves {

@@ -9,7 +9,7 @@ ghost use Rattle.gmp_driver.specs.Local.{MayCome};
 ghost use Rattle.gmp_driver.specs.Seen.{own_processor};
 ghost use Rattle.gmp_driver.specs.Table.{after, next_act};
 ghost use Rattle.gmp_acts.specs.Acts as acts;
-ghost use Rattle.gmp_acts.specs.Acts.{popped, pushed, stolen};
+ghost use Rattle.gmp_acts.specs.Acts.{drained, popped, pushed, stolen};
 ghost use Rattle.gmp_acts.specs.Hands.{plain_machine};
 ghost use Rattle.gmp_core.specs.Local.{IsSteal, IsTold, KeepsHand, with_ticket_in};
 
@@ -28,14 +28,14 @@ fn own<T>(load: &Load<T, ()>) -> PNo
     }
 }
 
-/// Adds a ticket to what an act was handed: one to claim, or one to store, where the machine has one to claim.
-fn add<T>(load: &mut Load<T, ()>, r: Readiness, has_to_claim: bool)
+/// Adds a ticket to what an act was handed: one to claim, or one to store.
+fn add<T>(load: &mut Load<T, ()>, r: Readiness, is_to_store: bool)
     requires to_claim { IsNone load.old.to_claim }
     requires to_store { IsNone load.old.to_store }
-    ensures { load.new ≡ with_ticket_in r has_to_claim load.old }
+    ensures { load.new ≡ with_ticket_in r is_to_store load.old }
 {
     let ticket = Ticket::of(load.pass.run, r.g, r.epoch);
-    if has_to_claim {
+    if is_to_store {
         fill(&mut load.to_store, ticket);
     } else {
         fill(&mut load.to_claim, ticket);
@@ -97,6 +97,27 @@ pub(crate) fn pop<T>(driver: &mut Driver<T, ()>, queues: &mut Queues)
         Some(r) => {
             add(&mut load, r, false);
             driver.got(load, Told::Got);
+        }
+        None => driver.got(load, Told::Empty),
+    }
+}
+
+/// The machine takes the first ticket of its own queue, which is one to store, or finds none.
+pub(crate) fn drain<T>(driver: &mut Driver<T, ()>, queues: &mut Queues)
+    requires next { next_act driver.old ≡ Act.Drain }
+    requires pass { IsSome driver.old.pass }
+    requires fits { SuitsPlace driver.old.place driver.old.hand }
+    ensures acts { (plain_machine driver.new, queues.new.queues) ≡ drained (plain_machine driver.old) queues.old.queues }
+    ensures hand { KeepsHand driver.old.hand driver.new.hand }
+    ensures fits { SuitsPlace driver.new.place driver.new.hand }
+    ensures pass { driver.new.pass ≡ driver.old.pass }
+    ensures room { queues.new.room ≡ queues.old.room }
+{
+    let mut load = driver.give();
+    match queues.pop(own(&load)) {
+        Some(r) => {
+            add(&mut load, r, true);
+            driver.got(load, Told::Drained);
         }
         None => driver.got(load, Told::Empty),
     }

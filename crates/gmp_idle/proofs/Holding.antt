@@ -8,14 +8,18 @@ use Rattle.std.proofs.lemmas.List.Sums.{sum_by-cons, sum_by-set}
 use Rattle.std.proofs.lemmas.Option.{get_or_from_slice_get, slice_get_within, unwrap_or-slice_get}
 use Rattle.gmp_base.specs.declared.number.MNo.{MNo}
 use Rattle.gmp_seq.specs.declared.status.Mode.{Mode}
-use Rattle.gmp_seq.specs.declared.status.Mode.TheVariants.{Awake, Calling}
-use Rattle.gmp_seq.specs.Machines.{is_held_by, is_parked_mode}
+use Rattle.gmp_seq.specs.declared.status.Mode.TheVariants.{Awake, Parked, Calling}
+use Rattle.gmp_seq.specs.Machines.{is_awake_mode, is_held_by, is_parked_mode}
 use Rattle.gmp_seq.proofs.Epochs.{at_set}
 use Rattle.gmp_idle.specs.Kept.{HaveFlags, flag_of}
 
 pub not_parked : (mode : Mode) → (mode ≡ Awake) ⊎ (mode ≡ Calling) → is_parked_mode mode ≡ false
 not_parked mode (inl is) = ap is_parked_mode is
 not_parked mode (inr is) = ap is_parked_mode is
+
+pub not_awake : (mode : Mode) → (mode ≡ Parked) ⊎ (mode ≡ Calling) → is_awake_mode mode ≡ false
+not_awake mode (inl is) = ap is_awake_mode is
+not_awake mode (inr is) = ap is_awake_mode is
 
 -- 1 where it holds
 abbrev pub number_of : Bool → ℕ

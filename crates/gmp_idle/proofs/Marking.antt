@@ -1,8 +1,9 @@
 -- A table, and for each of its elements a flag that says whether it passes a test.
-use Rattle.std.proofs.Common.{◌≡◌, ℕ, zero, suc, ◌+◌, Bool, true, false, not, cond, ◌||◌, Option, Some, None, List, [], ◌∷◌, length, map, replicate, set, refl, sym, ap, ◌∙◌}
-use Rattle.std.specs.Prelude.{nat_lt}
+use Rattle.std.proofs.Common.{◌≡◌, ℕ, zero, suc, ◌+◌, ◌≤◌, Bool, true, false, not, cond, ◌||◌, Option, Some, None, List, [], ◌∷◌, length, map, replicate, set, refl, sym, ap, ◌∙◌, arith}
+use Rattle.std.specs.Prelude.{nat_lt, take}
 use Rattle.std.specs.List.{list_any, position, position_from, position_or_len, prefix_len}
 use Rattle.std.proofs.lemmas.Iterator.Adapters.{position_from-zero}
+use Rattle.std.proofs.lemmas.Bool.{false≢true, le-ltb, lt-ltb}
 use Rattle.std.proofs.lemmas.List.{length-map, map-set}
 
 pub not-not : (b : Bool) → not (not b) ≡ b
@@ -47,6 +48,60 @@ module _ {X : Type 0} (p : X → Bool) where
       by_test true is e' below = absurd cc
       by_test false is e' below = ap (λ (b : Bool). b || list_any p xs) is ∙ below e'
 
+  -- the first that passes is at k or above, where k is the number of the first
+  not_below : (xs : List X) (k j : ℕ) → position_from p k xs ≡ Some j → k ≤ j
+  not_below [] k j e = absurd cc
+  not_below (x ∷ xs) k j e = by_test (p x) e (not_below xs (k + 1) j)
+    where
+      by_test : (b : Bool) → cond b (Some k) (position_from p (k + 1) xs) ≡ Some j → (position_from p (k + 1) xs ≡ Some j → k + 1 ≤ j) → k ≤ j
+      by_test true e' below =
+          let same : k ≡ j = cc in
+          omega arith
+      by_test false e' below =
+          let above = below e' in
+          omega arith
+
+  from_first : (xs : List X) (n k j : ℕ) → position_from p k xs ≡ Some j → list_any p (take n xs) ≡ nat_lt j (k + n)
+  from_first [] n k j e = absurd cc
+  from_first (x ∷ xs) zero k j e =
+      let above = not_below (x ∷ xs) k j e in
+      sym (le-ltb j (k + zero) (omega arith))
+  from_first (x ∷ xs) (suc n) k j e = by_test (p x) refl e (from_first xs n (k + 1) j)
+    where
+      by_test : (b : Bool) → p x ≡ b → cond b (Some k) (position_from p (k + 1) xs) ≡ Some j
+          → (position_from p (k + 1) xs ≡ Some j → list_any p (take n xs) ≡ nat_lt j (k + 1 + n)) → list_any p (x ∷ take n xs) ≡ nat_lt j (k + suc n)
+      by_test true is e' below =
+          let same : k ≡ j = cc in
+          ap (λ (b : Bool). b || list_any p (take n xs)) is ∙ sym (lt-ltb j (k + suc n) (omega arith))
+      by_test false is e' below =
+          let sum : k + 1 + n ≡ k + suc n = omega arith in
+          ap (λ (b : Bool). b || list_any p (take n xs)) is ∙ (below e' ∙ ap (nat_lt j) sum)
+
+  -- one of the first n passes exactly where the first that passes is below n
+  pub first_below : (xs : List X) (n j : ℕ) → position p xs ≡ Some j → list_any p (take n xs) ≡ nat_lt j n
+  first_below xs n j e =
+      let sum : 0 + n ≡ n = omega arith in
+      from_first xs n 0 j (sym (position_from-zero p xs) ∙ e) ∙ ap (nat_lt j) sum
+
+  -- where none passes, none of the first n does
+  pub none_below : (xs : List X) (n : ℕ) → list_any p xs ≡ false → list_any p (take n xs) ≡ false
+  none_below [] zero e = refl
+  none_below [] (suc n) e = refl
+  none_below (x ∷ xs) zero e = refl
+  none_below (x ∷ xs) (suc n) e = by_test (p x) refl e (none_below xs n)
+    where
+      by_test : (b : Bool) → p x ≡ b → (b || list_any p xs) ≡ false → (list_any p xs ≡ false → list_any p (take n xs) ≡ false) → (p x || list_any p (take n xs)) ≡ false
+      by_test true is e' below = absurd cc
+      by_test false is e' below = ap (λ (b : Bool). b || list_any p (take n xs)) is ∙ below e'
+
   -- where there is no first, there is none
   pub none_passes : (xs : List X) → position p xs ≡ None → list_any p xs ≡ false
   none_passes xs e = from_none xs 0 (sym (position_from-zero p xs) ∙ e)
+
+  -- where some passes, there is a first
+  pub some_first : (xs : List X) → list_any p xs ≡ true → (i : ℕ) × (position p xs ≡ Some i)
+  some_first xs e = by_place (position p xs) refl
+    where
+      by_place : (r : Option ℕ) → position p xs ≡ r → (i : ℕ) × (position p xs ≡ Some i)
+      by_place (Some i) is = (i, is)
+      by_place None is = absurd (false≢true (sym (none_passes xs is) ∙ e))

@@ -1,8 +1,8 @@
 -- What each call does to the machines, by the first idle processor and the first parked machine.
-use Rattle.std.proofs.Common.{◌≡◌, ℕ, ◌<◌, ◌≤◌, ◌==◌, ◌⊎◌, Bool, true, false, not, ◌&&◌, Option, Some, None, List, get_or, replicate, set, refl, sym, ap, subst, ◌∙◌, inl, inr, arith}
-use Rattle.std.specs.Prelude.{count_by, is_none, position, slice_get}
+use Rattle.std.proofs.Common.{◌≡◌, ℕ, ◌<◌, ◌≤◌, ◌==◌, ◌⊎◌, Bool, true, false, not, ◌&&◌, Option, Some, None, List, get_or, map, replicate, set, refl, sym, ap, subst, ◌∙◌, inl, inr, arith}
+use Rattle.std.specs.Prelude.{count_by, is_none, position, slice_get, take}
 use Rattle.std.specs.List.{list_any}
-use Rattle.std.proofs.lemmas.Bool.{cases_lt}
+use Rattle.std.proofs.lemmas.Bool.{cases_lt, eqb-true}
 use Rattle.std.proofs.lemmas.List.{get_or-replicate, get_or_past, length-replicate, set_comm}
 use Rattle.std.proofs.lemmas.List.Folds.{list_any_at, sum_by-replicate}
 use Rattle.std.proofs.lemmas.List.Quantifiers.{position-Some}
@@ -12,12 +12,12 @@ use Rattle.gmp_base.specs.declared.number.PNo.{PNo}
 use Rattle.gmp_seq.specs.declared.call.Reply.TheVariants as reply
 use Rattle.gmp_seq.specs.declared.status.Mode.{Mode}
 use Rattle.gmp_seq.specs.declared.status.Mode.TheVariants.{Awake, Parked, Calling}
-use Rattle.gmp_seq.specs.Machines.{Machines, Enters, Holds, IsAwake, IsParked, Pokes, how_many_spin, is_held_by, is_parked_mode, set_holder, set_mode, some_idle, some_parked, wants_poke}
+use Rattle.gmp_seq.specs.Machines.{Machines, awake_marked, is_awake_mode, Enters, Holds, IsAwake, IsParked, MayKeep, Pokes, has_processor, how_many_spin, is_held_by, is_parked_mode, set_holder, set_mode, some_idle, some_parked, wants_poke}
 use Rattle.gmp_idle.specs.Kept.{HaveFlags, flag_of}
 use Rattle.gmp_idle.specs.Replies.{poke_reply}
 use Rattle.gmp_idle.specs.Tables.{WakesLeast}
 use Rattle.gmp_idle.proofs.Holding.{flag-set_same, flag_told, given_up, holder_within, list_any-count_by, number_of, taken, turned}
-use Rattle.gmp_idle.proofs.Marking.{not-not}
+use Rattle.gmp_idle.proofs.Marking.{first_below, not-not, some_first}
 
 -- The first ones
 
@@ -44,6 +44,20 @@ some_is_parked : (modes : List Mode) (i : ℕ) → position is_parked_mode modes
 some_is_parked modes i first =
     let there = position-Some is_parked_mode modes i Parked first in
     list_any_at is_parked_mode modes i Parked there.0 there.1
+
+held_by : (m : MNo) (holder : Option MNo) → is_held_by m holder ≡ true → holder ≡ Some m
+held_by m None e = absurd cc
+held_by m (Some n) e = ap (λ (k : ℕ). Some (record { 0 = k })) (sym (eqb-true m.0 n.0 e))
+
+-- whether its processor is among the active ones, of a machine that has one
+pub keeps : (w : Machines) (m : MNo) (r : Bool) → IsAwake w m → has_processor w m ≡ true → r ≡ list_any (is_held_by m) (take w.active w.holders)
+    → MayKeep m (reply.Answer r) w w
+keeps w m r awake has told =
+    let none : Option MNo = None in
+    let first = some_first (is_held_by m) w.holders has in
+    let there = position-Some (is_held_by m) w.holders first.0 none first.1 in
+    let holds = slice_get-get_or w.holders first.0 none there.0 ∙ ap Some (held_by m (get_or w.holders first.0 none) there.1) in
+    (awake, record { 0 = first.0 }, holds, told ∙ first_below (is_held_by m) w.holders w.active first.0 first.1, refl)
 
 -- What is kept
 
@@ -127,7 +141,7 @@ wants w may some e parked =
     both (how_many_spin w == 0) (some_idle w) (some_parked w) ∙ (ap (λ (a : Bool). a && some_parked w) e ∙ ap (λ (a : Bool). may && a) parked)
 
 pub pokes : (old value : Machines) (m : MNo) (r : Option MNo) (woken : List Mode) → old ≡ value → IsAwake value m → may_wake old ≡ true → WakesLeast r old.modes woken
-    → Pokes m (poke_reply r) value (record { holders = old.holders; modes = woken; spinning = old.spinning })
+    → Pokes m (poke_reply r) value (record { holders = old.holders; modes = woken; spinning = old.spinning; marked = old.marked; active = old.active })
 pokes old value m None woken is awake may wakes = (
   awake,
   ap wants_poke (sym is) ∙ wants old true false may wakes.0,
@@ -143,11 +157,11 @@ pokes old value m (Some n) woken is awake may wakes = (
 -- between, the machine's processor is idle, and nothing else is done
 pub enters : (between value : Machines) (m : MNo) (p : PNo) (r : Option MNo) (woken : List Mode) → between ≡ set_holder value p None → IsAwake value m
     → Holds value m p → WakesLeast r between.modes woken
-    → Enters m (reply.Entered p r) value (record { holders = between.holders; modes = set woken m.0 Calling; spinning = between.spinning })
+    → Enters m (reply.Entered p r) value (record { holders = between.holders; modes = set woken m.0 Calling; spinning = between.spinning; marked = map is_awake_mode (set woken m.0 Calling); active = between.active })
 enters between value m p None woken is awake holds wakes = (
   holds,
   ap some_parked (sym is) ∙ wakes.0,
-  ap (λ (ms : List Mode). set_mode (record between { modes = ms }) m Calling) wakes.1 ∙ ap (λ (w : Machines). set_mode w m Calling) is,
+  ap (λ (ms : List Mode). awake_marked (set_mode (record between { modes = ms }) m Calling)) wakes.1 ∙ ap (λ (w : Machines). awake_marked (set_mode w m Calling)) is,
 )
 enters between value m p (Some n) woken is awake holds wakes =
     let parked = first_parked between.modes n.0 wakes.0 in
@@ -156,7 +170,7 @@ enters between value m p (Some n) woken is awake holds wakes =
     ap (λ ms. set ms m.0 Calling) wakes.1 ∙ set_comm between.modes n.0 m.0 Awake Calling (apart between.modes n.0 m.0 parked here) in (
       holds,
       subst (λ (w : Machines). IsParked w n) is parked,
-      ap (λ (ms : List Mode). record between { modes = ms }) turned ∙ ap (λ (w : Machines). set_mode (set_mode w m Calling) n Awake) is,
+      ap (λ (ms : List Mode). awake_marked (record between { modes = ms })) turned ∙ ap (λ (w : Machines). awake_marked (set_mode (set_mode w m Calling) n Awake)) is,
     )
   where
     apart : (modes : List Mode) (i j : ℕ) → slice_get modes i ≡ Some Parked → slice_get modes j ≡ Some Awake → i ≡ j → ⊥

@@ -1,5 +1,5 @@
--- What is done to the least idle processor, and to the least parked machine.
-use Rattle.std.specs.Prelude.{◌≡◌, false, Option, None, Some, List, is_none, position, slice_set}
+-- What is done to the least idle processor that is active, and to the least parked machine.
+use Rattle.std.specs.Prelude.{◌≡◌, ℕ, ◌<◌, false, Option, None, Some, List, is_none, position, take, slice_set}
 use Rattle.std.specs.List.{list_any}
 use Rattle.gmp_base.specs.declared.number.MNo.{MNo}
 use Rattle.gmp_base.specs.declared.number.PNo.{PNo}
@@ -7,10 +7,10 @@ use Rattle.gmp_seq.specs.declared.status.Mode.{Mode}
 use Rattle.gmp_seq.specs.declared.status.Mode.TheVariants.{Awake}
 use Rattle.gmp_seq.specs.Machines.{is_parked_mode}
 
--- the machine holds the least idle processor from now on, or none is idle
-abbrev pub TakesLeast : MNo → Option PNo → List (Option MNo) → List (Option MNo) → Type 0
-TakesLeast m (Some p) old new = (position is_none old ≡ Some p.0) × (new ≡ slice_set old p.0 (Some m))
-TakesLeast m None old new = (list_any is_none old ≡ false) × (new ≡ old)
+-- the machine holds the least idle processor from now on, which is active, or no active one is idle
+abbrev pub TakesLeast : MNo → ℕ → Option PNo → List (Option MNo) → List (Option MNo) → Type 0
+TakesLeast m active (Some p) old new = (position is_none old ≡ Some p.0) × (p.0 < active) × (new ≡ slice_set old p.0 (Some m))
+TakesLeast m active None old new = (list_any is_none (take active old) ≡ false) × (new ≡ old)
 
 -- the least parked machine is awake from now on, or none is parked
 abbrev pub WakesLeast : Option MNo → List Mode → List Mode → Type 0

@@ -1,11 +1,11 @@
-//! Machines, the processors that they hold, and which of them spin.
-ghost use Rattle.std.specs.Prelude.{◌≡◌, ◌⊎◌, ◌≤◌, ◌==◌, ◌&&◌, false, None, Some, is_none, position, replicate, slice_get, IfNone, IfOk, IfSome};
+//! Machines, the processors that they hold, how many of these are active, and which machines spin.
+ghost use Rattle.std.specs.Prelude.{◌≡◌, true, ◌⊎◌, ◌≤◌, ◌==◌, ◌&&◌, false, None, Some, ◌<◌, length, is_none, position, replicate, slice_get, IfNone, IfOk, IfSome};
 ghost use Rattle.std.specs.Option.{option_map_or};
 ghost use Rattle.gmp_base.specs.declared.number.Readiness.{Readiness};
 ghost use Rattle.gmp_seq.specs.declared.call.Reply.{Reply};
 ghost use Rattle.gmp_seq.specs.declared.status.Mode.{Mode};
-ghost use Rattle.gmp_seq.specs.Machines.{Acquires, Declares, Enters, Holds, IsAwake, IsParked, Looks, Pokes, Returns, Spins, Unspins, has_processor, how_many_spin, is_held_by, is_parked_mode, may_spin, set_holder, set_mode, some_idle, spins, is_awake_mode, is_calling_mode};
-ghost use Rattle.gmp_idle.specs.Replies.{acquire_reply, poke_reply};
+ghost use Rattle.gmp_seq.specs.Machines.{Acquires, Bares, Declares, Enters, Holds, MayKeep, Sets, is_good_number, IsAwake, IsBare, IsParked, Looks, Pokes, Returns, Spins, Unspins, has_processor, how_many_spin, is_held_by, is_marked, unmarked, is_parked_mode, may_spin, set_holder, set_mode, some_idle, spins, is_awake_mode, is_calling_mode};
+ghost use Rattle.gmp_idle.specs.Replies.{acquire_reply, poke_reply, procs_reply};
 
 use crate::modes::Modes;
 use crate::processors::Processors;
@@ -15,7 +15,7 @@ use gmp_seq::Mode;
 use std::alloc::{AllocError, Global};
 use std::marker::Model;
 
-/// Who holds each processor, what each machine does, and which of them spin. A contract sees the three lists.
+/// Who holds each processor, how many are active, what each machine does, which of them spin, and which are marked.
 ///
 /// A machine holds one processor at most.
 #[derive(Drop)]
@@ -25,32 +25,40 @@ pub struct Machines {
     /// Those that hold a processor.
     holding: SmallSet,
     spinning: SmallSet,
+    /// Those that are to look at all queues once more before they park.
+    marked: SmallSet,
+    /// How many processors are given out: those below this number.
+    active: u8,
 }
 
 impl Model for Machines {
+    ghost use Rattle.std.specs.Prelude.{◌≡◌, length};
     ghost use Rattle.gmp_seq.specs.Machines.{Machines as MachinesValue};
     ghost use Rattle.gmp_idle.specs.Kept.{HaveFlags};
 
     ghost Value = { MachinesValue };
 
-    ghost view = { λ w. record { holders = w.processors; modes = w.modes; spinning = w.spinning } };
+    ghost view = { λ w. record { holders = w.processors; modes = w.modes; spinning = w.spinning; marked = w.marked; active = w.active } };
 
-    ghost invariant = { λ w. HaveFlags w.processors w.modes w.holding w.spinning };
+    ghost invariant = { λ w. HaveFlags w.processors w.modes w.holding w.spinning × (length w.marked ≡ length w.modes) };
 }
 
 impl Machines {
-    /// No processor is held, all machines are awake, and nobody spins. It alone takes memory, and its cost is linear.
+    /// No processor is held, all machines are awake, nobody spins and nobody is marked. It alone takes memory, and its cost is linear.
     pub fn opening(alloc: Global, procs: u8, machines: u8) -> Result<Self, AllocError>
         requires some { 1 ≤ procs }
         requires procs { procs ≤ 32 }
+        requires some_machines { 1 ≤ machines }
         requires machines { machines ≤ 64 }
-        ensures { IfOk result (λ w. w ≡ record { holders = replicate procs None; modes = replicate machines Mode.Awake; spinning = replicate machines false }) }
+        ensures { IfOk result (λ w. w ≡ record { holders = replicate procs None; modes = replicate machines Mode.Awake; spinning = replicate machines false; marked = replicate machines false; active = procs }) }
     {
         Ok(Machines {
             processors: Processors::idle(alloc, procs)?,
             modes: Modes::all_awake(alloc, machines)?,
             holding: SmallSet::none(machines),
             spinning: SmallSet::none(machines),
+            marked: SmallSet::none(machines),
+            active: procs,
         })
     }
 
@@ -82,6 +90,13 @@ impl Machines {
         self.spinning.contains(m.0)
     }
 
+    /// Whether m is to look again.
+    pub fn is_marked(&self, m: MNo) -> bool
+        ensures { result ≡ is_marked self.now m }
+    {
+        self.marked.contains(m.0)
+    }
+
     /// Whether m holds p.
     pub fn holds(&self, m: MNo, p: PNo) -> bool
         ensures { result ≡ option_map_or (is_held_by m) (slice_get self.now.holders p.0) false }
@@ -96,21 +111,49 @@ impl Machines {
         self.holding.contains(m.0)
     }
 
-    /// Whether a processor is idle.
+    /// Whether an active processor is idle.
     pub fn has_idle(&self) -> bool
         ensures { result ≡ some_idle self.now }
     {
-        self.processors.has_idle()
+        self.processors.has_idle(self.active)
     }
 
-    /// Lets m, which holds none, hold the least idle processor.
+    /// Whether the processor that m holds is active. The cost is linear in the processors.
+    pub fn keep(&self, m: MNo) -> bool
+        requires awake { IsAwake self.now m }
+        requires holds { has_processor self.now m ≡ true }
+        ensures { MayKeep m (Reply.Answer result) self.now self.now }
+    {
+        self.processors.holds_below(m, self.active)
+    }
+
+    /// Whether so many processors can be active.
+    fn is_good(&self, n: u8) -> bool
+        ensures { result ≡ is_good_number self.now n }
+    {
+        1 <= n && n as usize <= self.processors.len()
+    }
+
+    /// So many processors are active from now on, if there are as many. The answer is how many were.
+    pub fn set_active(&mut self, n: u8) -> Option<u8>
+        ensures { Sets n (procs_reply result) self.old self.new }
+    {
+        if !self.is_good(n) {
+            return None;
+        }
+        let before = self.active;
+        self.active = n;
+        Some(before)
+    }
+
+    /// Lets m, which holds none, hold the least idle processor, where it is active.
     pub fn acquire(&mut self, m: MNo) -> Option<PNo>
         requires awake { IsAwake self.old m }
         requires bare { has_processor self.old m ≡ false }
         ensures acquires { Acquires m (acquire_reply result) self.old self.new }
         ensures least { IfSome result (λ p. position is_none self.old.holders ≡ Some p.0) }
     {
-        let p = self.processors.take(m)?;
+        let p = self.processors.take(m, self.active)?;
         self.holding.insert(m.0);
         Some(p)
     }
@@ -120,18 +163,36 @@ impl Machines {
         requires { Holds self.old m p }
         ensures idle { self.new ≡ set_holder self.old p None }
         ensures bare { has_processor self.new m ≡ false }
+        ensures there { m.0 < length self.new.modes }
     {
         self.processors.release(p);
         self.holding.remove(m.0);
     }
 
-    /// m gives up p, which it holds.
+    /// m is marked no more.
+    fn unmark(&mut self, m: MNo)
+        requires { m.0 < length self.old.modes }
+        ensures { self.new ≡ unmarked self.old m }
+    {
+        self.marked.remove(m.0);
+    }
+
+    /// m, which holds no processor, is marked no more.
+    pub fn bare(&mut self, m: MNo)
+        requires { IsBare self.old m }
+        ensures { Bares m Reply.Done self.old self.new }
+    {
+        self.unmark(m)
+    }
+
+    /// m gives up p, which it holds, and is marked no more.
     pub fn declare(&mut self, m: MNo, p: PNo)
         requires calm { spins self.old m ≡ false }
         requires holds { Holds self.old m p }
         ensures { Declares m (Reply.Idle p) self.old self.new }
     {
-        self.release(m, p)
+        self.release(m, p);
+        self.unmark(m)
     }
 
     /// m has nothing to do, and is to be woken.
@@ -142,7 +203,8 @@ impl Machines {
         self.modes.put(m, Mode::Parked);
     }
 
-    /// m goes into a blocking call, and gives up p, which it holds. The least parked machine wakes, where one is parked.
+    /// m goes into a blocking call, and gives up p, which it holds. The least parked machine wakes, where one is parked, and all that are awake
+    /// then are marked.
     pub fn enter(&mut self, m: MNo, p: PNo) -> Option<MNo>
         requires awake { IsAwake self.old m }
         requires holds { Holds self.old m p }
@@ -152,10 +214,11 @@ impl Machines {
         self.release(m, p);
         let woken = self.modes.wake_least();
         self.modes.put(m, Mode::Calling);
+        self.marked = self.modes.awake();
         woken
     }
 
-    /// m comes back from its blocking call, and holds the least idle processor, where one is idle.
+    /// m comes back from its blocking call, and holds the least idle processor, where it is active.
     pub fn leave(&mut self, m: MNo) -> Option<PNo>
         requires { slice_get self.old.modes m.0 ≡ Some Mode.Calling }
         ensures runs { IfSome result (λ p. Returns m (Reply.Runs p) self.old self.new) }
@@ -166,14 +229,14 @@ impl Machines {
         self.acquire(m)
     }
 
-    /// Whether m may begin to spin: it doesn't spin, and fewer machines spin than there are processors.
+    /// Whether m may begin to spin: it doesn't spin, and fewer machines spin than processors are active.
     fn may_spin(&self, m: MNo) -> bool
         ensures { result ≡ may_spin self.now m }
     {
-        !self.spinning.contains(m.0) && self.spinning.len() < self.processors.len()
+        !self.spinning.contains(m.0) && self.spinning.len() < self.active as usize
     }
 
-    /// m begins to look for work, unless it does already or as many do as there are processors. The answer is whether it begins.
+    /// m begins to look for work, unless it does already or as many do as processors are active. The answer is whether it begins.
     pub fn spin(&mut self, m: MNo) -> bool
         requires { IsAwake self.old m }
         ensures { Spins m (Reply.Answer result) self.old self.new }
@@ -193,14 +256,14 @@ impl Machines {
         self.spinning.remove(m.0);
     }
 
-    /// Whether a machine may be woken: nobody spins, and a processor is idle.
+    /// Whether a machine may be woken: nobody spins, and an active processor is idle.
     fn may_wake(&self) -> bool
         ensures { result ≡ ((how_many_spin self.now == 0) && some_idle self.now) }
     {
-        self.spinning.is_empty() && self.processors.has_idle()
+        self.spinning.is_empty() && self.has_idle()
     }
 
-    /// m wakes the least parked machine, where nobody spins and a processor is idle.
+    /// m wakes the least parked machine, where nobody spins and an active processor is idle.
     pub fn poke(&mut self, m: MNo) -> Option<MNo>
         requires { IsAwake self.old m }
         ensures pokes { Pokes m (poke_reply result) self.old self.new }

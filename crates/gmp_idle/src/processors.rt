@@ -1,5 +1,5 @@
 //! Processors, and the machines that hold them.
-ghost use Rattle.std.specs.Prelude.{◌≡◌, ◌≤◌, ◌<◌, false, None, is_none, length, replicate, slice_get, slice_set, IfOk};
+ghost use Rattle.std.specs.Prelude.{◌≡◌, ◌≤◌, ◌<◌, false, None, is_none, length, replicate, take, slice_get, slice_set, IfOk};
 ghost use Rattle.std.specs.List.{list_any};
 ghost use Rattle.std.specs.Option.{option_map_or};
 ghost use Rattle.gmp_seq.specs.Machines.{is_held_by};
@@ -12,7 +12,7 @@ use std::marker::Model;
 
 /// Who holds each processor. A contract sees the list of the holders.
 ///
-/// Each call but `idle` is constant.
+/// Each call but `idle` and `holds_below` is constant.
 #[derive(Drop)]
 pub(crate) struct Processors {
     holders: Vec<Option<MNo>>,
@@ -50,11 +50,14 @@ impl Processors {
         self.holders.len()
     }
 
-    /// Whether nobody holds some processor.
-    pub(crate) fn has_idle(&self) -> bool
-        ensures { result ≡ list_any is_none self.now }
+    /// Whether nobody holds some processor below `active`.
+    pub(crate) fn has_idle(&self, active: u8) -> bool
+        ensures { result ≡ list_any is_none (take active self.now) }
     {
-        !self.idle.is_empty()
+        match self.idle.least() {
+            Some(p) => p < active,
+            None => false,
+        }
     }
 
     /// Whether m holds p.
@@ -67,11 +70,24 @@ impl Processors {
         }
     }
 
-    /// Lets m hold the least idle processor.
-    pub(crate) fn take(&mut self, m: MNo) -> Option<PNo>
-        ensures { TakesLeast m result self.old self.new }
+    /// Whether m holds a processor below `active`. The cost is linear.
+    pub(crate) fn holds_below(&self, m: MNo, active: u8) -> bool
+        ensures { result ≡ list_any (is_held_by m) (take active self.now) }
+    {
+        self.holders
+            .iter()
+            .take(active as usize)
+            .any(|holder| matches!(holder, Some(n) if m.0 == n.0))
+    }
+
+    /// Lets m hold the least idle processor, where it is below `active`.
+    pub(crate) fn take(&mut self, m: MNo, active: u8) -> Option<PNo>
+        ensures { TakesLeast m active result self.old self.new }
     {
         let p = self.idle.least()?;
+        if p >= active {
+            return None;
+        }
         self.idle.remove(p);
         self.holders[p as usize] = Some(m);
         Some(PNo(p))

@@ -15,7 +15,7 @@ use Rattle.gmp_seq.proofs.Asleep.{fails_at}
 use Rattle.gmp_seq.proofs.Needed.{some_place}
 use Rattle.gmp_seq.specs.Machines.{Declares}
 use Rattle.gmp_seq.specs.Step.{ByRunning, Claims, Deals, EntersBy, Exits, Goparks, LeavesBy, OnTable, Parks, Selects, Sleeps, Yields}
-use Rattle.gmp_seq.specs.Table.{answer_of_ready, deadline_of, is_astir, is_ready_or_running, is_shelved, least_deadline, least_of, minded, set_status, stored_at}
+use Rattle.gmp_seq.specs.Table.{answer_of_ready, deadline_of, is_astir, is_ready_or_running, is_shelved, least_deadline, least_of, minded, stored_at}
 use Rattle.gmp_ledger.specs.Laws.{StepsAre}
 
 -- whichever goroutine of the machine's it is, it is this one
@@ -109,6 +109,7 @@ says : (m : MNo) (answer : Reply) (until : ℕ) (old new : State) → Parks m an
 says m (reply.Mind n) until old new (none, astir, minds, same) is = minds ∙ ap Some cc
 says m reply.Work until old new h is = cc
 says m reply.AllAsleep until old new h is = cc
+says m reply.LookAgain until old new h is = cc
 says m reply.Parked until old new h is = cc
 says m _ until old new h is = absurd h
 
@@ -120,7 +121,8 @@ minds m reply.Work until old new (work, same) is =
     absurd (false≢true (sym (fails_at (λ (x : Goroutine). is_ready_or_running x.status) old.table.goroutines spot.0 spot.1 none spot.2) ∙ shelved_is_ready spot.1.status spot.3))
 minds m reply.AllAsleep until old new (none, asleep, same) is =
     let both : None ≡ Some until = sym (still_least old.table.goroutines asleep) ∙ (minded_parts old.table until is).1 in cc
-minds m reply.Parked until old new (none, astir, told, same, rest, machines) is = let both : None ≡ Some until = sym told ∙ is in cc
+minds m reply.LookAgain until old new (none, astir, told, marked, same) is = let both : None ≡ Some until = sym told ∙ is in cc
+minds m reply.Parked until old new (none, astir, told, unmarked, same, rest, machines) is = let both : None ≡ Some until = sym told ∙ is in cc
 minds m _ until old new h is = absurd h
 
 -- a park tells a deadline exactly where that is minded

@@ -112,6 +112,8 @@ needs_of s m call.Enter values (run, g, other, p, are) = rw are (by_values _ (ei
 needs_of s m (call.Leave number) values (run, g, are) = rw are (by_values _ (alone _ (calls s.table g m)))
 needs_of s m call.Spin values are = rw are (by_state _ (either _ _ (awake s m) (itself _)))
 needs_of s m call.Woken values are = rw are (by_state _ (no_call s m))
+needs_of s m call.Keep values are =
+    rw are (λ h. ((awake s m).0 h.0, not_false _ h.1), λ h. ((awake s m).1 h.0, ap not h.1, refl, refl))
 needs_of s m call.Unspin values are = rw are (by_state _ (awake s m))
 needs_of s m call.Poke values are = rw are (by_state _ (awake s m))
 needs_of s m call.Declare values (run, p, are) =

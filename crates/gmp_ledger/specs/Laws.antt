@@ -27,6 +27,7 @@ NeedsOf m g p (call.Leave number) s = IsCalling s.table g m
 NeedsOf m g p call.Spin s = Needs m call.Spin s
 -- the machine is in no blocking call
 NeedsOf m g p call.Woken s = slice_get s.machines.modes m.0 ≡ Some mode.Calling → ⊥
+NeedsOf m g p call.Keep s = Needs m call.Keep s
 NeedsOf m g p call.Unspin s = Needs m call.Unspin s
 NeedsOf m g p call.Poke s = Needs m call.Poke s
 NeedsOf m g p call.Declare s = RunsNothing s.table m × (spins s.machines m ≡ false) × Holds s.machines m p

@@ -45,6 +45,7 @@ is_busy s m (call.Claim r) = not (is_awake s m) || runs_some s m || spins s.mach
 is_busy s m call.Spin = not (is_awake s m) || runs_some s m
 is_busy s m call.Unspin = not (is_awake s m)
 is_busy s m call.Woken = calls_some s m
+is_busy s m call.Keep = not (is_awake s m)
 is_busy s m call.Poke = not (is_awake s m)
 is_busy s m call.Declare = runs_some s m || spins s.machines m
 is_busy s m call.Bare = not (is_awake s m) || has_processor s.machines m || spins s.machines m
@@ -56,6 +57,7 @@ is_busy s m _ = false
 -- the call is for those that hold a processor, and the machine holds none
 abbrev pub lacks_processor : State → MNo → Call → Bool
 lacks_processor s m (call.Claim r) = not (has_processor s.machines m)
+lacks_processor s m call.Keep = not (has_processor s.machines m)
 lacks_processor s m _ = false
 
 -- a ticket is not given out, or was claimed or put back

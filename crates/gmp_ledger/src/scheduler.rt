@@ -18,7 +18,7 @@ ghost use Rattle.gmp_ledger.specs.Scene.{IsYoung, KeepsCounts, scheduler_state};
 mod refusing;
 
 use crate::counts::Counts;
-use gmp_base::{Case, GNo, MNo, PNo};
+use gmp_base::{Case, Fault, GNo, MNo, PNo};
 use gmp_goroutines::Goroutines;
 use gmp_idle::Machines;
 use gmp_seq::{Call, Limits, Outcome, Reply};
@@ -103,6 +103,10 @@ impl Scheduler {
             Call::Close(c) => self.goroutines.close(*c),
             Call::Len(c) => self.goroutines.len(*c),
             Call::Cap(c) => self.goroutines.cap(*c),
+            Call::Procs(n) => match self.machines.set_active(*n) {
+                Some(before) => Reply::Number(before.into()),
+                None => Reply::Fault(Fault::BadProcs),
+            },
             Call::Select(cases, has_default, until) => {
                 self.goroutines.select(g, cases, *has_default, *until, word)
             }
@@ -119,6 +123,7 @@ impl Scheduler {
             Call::Leave(number) => self.leave(m, g, *number),
             Call::Spin => Reply::Answer(self.machines.spin(m)),
             Call::Woken => Reply::Answer(self.machines.woken(m)),
+            Call::Keep => Reply::Answer(self.machines.keep(m)),
             Call::Unspin => {
                 self.machines.unspin(m);
                 Reply::Done
@@ -131,7 +136,10 @@ impl Scheduler {
                 self.machines.declare(m, p);
                 Reply::Idle(p)
             }
-            Call::Bare => Reply::Done,
+            Call::Bare => {
+                self.machines.bare(m);
+                Reply::Done
+            }
             Call::Park => self.park(m),
             Call::Tick(moment) => Reply::Woke(self.goroutines.tick(*moment)),
         })
@@ -152,7 +160,7 @@ impl Scheduler {
         }
     }
 
-    /// m has nothing to do: it parks, unless there is work, or a deadline to mind, or all are asleep.
+    /// m has nothing to do: it parks, unless there is work, or a deadline to mind, or all are asleep, or it is to look again.
     fn park(&mut self, m: MNo) -> Reply
         requires { IsBare self.old.machines m }
         ensures parks { Parks m result (scheduler_state self.old) (scheduler_state self.new) }
@@ -166,6 +174,9 @@ impl Scheduler {
         }
         if let Some(until) = self.goroutines.minded() {
             return Reply::Mind(until);
+        }
+        if self.machines.is_marked(m) {
+            return Reply::LookAgain;
         }
         self.machines.park(m);
         Reply::Parked

@@ -156,6 +156,8 @@ module _ {T Q : Type 0} (run : ℕ) (pass behind : Pass) (back : Values T Q) (ol
   backs call.Spin _ hand u can k = absurd can
   backs call.Woken (reply.Answer b) hand u can k = idle behind back false hand k.body.0 k.body.1 k.ticket k.owner.0
   backs call.Woken _ hand u can k = absurd can
+  backs call.Keep (reply.Answer b) hand u can k = idle behind back false hand k.body.0 k.body.1 k.ticket k.owner.0
+  backs call.Keep _ hand u can k = absurd can
   backs call.Unspin reply.Done hand u can k = idle behind back false hand k.body.0 k.body.1 k.ticket k.owner.0
   backs call.Unspin _ hand u can k = absurd can
   backs call.Poke (reply.Wakes n) hand u can k = idle behind back false hand k.body.0 k.body.1 k.ticket k.owner.0
@@ -167,6 +169,7 @@ module _ {T Q : Type 0} (run : ℕ) (pass behind : Pass) (back : Values T Q) (ol
   backs call.Bare _ hand u can k = absurd can
   backs call.Park reply.Parked hand u can k = idle behind back false hand k.body.0 k.body.1 k.ticket k.owner.0
   backs call.Park reply.Work hand u can k = idle behind back false hand k.body.0 k.body.1 k.ticket k.owner.0
+  backs call.Park reply.LookAgain hand u can k = idle behind back false hand k.body.0 k.body.1 k.ticket k.owner.0
   backs call.Park (reply.Mind until) hand u can k = idle behind back false hand k.body.0 k.body.1 k.ticket k.owner.0
   backs call.Park reply.AllAsleep hand u can k = idle behind back false hand k.body.0 k.body.1 k.ticket k.owner.0
   backs call.Park _ hand u can k = absurd can

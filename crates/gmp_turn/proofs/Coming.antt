@@ -158,6 +158,7 @@ module _ {T Q : Type 0} (run : ℕ) (pass : Pass) where
   by_parts call.Take why p h l t s = (refl, record { processor = inr refl; held = inr refl; called = inr refl; to_claim = inr refl; to_store = inr refl })
   by_parts call.Spin why p h l t s = (refl, record { processor = inr refl; held = inr refl; called = inr refl; to_claim = inr refl; to_store = inr refl })
   by_parts call.Woken why p h l t s = (refl, record { processor = inr refl; held = inr refl; called = inr refl; to_claim = inr refl; to_store = inr refl })
+  by_parts call.Keep why p h l t s = (refl, record { processor = inr refl; held = inr refl; called = inr refl; to_claim = inr refl; to_store = inr refl })
   by_parts call.Unspin why p h l t s = (refl, record { processor = inr refl; held = inr refl; called = inr refl; to_claim = inr refl; to_store = inr refl })
   by_parts call.Poke why p h l t s = (refl, record { processor = inr refl; held = inr refl; called = inr refl; to_claim = inr refl; to_store = inr refl })
   by_parts call.Bare why p h l t s = (refl, record { processor = inr refl; held = inr refl; called = inr refl; to_claim = inr refl; to_store = inr refl })

@@ -43,6 +43,7 @@ pub at_over : (s : Seen) (here : Place) (which : Option Value) → act_at s here
 at_over s place.Over which e = (refl, cc)
 at_over s place.Look which e = absurd (look (nat_le 16 s.turns) which e)
 at_over s (place.PutMore v goal) which e = absurd (puts s.to_store which e)
+at_over s place.PutDrain which e = absurd (puts s.to_store which e)
 at_over s place.PutStore which e = absurd (puts s.to_store which e)
 at_over s place.PutHave which e = absurd (puts s.to_claim which e)
 at_over s place.Claim which e = absurd (claims s.fresh s.to_claim which e)

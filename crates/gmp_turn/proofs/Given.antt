@@ -58,6 +58,7 @@ module _ {T Q : Type 0} (run : ℕ) (pass : Pass) where
   suits call.Declare hand u = (let w = some_of hand.processor u.2 in declares hand w.0 w.1)
   suits call.Spin hand u = refl
   suits call.Woken hand u = refl
+  suits call.Keep hand u = refl
   suits call.Unspin hand u = refl
   suits call.Poke hand u = refl
   suits call.Bare hand u = refl

@@ -82,6 +82,8 @@ module _ {T Q : Type 0} where
   may_turn call.Spin _ hand u can = absurd can
   may_turn call.Woken (reply.Answer b) hand u can = (tt, tt)
   may_turn call.Woken _ hand u can = absurd can
+  may_turn call.Keep (reply.Answer b) hand u can = (tt, tt)
+  may_turn call.Keep _ hand u can = absurd can
   may_turn call.Unspin reply.Done hand u can = (tt, tt)
   may_turn call.Unspin _ hand u can = absurd can
   may_turn call.Poke (reply.Wakes n) hand u can = (tt, tt)
@@ -93,6 +95,7 @@ module _ {T Q : Type 0} where
   may_turn call.Bare _ hand u can = absurd can
   may_turn call.Park reply.Parked hand u can = (tt, tt)
   may_turn call.Park reply.Work hand u can = (tt, tt)
+  may_turn call.Park reply.LookAgain hand u can = (tt, tt)
   may_turn call.Park (reply.Mind until) hand u can = (tt, tt)
   may_turn call.Park reply.AllAsleep hand u can = (tt, tt)
   may_turn call.Park _ hand u can = absurd can

@@ -111,6 +111,7 @@ module _ {T Q : Type 0} (run : ℕ) (pass : Pass) (m : MNo) (s : State) (hand : 
   asked call.Spin u n = n
   asked call.Woken u (inl awake) = (λ calls. cc)
   asked call.Woken u (inr parked) = (λ calls. cc)
+  asked call.Keep u n = n
   asked call.Unspin u n = n
   asked call.Poke u n = n
   asked call.Declare u n = (let w = some_of hand.processor u.2 in declares w.0 w.1 n)

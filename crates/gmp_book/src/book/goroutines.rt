@@ -163,6 +163,24 @@ impl<T, Q> Book<T, Q> {
         }
     }
 
+    /// So many processors are active from now on, from 1 up to as many as there are: who asks is told how many were. Another number is a
+    /// fault.
+    pub fn procs(
+        &mut self,
+        pass: &mut Pass,
+        held: Held<T>,
+        n: u8,
+    ) -> Result<Went<T>, Refused<Held<T>>>
+        ensures refused { why_refused result ≡ refusal_of self.old.log pass.old (Call.Procs n) (by_held held) }
+        ensures back { IfErr result (λ r. r.back ≡ held) }
+        ensures err { OnErr result ((self.new ≡ self.old) × (pass.new ≡ pass.old)) }
+        ensures entry { IfOk result (λ w. ProceedsOn self.old.log pass.old (Call.Procs n) held self.new.log pass.new w) }
+        ensures values { OnOk result (SameValues self.old self.new) }
+    {
+        let (moved, _) = self.ask(None, pass, held, Call::Procs(n), 0)?;
+        Ok(moved.went())
+    }
+
     /// Makes a goroutine ready that is parked; its ticket is given out. The goroutine that asks goes on: it is told Done, or a fault
     /// where the other one isn't parked, or isn't there.
     pub fn ready(

@@ -21,7 +21,7 @@ impl<T, Q> Book<T, Q> {
     ghost use Rattle.gmp_book.specs.Book.{HandsOutOwner, SameValues, TakesBackOwner};
     ghost use Rattle.gmp_book.specs.Returns.{ByLeast, ComesBack, leave_reply};
 
-    /// Lets the machine hold the least idle processor, if one is idle.
+    /// Lets the machine hold the least idle processor, if that is active.
     pub fn acquire(&mut self, pass: &mut Pass) -> Result<Option<Proc<Q>>, Refusal>
         ensures refused { refusal_in result ≡ refusal_of self.old.log pass.old Call.Acquire nothing_handed }
         ensures err { OnErr result ((self.new ≡ self.old) × (pass.new ≡ pass.old)) }
@@ -57,7 +57,7 @@ impl<T, Q> Book<T, Q> {
         }
     }
 
-    /// Wakes the least parked machine, where nobody spins and a processor is idle.
+    /// Wakes the least parked machine, where nobody spins and an active processor is idle.
     pub fn poke(&mut self, pass: &mut Pass) -> Result<Option<MNo>, Refusal>
         ensures refused { refusal_in result ≡ refusal_of self.old.log pass.old Call.Poke nothing_handed }
         ensures err { OnErr result ((self.new ≡ self.old) × (pass.new ≡ pass.old)) }
@@ -72,7 +72,7 @@ impl<T, Q> Book<T, Q> {
         }
     }
 
-    /// Parks the machine, which holds no processor and has nothing to do, unless there is work or a deadline to mind. Where nobody
+    /// Parks the machine, which holds no processor and has nothing to do, unless there is work, a deadline to mind, or it is to look again. Where nobody
     /// can ever go on, all are asleep and the run is over.
     pub fn park(&mut self, pass: &mut Pass) -> Result<Parking, Refusal>
         ensures refused { refusal_in result ≡ refusal_of self.old.log pass.old Call.Park nothing_handed }
@@ -85,6 +85,7 @@ impl<T, Q> Book<T, Q> {
     {
         match self.note(pass, Call::Park)? {
             (None, Reply::Work) => Ok(Parking::Work),
+            (None, Reply::LookAgain) => Ok(Parking::LookAgain),
             (None, Reply::Mind(until)) => Ok(Parking::Mind(until)),
             (None, Reply::AllAsleep) => Ok(Parking::AllAsleep),
             (None, Reply::Parked) => Ok(Parking::Parked),
@@ -106,8 +107,8 @@ impl<T, Q> Book<T, Q> {
         }
     }
 
-    /// The machine, which runs nothing, begins to look for work, unless it does already or as many machines do as there are
-    /// processors. The answer is whether it begins.
+    /// The machine, which runs nothing, begins to look for work, unless it does already or as many machines do as
+    /// processors are active. The answer is whether it begins.
     pub fn spin(&mut self, pass: &mut Pass) -> Result<bool, Refusal>
         ensures refused { refusal_in result ≡ refusal_of self.old.log pass.old Call.Spin nothing_handed }
         ensures err { OnErr result ((self.new ≡ self.old) × (pass.new ≡ pass.old)) }
@@ -146,7 +147,21 @@ impl<T, Q> Book<T, Q> {
         }
     }
 
-    /// Says in the history that the machine holds no processor and doesn't look for work. Nothing else changes.
+    /// Whether the machine may keep its processor: whether that is active. Nothing changes but the history.
+    pub fn keep(&mut self, pass: &mut Pass) -> Result<bool, Refusal>
+        ensures refused { refusal_in result ≡ refusal_of self.old.log pass.old Call.Keep nothing_handed }
+        ensures err { OnErr result ((self.new ≡ self.old) × (pass.new ≡ pass.old)) }
+        ensures entry { IfOk result (λ may. Records self.old.log pass.old Call.Keep (Reply.Answer may) self.new.log pass.new) }
+        ensures values { OnOk result (SameValues self.old self.new) }
+    {
+        match self.note(pass, Call::Keep)? {
+            (None, Reply::Answer(may)) => Ok(may),
+            (_left, _) => unreachable!(),
+        }
+    }
+
+    /// Says in the history that the machine holds no processor and doesn't look for work. It is marked no more, and nothing else
+    /// changes.
     pub fn declare_bare(&mut self, pass: &mut Pass) -> Result<(), Refusal>
         ensures refused { refusal_in result ≡ refusal_of self.old.log pass.old Call.Bare nothing_handed }
         ensures err { OnErr result ((self.new ≡ self.old) × (pass.new ≡ pass.old)) }
@@ -189,7 +204,7 @@ impl<T, Q> Book<T, Q> {
         }
     }
 
-    /// The goroutine comes back from its blocking call with this number. It runs on where a processor is idle, and its machine holds the
+    /// The goroutine comes back from its blocking call with this number. It runs on where an active processor is idle, and its machine holds the
     /// least of these; else it goes onto the shelf, last, and its body into the book. It is told the number.
     pub fn leave(
         &mut self,

@@ -37,7 +37,7 @@ impl Scheduler {
     {
         match call {
             Call::Acquire => !self.machines.is_awake(m) || self.machines.has_processor(m),
-            Call::Take | Call::Put(_) | Call::Unspin | Call::Poke | Call::Tick(_) => {
+            Call::Take | Call::Put(_) | Call::Keep | Call::Unspin | Call::Poke | Call::Tick(_) => {
                 !self.machines.is_awake(m)
             }
             Call::Claim(_) => {
@@ -59,7 +59,7 @@ impl Scheduler {
         ensures { result ≡ lacks_processor (scheduler_state self.now) m call.now }
     {
         match call {
-            Call::Claim(_) => !self.machines.has_processor(m),
+            Call::Claim(_) | Call::Keep => !self.machines.has_processor(m),
             _ => false,
         }
     }

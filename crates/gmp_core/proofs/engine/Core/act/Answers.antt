@@ -2,11 +2,14 @@ use Rattle.std.proofs.Common.{ap}
 use Rattle.gmp_acts.proofs.Whole.{headline_of}
 use Rattle.gmp_core.specs.Whole.{Whole}
 use Rattle.gmp_core.proofs.Stock.{found}
-use Rattle.gmp_core.proofs.Together.{acts_so, calls_so, claims_so, core_so, finds_room, fixed_so, has_pass, headline_so, opened_so, room_so, same_run, stock_so}
+use Rattle.gmp_core.proofs.Together.{acts_so, awake_so, calls_so, claims_so, core_so, finds_room, fixed_so, has_pass, headline_so, opened_so, room_so, same_run, stock_so}
 use Rattle.gmp_core.proofs.engine.Core.act.Goals as goal
 
 pub returns-in_default-clause-headline : goal.returns-in_default-clause-headline
 returns-in_default-clause-headline g c = headline_of _ c.self.invariant.sound
+
+pub returns-in_default-clause-awake : goal.returns-in_default-clause-awake
+returns-in_default-clause-awake g c = c.self.invariant.watchful.awake
 
 pub act-made-requires-clause-pass : goal.act-made-requires-clause-pass
 act-made-requires-clause-pass g c =
@@ -62,6 +65,11 @@ pub returns-clause-headline : goal.returns-clause-headline
 returns-clause-headline g c =
     let at = found c.self.inside.drivers.items c.args.m.0 c.in-Some.driver.now c.in-Some.ensures.item.3.0 c.in-Some.ensures.value in
     rw (c.note.ensures.calls) (headline_so _ c.args.m c.in-Some.driver.now at c.self.invariant c.args.choice.now _ c.act-made.result c.has_few.ensures c.act-made.ensures.does)
+
+pub returns-clause-awake : goal.returns-clause-awake
+returns-clause-awake g c =
+    let at = found c.self.inside.drivers.items c.args.m.0 c.in-Some.driver.now c.in-Some.ensures.item.3.0 c.in-Some.ensures.value in
+    awake_so _ c.args.m c.in-Some.driver.now at c.self.invariant c.args.choice.now _ c.act-made.result c.has_few.ensures c.act-made.ensures.does
 
 pub returns-clause-opened : goal.returns-clause-opened
 returns-clause-opened g c =

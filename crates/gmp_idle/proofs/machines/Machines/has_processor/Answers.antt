@@ -6,4 +6,4 @@ use Rattle.gmp_idle.proofs.machines.Machines.has_processor.Goals as goal
 pub returns : goal.returns
 returns c =
     let i = c.self.inside in
-    c.contains.ensures ∙ (flag_told i.processors i.modes i.holding i.spinning c.args.m c.self.invariant ∙ ap (λ (w : Machines). has_processor w c.args.m) c.self.view_is)
+    c.contains.ensures ∙ (flag_told i.processors i.modes i.holding i.spinning c.args.m c.self.invariant.0 ∙ ap (λ (w : Machines). has_processor w c.args.m) c.self.view_is)

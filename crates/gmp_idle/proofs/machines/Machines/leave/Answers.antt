@@ -10,7 +10,7 @@ acquire-requires-clause-bare c =
     let i = c.self.inside in
     let m = c.args.m in
     let calls = subst (λ (w : Machines). slice_get w.modes m.0 ≡ Some Calling) (sym c.self.view_is) c.requires in
-    bare_in_call i.processors i.modes i.holding i.spinning c.self.invariant m calls
+    bare_in_call i.processors i.modes i.holding i.spinning c.self.invariant.0 m calls
 
 pub returns-clause-runs : goal.returns-clause-runs
 returns-clause-runs c = search rules
