@@ -10,3 +10,4 @@ pub mod Parts
 pub mod Replaying
 pub mod Making
 pub mod Checking
+pub mod Actives

@@ -8,8 +8,9 @@ use Rattle.gmp_seq.specs.declared.call.Call.TheVariants as call
 use Rattle.gmp_seq.specs.declared.call.Limits.{Limits}
 use Rattle.gmp_seq.specs.declared.call.Reply.{Reply}
 use Rattle.gmp_seq.specs.Channels.{Channel}
+use Rattle.gmp_seq.specs.Machines.{Machines}
 use Rattle.gmp_seq.specs.State.{State}
-use Rattle.gmp_seq.specs.Step.{ByRunning, Effect, OnChannels, OnTable, Selects, Tells, LeavesBy}
+use Rattle.gmp_seq.specs.Step.{ByRunning, Effect, OnChannels, OnMachines, OnTable, Selects, Tells, LeavesBy}
 use Rattle.gmp_seq.specs.Table.{Table, IsCalling, IsRunning}
 use Rattle.gmp_check.proofs.Deciding.{decides_as}
 use Rattle.gmp_check.specs.Decides.{Decides}
@@ -23,6 +24,13 @@ on_table R s t same new b is =
       here : (b : Bool) → Decides R t.table new b → Decides (OnTable R) t (record t { table = new }) b
       here true h = (h, refl, refl)
       here false h = (ap (λ (x : Table). record t { table = x }) h.0, λ other o. h.1 other.table o.0)
+
+pub on_machines : (R : Machines → Machines → Type 0) (s t : State) → t ≡ s → (new : Machines) (b : Bool) → Decides R t.machines new b → Decides (OnMachines R) s (record t { machines = new }) b
+on_machines R s t same new b is =
+    subst (λ (x : State). Decides (OnMachines R) x (record t { machines = new }) b) same (here b is) where
+      here : (b : Bool) → Decides R t.machines new b → Decides (OnMachines R) t (record t { machines = new }) b
+      here true h = (h, refl, refl)
+      here false h = (ap (λ (x : Machines). record t { machines = x }) h.0, λ other o. h.1 other.machines o.0)
 
 -- a number of a channel is told
 pub on_number : (number : List Channel → CNo → ℕ) (c : Option CNo) (reply : Reply) (s t : State) → t ≡ s → (b : Bool)

@@ -18,6 +18,7 @@ is_ask (call.Recv c) = true
 is_ask (call.Close c) = true
 is_ask (call.Len c) = true
 is_ask (call.Cap c) = true
+is_ask (call.Procs n) = true
 is_ask (call.Select cases has_default until) = true
 is_ask (call.Sleep until) = true
 is_ask call.Gopark = true

@@ -7,3 +7,4 @@ pub mod Calls
 pub mod Last
 pub mod Replayed
 pub mod Checked
+pub mod Active

@@ -1,28 +1,38 @@
-//! Processors and machines, in plain tables: who holds each processor, what each machine does, which of them spin.
-ghost use Rattle.std.specs.Prelude.{◌≡◌, ◌↔◌, false, None, replicate, slice_set, IsTrue, IfOk};
+//! Processors and machines, in plain tables: who holds each processor, how many are active, what each machine does, which of them spin, and
+//! which are marked.
+ghost use Rattle.std.specs.Prelude.{◌≡◌, ◌↔◌, false, None, drop, replicate, slice_set, take, IsTrue, IfOk};
+ghost use Rattle.std.specs.List.{list_any};
 ghost use Rattle.gmp_seq.specs.declared.status.Mode.{Mode};
-ghost use Rattle.gmp_seq.specs.Machines.{Acquires, IsAwake, IsIdle, IsParked, Holds, IsBare, Spins, Unspins, Pokes, Declares, Bares, Looks, Enters, set_holder, set_mode, set_spinning, has_processor, how_many_spin, is_held_by, is_parked_mode, some_idle, some_parked, may_spin, spins, wants_poke};
+ghost use Rattle.gmp_seq.specs.Machines.{Acquires, IsAwake, IsIdle, IsOpen, MayKeep, Sets, awake_marked, is_good_number, is_marked, unmarked, IsParked, Holds, IsBare, Spins, Unspins, Pokes, Declares, Bares, Looks, Enters, set_holder, set_mode, set_spinning, has_processor, how_many_spin, is_awake_mode, is_held_by, is_parked_mode, some_idle, some_parked, may_spin, spins, wants_poke};
+ghost use Rattle.gmp_check.specs.Active.{HoldsSo};
 ghost use Rattle.gmp_check.specs.Decides.{Decides};
 
-use gmp_base::{MNo, PNo};
+use gmp_base::{Fault, MNo, PNo};
 use gmp_seq::{Mode, Reply};
 use std::alloc::{AllocError, Global};
 use std::marker::Model;
 
-/// A contract sees the three tables.
+/// A contract sees who is awake by the modes, and all else as it stands.
 #[derive(Drop)]
 pub(crate) struct Machines {
     holders: Vec<Option<MNo>>,
     modes: Vec<Mode>,
     spinning: Vec<bool>,
+    marked: Vec<bool>,
+    /// Which machines are awake.
+    awake: Vec<bool>,
+    active: u8,
 }
 
 impl Model for Machines {
-    ghost use Rattle.gmp_seq.specs.Machines.{Machines as MachinesValue};
+    ghost use Rattle.std.specs.Prelude.{◌≡◌, length, map};
+    ghost use Rattle.gmp_seq.specs.Machines.{Machines as MachinesValue, is_awake_mode};
 
     ghost Value = { MachinesValue };
 
-    ghost view = { λ w. record { holders = w.holders.items; modes = w.modes.items; spinning = w.spinning.items } };
+    ghost view = { λ w. record { holders = w.holders.items; modes = w.modes.items; spinning = w.spinning.items; marked = w.marked.items; active = w.active } };
+
+    ghost invariant = { λ w. (w.awake.items ≡ map is_awake_mode w.modes.items) × (length w.marked.items ≡ length w.modes.items) };
 }
 
 /// Puts x at a place, if there is that place.
@@ -43,15 +53,24 @@ fn is_held_by(m: MNo, holder: Option<MNo>) -> bool
     }
 }
 
+fn is_awake_mode(mode: Mode) -> bool
+    ensures { result ≡ is_awake_mode mode }
+{
+    matches!(mode, Mode::Awake)
+}
+
 impl Machines {
-    /// No processor is held, all machines are awake, and nobody spins.
+    /// No processor is held, all are active, all machines are awake, nobody spins and nobody is marked.
     pub(crate) fn opening(alloc: Global, procs: u8, machines: u8) -> Result<Self, AllocError>
-        ensures { IfOk result (λ w. w ≡ record { holders = replicate procs None; modes = replicate machines Mode.Awake; spinning = replicate machines false }) }
+        ensures { IfOk result (λ w. w ≡ record { holders = replicate procs None; modes = replicate machines Mode.Awake; spinning = replicate machines false; marked = replicate machines false; active = procs }) }
     {
         Ok(Machines {
             holders: vec![in alloc; None; procs as usize]?,
             modes: vec![in alloc; Mode::Awake; machines as usize]?,
             spinning: vec![in alloc; false; machines as usize]?,
+            marked: vec![in alloc; false; machines as usize]?,
+            awake: vec![in alloc; true; machines as usize]?,
+            active: procs,
         })
     }
 
@@ -71,6 +90,12 @@ impl Machines {
         ensures { IsTrue result ↔ IsIdle self.now p }
     {
         matches!(self.holders.get(p.0 as usize), Some(None))
+    }
+
+    pub(crate) fn is_open(&self, p: PNo) -> bool
+        ensures { IsTrue result ↔ IsOpen self.now p }
+    {
+        self.is_idle(p) && p.0 < self.active
     }
 
     pub(crate) fn holds(&self, m: MNo, p: PNo) -> bool
@@ -94,10 +119,54 @@ impl Machines {
         self.spinning.get(m.0 as usize).copied().unwrap_or(false)
     }
 
+    pub(crate) fn is_marked(&self, m: MNo) -> bool
+        ensures { result ≡ is_marked self.now m }
+    {
+        self.marked.get(m.0 as usize).copied().unwrap_or(false)
+    }
+
+    fn holds_below(&self, m: MNo) -> bool
+        ensures { result ≡ list_any (is_held_by m) (take self.now.active self.now.holders) }
+    {
+        self.holders
+            .iter()
+            .take(self.active as usize)
+            .any(|holder| is_held_by(m, *holder))
+    }
+
+    fn holds_above(&self, m: MNo) -> bool
+        ensures { result ≡ list_any (is_held_by m) (drop self.now.active self.now.holders) }
+    {
+        self.holders
+            .iter()
+            .skip(self.active as usize)
+            .any(|holder| is_held_by(m, *holder))
+    }
+
+    /// Whether m holds a processor that is active, or one that is not.
+    fn holds_some(&self, m: MNo, active: bool) -> bool
+        ensures { IsTrue result ↔ HoldsSo self.now m active }
+    {
+        if active {
+            self.holds_below(m)
+        } else {
+            self.holds_above(m)
+        }
+    }
+
+    fn is_good_number(&self, n: u8) -> bool
+        ensures { result ≡ is_good_number self.now n }
+    {
+        1 <= n && n as usize <= self.holders.len()
+    }
+
     pub(crate) fn has_idle(&self) -> bool
         ensures { result ≡ some_idle self.now }
     {
-        self.holders.iter().any(|holder| holder.is_none())
+        self.holders
+            .iter()
+            .take(self.active as usize)
+            .any(|holder| holder.is_none())
     }
 
     pub(crate) fn has_parked(&self) -> bool
@@ -121,7 +190,7 @@ impl Machines {
     fn may_spin(&self, m: MNo) -> bool
         ensures { result ≡ may_spin self.now m }
     {
-        !self.spins(m) && self.how_many_spin() < self.holders.len()
+        !self.spins(m) && self.how_many_spin() < self.active as usize
     }
 
     fn wants_poke(&self) -> bool
@@ -139,13 +208,30 @@ impl Machines {
     pub(crate) fn set_mode(&mut self, m: MNo, mode: Mode)
         ensures { self.new ≡ set_mode self.old m mode }
     {
-        set(&mut self.modes, m.0 as usize, mode);
+        let place = m.0 as usize;
+        if place < self.modes.len() {
+            self.modes[place] = mode;
+            self.awake[place] = is_awake_mode(mode);
+        }
     }
 
     fn set_spinning(&mut self, m: MNo, spinning: bool)
         ensures { self.new ≡ set_spinning self.old m spinning }
     {
         set(&mut self.spinning, m.0 as usize, spinning);
+    }
+
+    fn unmark(&mut self, m: MNo)
+        ensures { self.new ≡ unmarked self.old m }
+    {
+        set(&mut self.marked, m.0 as usize, false);
+    }
+
+    /// Marks each machine that is awake, and no other.
+    fn mark_awake(&mut self)
+        ensures { self.new ≡ awake_marked self.old }
+    {
+        self.marked.copy_from_slice(&self.awake);
     }
 
     // Each call answers whether the reply is one that the definitions allow, and changes the tables only where it is.
@@ -157,7 +243,7 @@ impl Machines {
             return false;
         }
         match reply {
-            Reply::Proc(p) if self.is_idle(p) => {
+            Reply::Proc(p) if self.is_open(p) => {
                 self.set_holder(p, Some(m));
                 true
             }
@@ -216,17 +302,21 @@ impl Machines {
         match reply {
             Reply::Idle(p) if !self.spins(m) && self.holds(m, p) => {
                 self.set_holder(p, None);
+                self.unmark(m);
                 true
             }
             _ => false,
         }
     }
 
-    pub(crate) fn bare(&self, m: MNo, reply: Reply) -> bool
-        ensures { Decides (Bares m reply) self.now self.now result }
+    pub(crate) fn bare(&mut self, m: MNo, reply: Reply) -> bool
+        ensures { Decides (Bares m reply) self.old self.new result }
     {
         match reply {
-            Reply::Done => self.is_bare(m),
+            Reply::Done if self.is_bare(m) => {
+                self.unmark(m);
+                true
+            }
             _ => false,
         }
     }
@@ -241,6 +331,28 @@ impl Machines {
         }
     }
 
+    pub(crate) fn keep(&self, m: MNo, reply: Reply) -> bool
+        ensures { Decides (MayKeep m reply) self.now self.now result }
+    {
+        match reply {
+            Reply::Answer(may) => self.is_awake(m) && self.holds_some(m, may),
+            _ => false,
+        }
+    }
+
+    pub(crate) fn procs(&mut self, n: u8, reply: Reply) -> bool
+        ensures { Decides (Sets n reply) self.old self.new result }
+    {
+        match reply {
+            Reply::Number(before) if self.is_good_number(n) && before == u64::from(self.active) => {
+                self.active = n;
+                true
+            }
+            Reply::Fault(Fault::BadProcs) => !self.is_good_number(n),
+            _ => false,
+        }
+    }
+
     pub(crate) fn enter(&mut self, m: MNo, reply: Reply) -> bool
         ensures { Decides (Enters m reply) self.old self.new result }
     {
@@ -248,12 +360,14 @@ impl Machines {
             Reply::Entered(p, None) if self.holds(m, p) && !self.has_parked() => {
                 self.set_holder(p, None);
                 self.set_mode(m, Mode::Calling);
+                self.mark_awake();
                 true
             }
             Reply::Entered(p, Some(n)) if self.holds(m, p) && self.is_parked(n) => {
                 self.set_holder(p, None);
                 self.set_mode(m, Mode::Calling);
                 self.set_mode(n, Mode::Awake);
+                self.mark_awake();
                 true
             }
             _ => false,

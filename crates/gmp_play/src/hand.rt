@@ -80,6 +80,7 @@ impl Hand {
             | Call::Take
             | Call::Spin
             | Call::Woken
+            | Call::Keep
             | Call::Unspin
             | Call::Poke
             | Call::Bare

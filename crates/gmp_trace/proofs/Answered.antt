@@ -79,6 +79,11 @@ cap number c (reply.Number n) old new h = refl
 cap number c (reply.Fault fault.NoSuchChannel) old new h = refl
 cap number c _ old new h = absurd h
 
+procs : (n : ℕ) (answer : Reply) (old new : Machines.Machines) → Machines.Sets n answer old new → IsTrue (answers (call.Procs n) answer)
+procs n (reply.Number before) old new h = refl
+procs n (reply.Fault fault.BadProcs) old new h = refl
+procs n _ old new h = absurd h
+
 select : (g : GNo) (cases : List Case) (has_default : Bool) (until : Option ℕ) (answer : Reply) (old new : State)
     → Step.Selects g cases has_default until answer old new → IsTrue (answers (call.Select cases has_default until) answer)
 select g cases has_default until (reply.Chose i told) old new h = refl
@@ -119,6 +124,10 @@ woken : (m : MNo) (answer : Reply) (old new : Machines.Machines) → Machines.Lo
 woken m (reply.Answer b) old new h = refl
 woken m _ old new h = absurd h
 
+keep : (m : MNo) (answer : Reply) (old new : Machines.Machines) → Machines.MayKeep m answer old new → IsTrue (answers call.Keep answer)
+keep m (reply.Answer b) old new h = refl
+keep m _ old new h = absurd h
+
 unspin : (m : MNo) (answer : Reply) (old new : Machines.Machines) → Machines.Unspins m answer old new → IsTrue (answers call.Unspin answer)
 unspin m reply.Done old new h = refl
 unspin m _ old new h = absurd h
@@ -140,6 +149,7 @@ park : (m : MNo) (answer : Reply) (old new : State) → Step.Parks m answer old 
 park m reply.Work old new h = refl
 park m reply.AllAsleep old new h = refl
 park m (reply.Mind until) old new h = refl
+park m reply.LookAgain old new h = refl
 park m reply.Parked old new h = refl
 park m _ old new h = absurd h
 
@@ -206,6 +216,7 @@ effect_answers limits m (call.Recv c) answer old new (g, running, h) = recv g c 
 effect_answers limits m (call.Close c) answer old new (g, running, h) = close c answer old new h
 effect_answers limits m (call.Len c) answer old new (g, running, (h, table, machines)) = len _ c answer _ _ h
 effect_answers limits m (call.Cap c) answer old new (g, running, (h, table, machines)) = cap _ c answer _ _ h
+effect_answers limits m (call.Procs n) answer old new (g, running, (h, table, channels)) = procs n answer _ _ h
 effect_answers limits m (call.Select cases has_default until) answer old new (few, (g, running, h)) = select g cases has_default until answer old new h
 effect_answers limits m (call.Sleep until) answer old new (g, running, (h, channels, machines)) = sleep g until answer _ _ h
 effect_answers limits m call.Gopark answer old new (g, running, (h, channels, machines)) = gopark g answer _ _ h
@@ -214,6 +225,7 @@ effect_answers limits m call.Enter answer old new (g, running, (table, h, channe
 effect_answers limits m (call.Leave number) answer old new (g, calling, (resumes, h, channels)) = leave m number answer _ _ h
 effect_answers limits m call.Spin answer old new (free, (h, table, channels)) = spin m answer _ _ h
 effect_answers limits m call.Woken answer old new (h, table, channels) = woken m answer _ _ h
+effect_answers limits m call.Keep answer old new (h, table, channels) = keep m answer _ _ h
 effect_answers limits m call.Unspin answer old new (h, table, channels) = unspin m answer _ _ h
 effect_answers limits m call.Poke answer old new (h, table, channels) = poke m answer _ _ h
 effect_answers limits m call.Declare answer old new (free, (h, table, channels)) = declare m answer _ _ h

@@ -134,6 +134,7 @@ call_again (call.Recv c) h = ap call.Recv (channel_again c h)
 call_again (call.Close c) h = ap call.Close (channel_again c h)
 call_again (call.Len c) h = ap call.Len (channel_again c h)
 call_again (call.Cap c) h = ap call.Cap (channel_again c h)
+call_again (call.Procs n) h = rw (again8 n h) refl
 call_again (call.Select cases has_default until) h = select_again cases has_default until h
 call_again (call.Sleep until) h = ap call.Sleep (number_again until h)
 call_again (call.Ready g) h = rw (again16 g.0 h) refl
@@ -177,6 +178,7 @@ fault_again fault.CloseOfNil = rw (number_again 6 (omega arith)) refl
 fault_again fault.NotParked = rw (number_again 7 (omega arith)) refl
 fault_again fault.BadCapacity = rw (number_again 8 (omega arith)) refl
 fault_again fault.TooManyChannels = rw (number_again 9 (omega arith)) refl
+fault_again fault.BadProcs = rw (number_again 10 (omega arith)) refl
 
 -- only a declare is answered that its processor is idle, and only an enter what woke
 idle_declares : (asked : Call) (p : PNo) → IsTrue (answers asked (reply.Idle p)) → idle_of asked p None ≡ reply.Idle p

@@ -94,6 +94,7 @@ call_words (call.Recv c) h = rw (channel_word c h) refl
 call_words (call.Close c) h = rw (channel_word c h) refl
 call_words (call.Len c) h = rw (channel_word c h) refl
 call_words (call.Cap c) h = rw (channel_word c h) refl
+call_words (call.Procs n) h = rw (decimal_word n (omega arith)) refl
 call_words (call.Select cases has_default until) h =
     ap (λ (ps : List Piece). are_words (map piece_text ps)) (select_pieces cases has_default until)
     ∙ cases_words cases (default_pieces has_default ++ until_pieces until) h.1 (options_words has_default until h.2)
@@ -131,6 +132,7 @@ fault_words fault.CloseOfNil = rw (decimal_word 6 (omega arith)) refl
 fault_words fault.NotParked = rw (decimal_word 7 (omega arith)) refl
 fault_words fault.BadCapacity = rw (decimal_word 8 (omega arith)) refl
 fault_words fault.TooManyChannels = rw (decimal_word 9 (omega arith)) refl
+fault_words fault.BadProcs = rw (decimal_word 10 (omega arith)) refl
 
 got_words : (v : ℕ) (sent : Bool) (from : Option Relay) → IsWord v → IfSome from FitsRelay → are_words (map piece_text (got_pieces v sent from)) ≡ true
 got_words v sent from h k = rw (decimal_word v h, boolean_word sent, moved_words from k) refl

@@ -115,15 +115,16 @@ call_named first third words =
     else (if first == letter (codes "declare") then call.Declare
     else (if first == letter (codes "exit") then (if third == byte_at 2 (codes "exit") then call.Exit else call.Enter)
     else (if first == letter (codes "gopark") then (if third == byte_at 2 (codes "gopark") then call.Gopark else call.Go (record { 0 = narrow 16 (number_at 1 words) }))
+    else (if first == letter (codes "keep") then call.Keep
     else (if first == letter (codes "leave") then (if third == byte_at 2 (codes "leave") then call.Leave (number_at 1 words) else call.Len (channel_read (word_at 1 words)))
     else (if first == letter (codes "make") then call.Make (narrow 32 (number_at 1 words))
-    else (if first == letter (codes "put") then (if third == byte_at 2 (codes "put") then call.Put (readiness_read (word_at 1 words)) else (if third == byte_at 2 (codes "poke") then call.Poke else call.Park))
+    else (if first == letter (codes "put") then (if third == byte_at 2 (codes "put") then call.Put (readiness_read (word_at 1 words)) else (if third == byte_at 2 (codes "poke") then call.Poke else (if third == byte_at 2 (codes "procs") then call.Procs (narrow 8 (number_at 1 words)) else call.Park)))
     else (if first == letter (codes "ready") then (if third == byte_at 2 (codes "ready") then call.Ready (record { 0 = narrow 16 (number_at 1 words) }) else call.Recv (channel_read (word_at 1 words)))
     else (if first == letter (codes "send") then (if third == byte_at 2 (codes "send") then call.Send (channel_read (word_at 1 words)) (number_at 2 words) else (if third == byte_at 2 (codes "select") then select_read (drop 1 words) else (if third == byte_at 2 (codes "sleep") then call.Sleep (number_at 1 words) else call.Spin)))
     else (if first == letter (codes "take") then (if third == byte_at 2 (codes "take") then call.Take else call.Tick (number_at 1 words))
     else (if first == letter (codes "unspin") then call.Unspin
     else (if first == letter (codes "woken") then call.Woken
-    else call.Yield)))))))))))))
+    else call.Yield))))))))))))))
 
 abbrev pub call_of : List (List ℕ) → Call
 call_of words = call_named (letter_at 0 words) (byte_at 2 (word_at 0 words)) words
@@ -140,7 +141,8 @@ fault_of n =
     else (if n == 6 then fault.CloseOfNil
     else (if n == 7 then fault.NotParked
     else (if n == 8 then fault.BadCapacity
-    else fault.TooManyChannels)))))))
+    else (if n == 9 then fault.TooManyChannels
+    else fault.BadProcs))))))))
 
 -- of `sent`, who was served
 abbrev pub served_of : List (List ℕ) → Option Readiness
@@ -180,6 +182,7 @@ reply_named asked first second third words =
     else (if first == letter (codes "got") then reply.Got (number_at 1 words) (letter_at 2 words == letter (codes "true")) (relay_of words)
     else (if first == letter (codes "held") then reply.Held
     else (if first == letter (codes "idle") then idle_of asked (record { 0 = narrow 8 (number_at 1 words) }) (woken_of words)
+    else (if first == letter (codes "look") then reply.LookAgain
     else (if first == letter (codes "main") then (if third == byte_at 2 (codes "main") then reply.MainEnded else reply.Mind (number_at 1 words))
     else (if first == letter (codes "none") then (if third == byte_at 2 (codes "none") then reply.Nothing else reply.Number (number_at 1 words))
     else (if first == letter (codes "proc") then (if third == byte_at 2 (codes "proc") then reply.Proc (record { 0 = narrow 8 (number_at 1 words) }) else reply.Parked)
@@ -189,7 +192,7 @@ reply_named asked first second third words =
     else (if third == byte_at 2 (codes "waits") then reply.Waits
     else (if third == byte_at 2 (codes "work") then reply.Work
     else (if second == byte_at 1 (codes "wakes") then reply.Wakes (record { 0 = narrow 8 (number_at 1 words) })
-    else reply.Woke (number_at 1 words))))))))))))))))
+    else reply.Woke (number_at 1 words)))))))))))))))))
 
 abbrev pub reply_of : Call → List (List ℕ) → Reply
 reply_of asked words = reply_named asked (letter_at 0 words) (byte_at 1 (word_at 0 words)) (byte_at 2 (word_at 0 words)) words

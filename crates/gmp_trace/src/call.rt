@@ -53,6 +53,7 @@ pub fn put_call(out: &mut Vec<u8>, call: &Call) -> Result<(), AllocError>
         Call::Close(c) => put_named_channel(out, b"close", *c),
         Call::Len(c) => put_named_channel(out, b"len", *c),
         Call::Cap(c) => put_named_channel(out, b"cap", *c),
+        Call::Procs(n) => put_named(out, b"procs", u64::from(*n)),
         Call::Select(cases, has_default, until) => {
             put_word(out, b"select")?;
             put_cases(out, cases.as_slice())?;
@@ -65,6 +66,7 @@ pub fn put_call(out: &mut Vec<u8>, call: &Call) -> Result<(), AllocError>
         Call::Leave(number) => put_named(out, b"leave", *number),
         Call::Spin => put_word(out, b"spin"),
         Call::Woken => put_word(out, b"woken"),
+        Call::Keep => put_word(out, b"keep"),
         Call::Unspin => put_word(out, b"unspin"),
         Call::Poke => put_word(out, b"poke"),
         Call::Declare => put_word(out, b"declare"),

@@ -5,7 +5,7 @@ ghost use Rattle.gmp_seq.specs.Fits.{FitsCall};
 ghost use Rattle.gmp_trace.specs.Guess.{is_case, case_read, leading_cases, default_of, until_of, select_read, call_named, call_of};
 
 use crate::words::{
-    byte, channel, letter, narrow16, narrow32, number, part, readiness, skip, word,
+    byte, channel, letter, narrow8, narrow16, narrow32, number, part, readiness, skip, word,
 };
 use gmp_base::{Case, Cases, GNo};
 use gmp_seq::Call;
@@ -101,11 +101,13 @@ fn named(first: u8, third: u8, words: &[&[u8]], call: &mut Call)
         (b'e', _) => *call = Call::Enter,
         (b'g', b'p') => *call = Call::Gopark,
         (b'g', _) => *call = Call::Go(GNo(narrow16(number(about)))),
+        (b'k', _) => *call = Call::Keep,
         (b'l', b'a') => *call = Call::Leave(number(about)),
         (b'l', _) => *call = Call::Len(channel(about)),
         (b'm', _) => *call = Call::Make(narrow32(number(about))),
         (b'p', b't') => *call = Call::Put(readiness(about)),
         (b'p', b'k') => *call = Call::Poke,
+        (b'p', b'o') => *call = Call::Procs(narrow8(number(about))),
         (b'p', _) => *call = Call::Park,
         (b'r', b'a') => *call = Call::Ready(GNo(narrow16(number(about)))),
         (b'r', _) => *call = Call::Recv(channel(about)),

@@ -20,7 +20,8 @@ fn fault(n: u64) -> Fault
         6 => Fault::CloseOfNil,
         7 => Fault::NotParked,
         8 => Fault::BadCapacity,
-        _ => Fault::TooManyChannels,
+        9 => Fault::TooManyChannels,
+        _ => Fault::BadProcs,
     }
 }
 
@@ -116,6 +117,7 @@ fn named(call: &Call, first: u8, second: u8, third: u8, words: &[&[u8]]) -> Repl
         (b'g', _, _) => Reply::Got(number(about), letter(words, 2) == b't', relay(words)),
         (b'h', _, _) => Reply::Held,
         (b'i', _, _) => idle(call, PNo(narrow8(number(about))), woken(words)),
+        (b'l', _, _) => Reply::LookAgain,
         (b'm', _, b'i') => Reply::MainEnded,
         (b'm', _, _) => Reply::Mind(number(about)),
         (b'n', _, b'n') => Reply::Nothing,

@@ -97,6 +97,7 @@ pub fn put_reply(out: &mut Vec<u8>, reply: &Reply) -> Result<(), AllocError>
         Reply::Idle(p) => put_named(out, b"idle", u64::from(p.0)),
         Reply::Parked => put_word(out, b"parked"),
         Reply::Work => put_word(out, b"work"),
+        Reply::LookAgain => put_word(out, b"look again"),
         Reply::Mind(until) => put_named(out, b"mind", until),
         Reply::AllAsleep => put_word(out, b"all asleep"),
         Reply::Woke(count) => put_named(out, b"woke", count),

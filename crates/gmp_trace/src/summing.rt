@@ -16,12 +16,12 @@ use std::alloc::{AllocError, Global};
 use std::io::Write;
 
 /// How many calls there are.
-const CALLS: usize = 27;
+const CALLS: usize = 29;
 
 /// The place of a call in the table.
 #[tactic(auto, unfolding(crate::specs::Summary::names))]
 fn place(call: &Call) -> usize
-    ensures bound { result < 27 }
+    ensures bound { result < 29 }
     ensures name { slice_index_or names result [] ≡ call_name call.now }
 {
     match call {
@@ -38,27 +38,29 @@ fn place(call: &Call) -> usize
         Call::Close(_) => 10,
         Call::Len(_) => 11,
         Call::Cap(_) => 12,
-        Call::Select(..) => 13,
-        Call::Sleep(_) => 14,
-        Call::Gopark => 15,
-        Call::Ready(_) => 16,
-        Call::Enter => 17,
-        Call::Leave(_) => 18,
-        Call::Spin => 19,
-        Call::Woken => 20,
-        Call::Unspin => 21,
-        Call::Poke => 22,
-        Call::Declare => 23,
-        Call::Bare => 24,
-        Call::Park => 25,
-        Call::Tick(_) => 26,
+        Call::Procs(_) => 13,
+        Call::Select(..) => 14,
+        Call::Sleep(_) => 15,
+        Call::Gopark => 16,
+        Call::Ready(_) => 17,
+        Call::Enter => 18,
+        Call::Leave(_) => 19,
+        Call::Spin => 20,
+        Call::Woken => 21,
+        Call::Keep => 22,
+        Call::Unspin => 23,
+        Call::Poke => 24,
+        Call::Declare => 25,
+        Call::Bare => 26,
+        Call::Park => 27,
+        Call::Tick(_) => 28,
     }
 }
 
 /// The name of the call at a place in the table.
 #[tactic(auto, unfolding(crate::specs::Summary::names))]
 fn name(place: usize) -> &'static [u8]
-    requires { place < 27 }
+    requires { place < 29 }
     ensures { result.now ≡ slice_index_or names place [] }
 {
     match place {
@@ -75,19 +77,21 @@ fn name(place: usize) -> &'static [u8]
         10 => b"close",
         11 => b"len",
         12 => b"cap",
-        13 => b"select",
-        14 => b"sleep",
-        15 => b"gopark",
-        16 => b"ready",
-        17 => b"enter",
-        18 => b"leave",
-        19 => b"spin",
-        20 => b"woken",
-        21 => b"unspin",
-        22 => b"poke",
-        23 => b"declare",
-        24 => b"bare",
-        25 => b"park",
+        13 => b"procs",
+        14 => b"select",
+        15 => b"sleep",
+        16 => b"gopark",
+        17 => b"ready",
+        18 => b"enter",
+        19 => b"leave",
+        20 => b"spin",
+        21 => b"woken",
+        22 => b"keep",
+        23 => b"unspin",
+        24 => b"poke",
+        25 => b"declare",
+        26 => b"bare",
+        27 => b"park",
         _ => b"tick",
     }
 }

@@ -100,6 +100,7 @@ fn is_answered(call: &Call, reply: &Reply) -> bool
             reply,
             Reply::Number(_) | Reply::Fault(Fault::NoSuchChannel)
         ),
+        Call::Procs(_) => matches!(reply, Reply::Number(_) | Reply::Fault(Fault::BadProcs)),
         Call::Select(..) => matches!(
             reply,
             Reply::Chose(..) | Reply::Default | Reply::Waits | Reply::Fault(Fault::NoSuchChannel)
@@ -111,13 +112,13 @@ fn is_answered(call: &Call, reply: &Reply) -> bool
         ),
         Call::Enter => matches!(reply, Reply::Entered(..)),
         Call::Leave(_) => matches!(reply, Reply::Runs(_) | Reply::Shelved(_)),
-        Call::Spin | Call::Woken => matches!(reply, Reply::Answer(_)),
+        Call::Spin | Call::Woken | Call::Keep => matches!(reply, Reply::Answer(_)),
         Call::Unspin | Call::Bare => matches!(reply, Reply::Done),
         Call::Poke => matches!(reply, Reply::Wakes(_) | Reply::Nothing),
         Call::Declare => matches!(reply, Reply::Idle(_)),
         Call::Park => matches!(
             reply,
-            Reply::Parked | Reply::Work | Reply::Mind(_) | Reply::AllAsleep
+            Reply::Parked | Reply::Work | Reply::Mind(_) | Reply::AllAsleep | Reply::LookAgain
         ),
         Call::Tick(_) => matches!(reply, Reply::Woke(_)),
     }

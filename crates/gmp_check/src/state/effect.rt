@@ -36,7 +36,17 @@ impl State {
             Reply::Work => has_work,
             Reply::AllAsleep => !has_work && !has_astir,
             Reply::Mind(until) => !has_work && has_astir && self.table.minded() == Some(until),
-            Reply::Parked if !has_work && has_astir && self.table.minded().is_none() => {
+            Reply::LookAgain => {
+                !has_work
+                    && has_astir
+                    && self.table.minded().is_none()
+                    && self.machines.is_marked(m)
+            }
+            Reply::Parked
+                if !has_work
+                    && has_astir
+                    && self.table.minded().is_none()
+                    && !self.machines.is_marked(m) => {
                 self.machines.set_mode(m, Mode::Parked);
                 true
             }
@@ -66,7 +76,7 @@ impl State {
         ensures rest { SameCounts self.old self.new }
     {
         match reply {
-            Reply::Runs(p) if self.machines.is_idle(p) => {
+            Reply::Runs(p) if self.machines.is_open(p) => {
                 self.machines.set_mode(m, Mode::Awake);
                 self.machines.set_holder(p, Some(m));
                 self.table.set_status(g, Status::Running(m));
@@ -115,6 +125,7 @@ impl State {
                 *until,
                 reply,
             ),
+            Call::Procs(n) => self.machines.procs(*n, reply),
             Call::Sleep(until) => self.table.sleep(g, *until, reply),
             Call::Gopark => self.table.gopark(g, reply),
             Call::Ready(h) => self.table.ready(*h, reply),
@@ -150,6 +161,7 @@ impl State {
             },
             Call::Spin => !self.table.runs_some(m) && self.machines.spin(m, reply),
             Call::Woken => self.machines.woken(m, reply),
+            Call::Keep => self.machines.keep(m, reply),
             Call::Unspin => self.machines.unspin(m, reply),
             Call::Poke => self.machines.poke(m, reply),
             Call::Declare => !self.table.runs_some(m) && self.machines.declare(m, reply),

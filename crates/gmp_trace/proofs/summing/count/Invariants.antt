@@ -7,5 +7,5 @@ invariant-loop-entry l = record {
   machines : CountsMachines l.machines (take l.entry-index l.entries);
   calls : CountsCalls l.calls (take l.entry-index l.entries);
   all_machines : length l.machines ≡ 256;
-  all_calls : length l.calls ≡ 27;
+  all_calls : length l.calls ≡ 29;
 }

@@ -1,12 +1,13 @@
 use Rattle.std.proofs.Common.{length, sym, subst}
 use Rattle.gmp_base.specs.declared.cases.Case.TheVariants as case
 use Rattle.gmp_check.proofs.Making.{make_leads, on_error}
-use Rattle.gmp_check.proofs.Parts.{by_running, by_selecting, on_number, on_table}
+use Rattle.gmp_check.proofs.Parts.{by_running, by_selecting, on_machines, on_number, on_table}
 use Rattle.gmp_check.proofs.Consistency.{consistent_arrivals, consistent_young}
 use Rattle.gmp_check.specs.Decides.{Decides}
 use Rattle.gmp_seq.specs.Channels.{items_at}
+use Rattle.gmp_seq.specs.Machines.{Sets}
 use Rattle.gmp_seq.specs.State.{State}
-use Rattle.gmp_seq.specs.Step.{Deals, Effect, Exits, Goparks, OnChannels, OnTable, Selects, Sleeps, Tells, Yields, EntersBy}
+use Rattle.gmp_seq.specs.Step.{Deals, Effect, Exits, Goparks, OnChannels, OnMachines, OnTable, Selects, Sleeps, Tells, Yields, EntersBy}
 use Rattle.gmp_check.proofs.state.State.ask.Goals as goal
 
 pub start-requires : goal.start-requires
@@ -50,6 +51,15 @@ returns-in-Sleep-clause-decides c =
     subst (λ x. Decides (Effect a.limits a.m x a.reply) a.self.now new c.sleep.result) (sym c.in-Sleep.is)
     (by_running (λ h. OnTable (Sleeps h c.in-Sleep.until a.reply)) a.m a.g a.self.now new c.sleep.result c.requires.consistent c.requires.runs
     (on_table (Sleeps a.g c.in-Sleep.until a.reply) a.self.now _ c.self-in-Sleep.view_is c.sleep.new.self c.sleep.result c.sleep.ensures))
+
+pub returns-in-Procs-clause-decides : goal.returns-in-Procs-clause-decides
+returns-in-Procs-clause-decides c =
+    let a = c.args in
+    let i = c.self-in-Procs.inside in
+    let new : State = record { table = i.table; channels = i.channels; machines = c.procs.new.self; counts = i.counts.items; outcome = i.outcome } in
+    subst (λ x. Decides (Effect a.limits a.m x a.reply) a.self.now new c.procs.result) (sym c.in-Procs.is)
+    (by_running (λ h. OnMachines (Sets c.in-Procs.n a.reply)) a.m a.g a.self.now new c.procs.result c.requires.consistent c.requires.runs
+    (on_machines (Sets c.in-Procs.n a.reply) a.self.now _ c.self-in-Procs.view_is c.procs.new.self c.procs.result c.procs.ensures))
 
 pub returns-in-Gopark-clause-decides : goal.returns-in-Gopark-clause-decides
 returns-in-Gopark-clause-decides c =
