@@ -23,6 +23,7 @@ pub fn is_same(a: &Call, b: &Call) -> bool
         | (Call::Enter, Call::Enter)
         | (Call::Spin, Call::Spin)
         | (Call::Woken, Call::Woken)
+        | (Call::Keep, Call::Keep)
         | (Call::Unspin, Call::Unspin)
         | (Call::Poke, Call::Poke)
         | (Call::Declare, Call::Declare)
@@ -31,6 +32,7 @@ pub fn is_same(a: &Call, b: &Call) -> bool
         (Call::Put(r), Call::Put(s)) | (Call::Claim(r), Call::Claim(s)) => r == s,
         (Call::Go(g), Call::Go(h)) | (Call::Ready(g), Call::Ready(h)) => g == h,
         (Call::Make(n), Call::Make(k)) => n == k,
+        (Call::Procs(n), Call::Procs(k)) => n == k,
         (Call::Send(c, v), Call::Send(d, w)) => c == d && v == w,
         (Call::Recv(c), Call::Recv(d))
         | (Call::Close(c), Call::Close(d))

@@ -20,6 +20,8 @@ const SPELL: u32 = 512;
 #[derive(Drop)]
 pub struct Draw {
     generator: Lcg64Xsh32,
+    /// How many processors there are.
+    procs: u8,
     /// How many choices were drawn. Moments are mostly near this number, so that deadlines come due.
     choices: u32,
     /// The machine that mostly acts.
@@ -35,9 +37,10 @@ pub struct Draw {
 
 impl Draw {
     /// In the first spell a body seldom waits without end, so that there is time to start others.
-    pub fn new(seed: u64) -> Self {
+    pub fn new(seed: u64, procs: u8) -> Self {
         let mut draw = Draw {
             generator: Lcg64Xsh32::new(seed, STREAM),
+            procs,
             choices: 0,
             favourite: MNo(0),
             others: 1,
@@ -117,6 +120,16 @@ impl Draw {
         }
     }
 
+    /// Mostly a number of processors that may be active, or the one before or behind these; sometimes any.
+    fn active(&mut self) -> u8 {
+        let bound = if self.once_in(16) {
+            256
+        } else {
+            u32::from(self.procs.saturating_add(1)) + 1
+        };
+        self.below(bound) as u8
+    }
+
     /// Near the number of choices made so far; once in so many times any number, or the greatest.
     fn moment(&mut self, rare: u32) -> u64
         requires { 0 < rare }
@@ -184,7 +197,8 @@ impl Draw {
             1 => Ask::Make(self.capacity()),
             2..=3 => Ask::Len(self.channel()),
             4..=5 => Ask::Cap(self.channel()),
-            6..=16 => Ask::Ready(self.goroutine()),
+            6 => Ask::Procs(self.active()),
+            7..=16 => Ask::Ready(self.goroutine()),
             _ => Ask::Go(self.goroutine()),
         }
     }

@@ -2,7 +2,7 @@
 
 use crate::drawing::Draw;
 use crate::judging::judged;
-use crate::limits::{BODIES, CAPACITIES, LIMITS};
+use crate::limits::{BODIES, CAPACITIES, LIMITS, PROCS};
 use crate::short::Short;
 use crate::tally::Ended;
 use crate::watching::Watch;
@@ -26,7 +26,7 @@ fn opened(alloc: Global, run: u64) -> Result<Core<()>, Short> {
 
 /// Makes drawn acts; where one falls short, with how many acts were made.
 fn act_all(core: &mut Core<()>, seed: u64) -> Result<(), (u32, Short)> {
-    let mut draw = Draw::new(seed);
+    let mut draw = Draw::new(seed, PROCS);
     let mut watch = Watch::new();
     for acts in 0..ACTS {
         let m = draw.machine();

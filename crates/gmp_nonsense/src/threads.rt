@@ -91,7 +91,7 @@ pub fn threaded<R: Threads + Wait + Sync>(
     let first = seed.wrapping_mul(u64::from(BODIES));
     let mut bodies: Vec<Boxed> = Vec::new(alloc);
     for g in 0..BODIES {
-        let draw = Draw::new(first.wrapping_add(u64::from(g)));
+        let draw = Draw::new(first.wrapping_add(u64::from(g)), procs);
         let Ok(body) = Box::new(alloc, Drawn { draw }) else {
             return Err(Short::OutOfMemory);
         };

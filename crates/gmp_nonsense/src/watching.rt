@@ -20,7 +20,7 @@ fn acts_before_call(entry: &Entry) -> u8 {
         (Call::Declare | Call::Bare, _) => PROCS,
         // A reading of the clock.
         (Call::Park, Reply::Mind(_)) => 1,
-        (Call::Spin | Call::Park | Call::Take | Call::Unspin | Call::Woken, _) => 0,
+        (Call::Spin | Call::Park | Call::Take | Call::Unspin | Call::Woken | Call::Tick(_), _) => 0,
         (Call::Acquire, Reply::Nothing) | (Call::Leave(_), Reply::Shelved(_)) => 0,
         // A pop or a reading of the clock, a body that asks, a push, or a blocking call.
         _ => 1,

@@ -15,6 +15,8 @@ pub enum Command {
     Close(Option<CNo>),
     Len(Option<CNo>),
     Cap(Option<CNo>),
+    /// How many processors are active from now on.
+    Procs(u8),
     /// The cases, whether there is a default, and the moment at which the wait ends, in nanoseconds.
     Select(Cases, bool, Option<u64>),
     /// The moment until which it sleeps, in nanoseconds.
@@ -54,6 +56,7 @@ impl Command {
             Command::Close(c) => Ask::Close(*c),
             Command::Len(c) => Ask::Len(*c),
             Command::Cap(c) => Ask::Cap(*c),
+            Command::Procs(n) => Ask::Procs(*n),
             Command::Select(cases, has_default, until) => {
                 Ask::Select(cases.copied(), *has_default, *until)
             }

@@ -1,7 +1,7 @@
 //! Reads a line of a script.
 
 ghost use Rattle.std.specs.Prelude.{◌≡◌, IfOk, map};
-ghost use Rattle.gmp_script.specs.Lines.{words, value, below, goroutine_named, capacity, channel, said_alone, said_with, said_with_two, said_by_few, said_by_words, said_by};
+ghost use Rattle.gmp_script.specs.Lines.{words, value, below, goroutine_named, capacity, processors, channel, said_alone, said_with, said_with_two, said_by_few, said_by_words, said_by};
 
 mod clocks;
 mod selects;
@@ -66,6 +66,12 @@ fn capacity(word: &[u8]) -> Option<u32>
     u32::try_from(value(word)?).ok()
 }
 
+fn processors(word: &[u8]) -> Option<u8>
+    ensures { result ≡ processors word.now }
+{
+    u8::try_from(value(word)?).ok()
+}
+
 /// The channel that a word names, nil too.
 fn channel(word: &[u8]) -> Option<Option<CNo>>
     ensures { result ≡ channel word.now }
@@ -113,6 +119,8 @@ fn with(word: &[u8], k: &[u8]) -> Option<Line>
         Some(Line::Command(Command::Len(channel(k)?)))
     } else if word == b"cap".as_slice() {
         Some(Line::Command(Command::Cap(channel(k)?)))
+    } else if word == b"procs".as_slice() {
+        Some(Line::Command(Command::Procs(processors(k)?)))
     } else if word == b"ready".as_slice() {
         Some(Line::Command(Command::Ready(goroutine(k)?)))
     } else if word == b"sleep".as_slice() {

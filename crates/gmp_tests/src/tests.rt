@@ -1,5 +1,6 @@
 //! Of single crates and of the program's functions.
 
+mod acting;
 mod auditing;
 mod failing;
 mod filling;

@@ -84,7 +84,7 @@ const STATUSES: &str =
     "A script, or for check a trace, comes on standard input; what is asked for goes to standard output.
 
 Exit status:
-  0   main ended, the trace is right, or help was asked for
+  0   main ended, the trace is right, or help or the version was asked for
   1   the input is bad or can't be read, or the output can't be written
   2   all goroutines are asleep: deadlock
   3   the history is full

@@ -44,6 +44,10 @@ fn lines_are_read(rt: HostRuntime) -> Result<(), Fail> {
             "[] [] [[Make(4294967295), Send(None, 5), Send(Some(CNo(7)), 8), Recv(None), Recv(Some(CNo(1))), Close(None), Len(Some(CNo(2))), Cap(Some(CNo(3)))]]",
         ),
         (
+            "body\nprocs 0\n procs  00255",
+            "[] [] [[Procs(0), Procs(255)]]",
+        ),
+        (
             "body\npark\nready 0\nsleep 00000000000000000005",
             "[] [] [[Park, Ready(GNo(0)), Sleep(5)]]",
         ),

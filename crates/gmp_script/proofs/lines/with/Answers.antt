@@ -61,5 +61,11 @@ returns-in_ok-value c = search rules
 pub returns-in_ok-value-2 : goal.returns-in_ok-value-2
 returns-in_ok-value-2 c = search rules
 
-pub returns-else-eq-10 : goal.returns-else-eq-10
-returns-else-eq-10 c = search rules
+pub returns-else-eq-11 : goal.returns-else-eq-11
+returns-else-eq-11 c = search rules
+
+pub returns-in_err-processors : goal.returns-in_err-processors
+returns-in_err-processors c = search rules
+
+pub returns-in_ok-processors : goal.returns-in_ok-processors
+returns-in_ok-processors c = search rules
