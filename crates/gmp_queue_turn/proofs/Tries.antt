@@ -15,7 +15,7 @@ use Rattle.gmp_queue.specs.declared.ends.Owner.{Owner}
 use Rattle.gmp_queue.specs.declared.ends.Thief.{Thief}
 use Rattle.gmp_queue.specs.Ends.{KeepsOwner, KeepsThief, owner_run, owner_view}
 use Rattle.gmp_queue.specs.Queue.{FoundNone, PoppedFirst, PutLast}
-use Rattle.gmp_queue_turn.specs.Turns.{PopsOwn, Pushes, UsesThief, owner_held, with_own_queue, with_stolen}
+use Rattle.gmp_queue_turn.specs.Turns.{DrainsOwn, PopsOwn, Pushes, UsesThief, owner_held, with_own_queue, with_stolen}
 
 -- the own queue's end: the processor x was taken out, and is back with the end p
 module _ {T : Type 0} (load : Load T Owner) (x : Proc Owner) (p : Owner) (back : Option (Proc Owner)) (has : load.proc ≡ Some x) (is : back ≡ Some (record x { owner = p })) (same : KeepsOwner x.owner p) where
@@ -33,6 +33,15 @@ module _ {T : Type 0} (load : Load T Owner) (x : Proc Owner) (p : Owner) (back :
 
   pub was_empty : (owner_view p ≡ owner_view x.owner) × (owner_run x.owner ≡ load.pass.run → FoundNone (owner_view x.owner)) → PopsOwn load.pass.run (parts_of load) told.Empty (parts_of (record load { proc = back }))
   was_empty step = record { before = x.owner; behind = p; own = own; same = same; step = (step.0, step.1, kept) }
+
+  pub was_drained : (t : Ticket) (to_store : Option Ticket) → to_store ≡ Some t → (t.run ≡ load.pass.run) × (owner_run x.owner ≡ load.pass.run) × PoppedFirst (owner_view x.owner) (readiness_of t ∷ []) (owner_view p)
+      → DrainsOwn load.pass.run (parts_of load) told.Drained (parts_of (record load { proc = back; to_store = to_store }))
+  was_drained t to_store filled step =
+      let e : parts_of (record load { proc = back; to_store = to_store }) ≡ record (with_own_queue p (parts_of load)) { to_store = Some (readiness_of t) } = rw (is, has, filled) refl in
+      (readiness_of t, record { before = x.owner; behind = p; own = own; same = same; step = (step.1, step.2, e) })
+
+  pub was_drained_empty : (owner_view p ≡ owner_view x.owner) × (owner_run x.owner ≡ load.pass.run → FoundNone (owner_view x.owner)) → DrainsOwn load.pass.run (parts_of load) told.Empty (parts_of (record load { proc = back }))
+  was_drained_empty step = record { before = x.owner; behind = p; own = own; same = same; step = (step.0, step.1, kept) }
 
   pub was_pushed : (t : Ticket) (to_store : Option Ticket) → load.to_store ≡ Some t → to_store ≡ None → IfSome load.to_store (λ (u : Ticket). u.run ≡ load.pass.run) → (t.run ≡ owner_run x.owner) × PutLast (owner_view x.owner) (readiness_of t ∷ []) (owner_view p)
       → Pushes load.pass.run (parts_of load) told.Pushed (parts_of (record load { proc = back; to_store = to_store }))

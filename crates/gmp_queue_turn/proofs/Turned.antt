@@ -27,7 +27,7 @@ use Rattle.gmp_driver.specs.Table.{after, next_act}
 use Rattle.gmp_queue.specs.declared.ends.Owner.{Owner}
 use Rattle.gmp_queue.specs.declared.ends.Thief.{Thief}
 use Rattle.gmp_queue_turn.specs.Turns as turns
-use Rattle.gmp_queue_turn.specs.Turns.{PopsOwn, Pushes, Steals, Tries, TurnsOnQueue, with_own_queue}
+use Rattle.gmp_queue_turn.specs.Turns.{DrainsOwn, PopsOwn, Pushes, Steals, Tries, TurnsOnQueue, with_own_queue}
 
 still : {A B : Type 0} (f : A → B) (o : Option A) → is_some (option_map f o) ≡ is_some o
 still f None = refl
@@ -77,6 +77,30 @@ module _ {T : Type 0} (run : ℕ) (hand came : Registers T Owner) where
   pops_fill told.Empty has k =
       ap (λ (c : Registers T Owner). filled c) k.step.2 ∙ ap (λ (b : Bool). record (filled (used act.Pop hand)) { processor = b }) (still (replaced k.behind) hand.processor)
   pops_fill _ has k = absurd k
+
+  drained : (what : Told) → DrainsOwn run (used act.Drain hand) what came → DrainsOwn run hand what (joined came (unused act.Drain hand))
+  drained told.Drained k =
+      let u = k.1 in
+      let e : joined came (unused act.Drain hand) ≡ record (with_own_queue u.behind hand) { to_store = Some k.0 } =
+      ap (λ (c : Registers T Owner). joined c (unused act.Drain hand)) u.step.2 ∙ ap (λ (h : Registers T Owner). record h { to_store = Some k.0 }) (whole act.Drain (with_own_queue u.behind hand)) in
+      (k.0, record { before = u.before; behind = u.behind; own = u.own; same = u.same; step = (u.step.0, u.step.1, e) })
+  drained told.Empty k =
+      let e : joined came (unused act.Drain hand) ≡ with_own_queue k.behind hand = ap (λ (c : Registers T Owner). joined c (unused act.Drain hand)) k.step.2 ∙ whole act.Drain (with_own_queue k.behind hand) in
+      record { before = k.before; behind = k.behind; own = k.own; same = k.same; step = (k.step.0, k.step.1, e) }
+  drained _ k = absurd k
+
+  drains_may : (what : Told) → DrainsOwn run (used act.Drain hand) what came → MayCome act.Drain what
+  drains_may told.Drained k = tt
+  drains_may told.Empty k = tt
+  drains_may _ k = absurd k
+
+  drains_fill : (what : Told) (has : Bool) → DrainsOwn run (used act.Drain hand) what came → filled came ≡ come_back what has (filled (used act.Drain hand))
+  drains_fill told.Drained has k =
+      let u = k.1 in
+      ap (λ (c : Registers T Owner). filled c) u.step.2 ∙ ap (λ (b : Bool). record (filled (used act.Drain hand)) { processor = b; to_store = true }) (still (replaced u.behind) hand.processor)
+  drains_fill told.Empty has k =
+      ap (λ (c : Registers T Owner). filled c) k.step.2 ∙ ap (λ (b : Bool). record (filled (used act.Drain hand)) { processor = b }) (still (replaced k.behind) hand.processor)
+  drains_fill _ has k = absurd k
 
   pushed : (what : Told) → Pushes run (used act.Push hand) what came → Pushes run hand what (joined came (unused act.Push hand))
   pushed told.Pushed k =
@@ -143,6 +167,7 @@ module _ {T : Type 0} (x : Machine T Owner) (word : ℕ) (thieves : List Thief) 
 
   tried_so : (a : Act) → Came a → Tries a x word x.hand thieves what (joined came (unused a x.hand)) thieves'
   tried_so act.Pop k = (popped x.run x.hand came what k.0, k.1)
+  tried_so act.Drain k = (drained x.run x.hand came what k.0, k.1)
   tried_so act.Push k = (pushed x.run x.hand came what k.0, k.1)
   tried_so act.Hunt k = (k.0, k.1, stolen x.run first thieves has x.hand came thieves' k.0 k.2)
   tried_so (act.Steal v) k = (k.0, k.1, stolen x.run v thieves has x.hand came thieves' k.0 k.2)
@@ -150,6 +175,7 @@ module _ {T : Type 0} (x : Machine T Owner) (word : ℕ) (thieves : List Thief) 
 
   may : (a : Act) → Came a → MayCome a what
   may act.Pop k = pops_may x.run x.hand came what k.0
+  may act.Drain k = drains_may x.run x.hand came what k.0
   may act.Push k = pushes_may x.run x.hand came what k.0
   may act.Hunt k = subst (MayCome act.Hunt) (sym k.1) tt
   may (act.Steal v) k = subst (MayCome (act.Steal v)) (sym k.1) tt
@@ -157,6 +183,7 @@ module _ {T : Type 0} (x : Machine T Owner) (word : ℕ) (thieves : List Thief) 
 
   fill : (a : Act) → Came a → filled came ≡ come_back what has (filled (used a x.hand))
   fill act.Pop k = pops_fill x.run x.hand came what has k.0
+  fill act.Drain k = drains_fill x.run x.hand came what has k.0
   fill act.Push k = pushes_fill x.run x.hand came what has k.0
   fill act.Hunt k =
       let n : Registers T Owner = nothing in
@@ -222,6 +249,9 @@ module _ {T : Type 0} (x : Machine T Owner) (word : ℕ) (thieves : List Thief) 
 
   pub pop_came : next_act x ≡ act.Pop → (said : Told) (back : Load T Owner) → what ≡ said → load' ≡ back → thieves' ≡ thieves → PopsOwn load.pass.run (parts_of load) said (parts_of back) → Came_back
   pop_came next said back e f h k = came_by act.Pop next said back thieves e f h (k, refl)
+
+  pub drain_came : next_act x ≡ act.Drain → (said : Told) (back : Load T Owner) → what ≡ said → load' ≡ back → thieves' ≡ thieves → DrainsOwn load.pass.run (parts_of load) said (parts_of back) → Came_back
+  drain_came next said back e f h k = came_by act.Drain next said back thieves e f h (k, refl)
 
   pub push_came : next_act x ≡ act.Push → (said : Told) (back : Load T Owner) → what ≡ said → load' ≡ back → thieves' ≡ thieves → Pushes load.pass.run (parts_of load) said (parts_of back) → Came_back
   push_came next said back e f h k = came_by act.Push next said back thieves e f h (k, refl)

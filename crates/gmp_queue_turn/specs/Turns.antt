@@ -26,6 +26,7 @@ use Rattle.rand_pcg.specs.Pcg.{pcg32}
 -- The act is one at a local queue.
 abbrev pub IsQueueAct : Act → Type 0
 IsQueueAct act.Pop = Unit {0}
+IsQueueAct act.Drain = Unit {0}
 IsQueueAct act.Push = Unit {0}
 IsQueueAct act.Hunt = Unit {0}
 IsQueueAct (act.Steal victim) = Unit {0}
@@ -70,6 +71,15 @@ PopsOwn run hand told.Empty hand' =
     UsesOwn hand (λ o p. (owner_view p ≡ owner_view o) × (owner_run o ≡ run → FoundNone (owner_view o)) × (hand' ≡ with_own_queue p hand))
 PopsOwn run hand _ hand' = ⊥
 
+-- Drained: the first ticket was taken, and is in hand, to store. Empty: none was taken; in a queue of another run there is none for the machine.
+abbrev pub DrainsOwn : {T : Type 0} → ℕ → Registers T Owner → Told → Registers T Owner → Type 0
+DrainsOwn run hand told.Drained hand' =
+    (r : Readiness)
+    × UsesOwn hand (λ o p. (owner_run o ≡ run) × PoppedFirst (owner_view o) (r ∷ []) (owner_view p) × (hand' ≡ record (with_own_queue p hand) { to_store = Some r }))
+DrainsOwn run hand told.Empty hand' =
+    UsesOwn hand (λ o p. (owner_view p ≡ owner_view o) × (owner_run o ≡ run → FoundNone (owner_view o)) × (hand' ≡ with_own_queue p hand))
+DrainsOwn run hand _ hand' = ⊥
+
 -- Others' queues
 
 -- The thief of queue v before and behind, of the same queue and with the same parts: this step was made. All other thieves are as they were.
@@ -100,6 +110,7 @@ Steals run v thieves has hand tried.Unsure hand' thieves' =
 -- by the act that is next: what is told, and what is in hand then
 abbrev pub Tries : {T : Type 0} → Act → Machine T Owner → ℕ → Registers T Owner → List Thief → Told → Registers T Owner → List Thief → Type 0
 Tries act.Pop x word hand thieves what hand' thieves' = PopsOwn x.run hand what hand' × (thieves' ≡ thieves)
+Tries act.Drain x word hand thieves what hand' thieves' = DrainsOwn x.run hand what hand' × (thieves' ≡ thieves)
 Tries act.Push x word hand thieves what hand' thieves' = Pushes x.run hand what hand' × (thieves' ≡ thieves)
 Tries act.Hunt x word hand thieves what hand' thieves' =
     (how : Tried) × (what ≡ told.Drew word how) × Steals x.run (victim_of x.procs (begun (seen x) word)) thieves (is_some x.hand.to_claim) hand how hand' thieves'

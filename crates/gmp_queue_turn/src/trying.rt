@@ -4,7 +4,7 @@ ghost use Rattle.gmp_base.specs.Values.{readiness_of};
 ghost use Rattle.gmp_driver.specs.Loads.{IsOfRun, parts_of};
 ghost use Rattle.gmp_queue.specs.Ends.{KeepsOwner, KeepsThief, MatchStole, owner_run, owner_view, thief_run, thief_view};
 ghost use Rattle.gmp_queue.specs.Queue.{FoundNone, PoppedFirst, StoleFirst};
-ghost use Rattle.gmp_queue_turn.specs.Turns.{PopsOwn, Pushes, Steals};
+ghost use Rattle.gmp_queue_turn.specs.Turns.{DrainsOwn, PopsOwn, Pushes, Steals};
 
 use gmp_base::{PNo, Ticket};
 use gmp_driver::{Load, Told, Tried, fill};
@@ -41,6 +41,29 @@ pub(crate) fn pop<T>(load: &mut Load<T, Owner>) -> Told
         Some(ticket) => {
             fill(&mut load.to_claim, ticket);
             Told::Got
+        }
+        None => Told::Empty,
+    }
+}
+
+/// Pops the own queue, and the ticket is one to store.
+pub(crate) fn drain<T>(load: &mut Load<T, Owner>) -> Told
+    requires run { IsOfRun load.old.pass.run load.old }
+    requires own { IsSome load.old.proc }
+    requires free { IsNone load.old.to_store }
+    ensures drains { DrainsOwn load.old.pass.run (parts_of load.old) result (parts_of load.new) }
+    ensures run { IsOfRun load.old.pass.run load.new }
+    ensures pass { load.new.pass ≡ load.old.pass }
+{
+    let Some(mut proc) = load.proc.take() else {
+        unreachable!()
+    };
+    let popped = pop_of(&mut proc.owner, load.pass.run);
+    fill(&mut load.proc, proc);
+    match popped {
+        Some(ticket) => {
+            fill(&mut load.to_store, ticket);
+            Told::Drained
         }
         None => Told::Empty,
     }

@@ -4,14 +4,14 @@ ghost use Rattle.gmp_driver.specs.Fits.{SuitsPlace};
 ghost use Rattle.gmp_driver.specs.Table.{next_act};
 ghost use Rattle.gmp_queue_turn.specs.Turns.{IsQueueAct, TurnsOnQueue, drawn_for};
 
-use crate::trying::{pop, push, steal};
+use crate::trying::{drain, pop, push, steal};
 use gmp_driver::{Act, Driver, Told};
 use gmp_queue::{Owner, Thief};
 use rand_core::utils::next_u64_via_u32;
 use rand_pcg::Lcg64Xsh32;
 
-/// Tries once what the driver's machine names next: a pop or a push at its own queue, or a steal. Then the driver is told what came of it,
-/// and holds what its new place says.
+/// Tries once what the driver's machine names next: a pop, a drain or a push at its own queue, or a steal. Then the driver is told what came
+/// of it, and holds what its new place says.
 ///
 /// The thieves are this machine's, one for each queue, in order. The first steal of a hunt draws a word, by which its victim is chosen.
 pub fn queue_turn<T>(driver: &mut Driver<T, Owner>, thieves: &mut [Thief], random: &mut Lcg64Xsh32)
@@ -52,6 +52,7 @@ fn turn_by<T>(driver: &mut Driver<T, Owner>, thieves: &mut [Thief], word: u64)
     let mut load = driver.give();
     let told = match act {
         Act::Pop => pop(&mut load),
+        Act::Drain => drain(&mut load),
         Act::Push => push(&mut load),
         Act::Hunt => Told::Drew(word, steal(&mut load, thieves, first, has_to_claim)),
         Act::Steal(victim) => Told::Tried(steal(&mut load, thieves, victim, has_to_claim)),

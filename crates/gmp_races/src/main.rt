@@ -1,16 +1,17 @@
-//! `gmp_races FIRST N` runs short scripts in threads, N times by the seeds from FIRST on, under a gate that yields by drawn words; the plain
-//! scheduler judges each history (docs/TESTS.md).
+//! `gmp_races FIRST N` runs short scripts in threads, N times by the seeds from FIRST on, under a gate that yields by drawn words and holds
+//! machines at their park; the plain scheduler judges each history, and none may leave work asleep (docs/TESTS.md).
 //!
 //! It prints how many runs ended in which way, or the first run that falls short, and how.
 #![tactic(auto)]
 
+mod asleep;
 mod gate;
 mod playing;
 mod scripts;
 mod short;
 
 use crate::playing::played;
-use crate::scripts::{Row, of_seed};
+use crate::scripts::of_seed;
 use anyhow::{Context, Result};
 use gmp_seq::Outcome;
 use std::env;
@@ -30,13 +31,13 @@ fn main(rt: HostRuntime) -> Result<ExitCode> {
     let mut ended = 0u64;
     let mut asleep = 0u64;
     for seed in first..first.saturating_add(count) {
-        let Row { script, ends } = of_seed(seed);
-        for size in [(1, 1), (4, 6)] {
-            if let Err(short) = played(&rt, rt.alloc(), script, size, ends, seed) {
+        let row = of_seed(seed);
+        for size in row.sizes {
+            if let Err(short) = played(&rt, rt.alloc(), &row, size, seed) {
                 println!(rt; "run {seed} on {} and {}: {short}", size.0, size.1)?;
                 return Ok(ExitCode::FAILURE);
             }
-            match ends {
+            match row.ends {
                 Outcome::AllAsleep => asleep = asleep.saturating_add(1),
                 _ => ended = ended.saturating_add(1),
             }

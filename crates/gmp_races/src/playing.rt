@@ -1,6 +1,8 @@
 //! One run.
 
+use crate::asleep::leaves_work_asleep;
 use crate::gate::Turnstile;
+use crate::scripts::Row;
 use crate::short::Short;
 use gmp_check::outcome_of;
 use gmp_run::{Clock, Report, run};
@@ -36,7 +38,7 @@ fn script(alloc: Global, text: &[u8]) -> Result<Script, Short> {
     Ok(script)
 }
 
-/// Judges a run's report: how it ended, and that the history is legal and the logs agree with it.
+/// Judges a run's report: how it ended, that the history is legal and leaves no work asleep, and that the logs agree with it.
 fn judge(
     alloc: Global,
     limits: Limits,
@@ -47,6 +49,9 @@ fn judge(
 ) -> Result<(), Short> {
     if audit(&report.history, &report.logs).is_err() {
         return Err(Short::Mismatch);
+    }
+    if leaves_work_asleep(alloc, limits.machines, &report.history)? {
+        return Err(Short::Asleep);
     }
     match outcome_of(alloc, limits, bodies, capacities, &report.history) {
         Ok(Some(outcome)) if outcome == report.outcome => {}
@@ -59,14 +64,14 @@ fn judge(
     }
 }
 
-/// Runs the bodies of a script by machines in threads, under a gate of this seed, and judges the run.
+/// Runs the bodies of a row's script by machines in threads, under a gate of this seed, and judges the run.
 fn raced<R: Threads + Wait + Sync>(
     rt: &R,
     alloc: Global,
     limits: Limits,
     capacities: &[u32],
     bodies: Vec<ScriptBody>,
-    ends: Outcome,
+    row: &Row,
     seed: u64,
 ) -> Result<(), Short> {
     let Ok(count) = u16::try_from(bodies.len()) else {
@@ -84,34 +89,38 @@ fn raced<R: Threads + Wait + Sync>(
     let clock = Counting {
         next: AtomicU64::new(0),
     };
-    let gate = Turnstile::new(seed);
+    let others = if row.meets {
+        limits.machines.saturating_sub(1)
+    } else {
+        0
+    };
+    let gate = Turnstile::new(seed, others);
     match run(
         rt, alloc, seed, limits, capacities, boxes, &clock, &gate, seed,
     ) {
-        Ok(report) => judge(alloc, limits, count, capacities, &report, ends),
+        Ok(report) => judge(alloc, limits, count, capacities, &report, row.ends),
         Err(_) => Err(Short::NotBegun),
     }
 }
 
-/// Runs the script by so many processors and machines, under a gate of this seed, and judges it.
+/// Runs the row's script by so many processors and machines, under a gate of this seed, and judges it.
 pub fn played<R: Threads + Wait + Sync>(
     rt: &R,
     alloc: Global,
-    text: &[u8],
+    row: &Row,
     size: (u8, u8),
-    ends: Outcome,
     seed: u64,
 ) -> Result<(), Short> {
     let Script {
         capacities,
         bodies,
         ..
-    } = script(alloc, text)?;
+    } = script(alloc, row.script)?;
     let limits = Limits {
         procs: size.0,
         machines: size.1,
         channels: 16,
         entries: 10_000,
     };
-    raced(rt, alloc, limits, &capacities, bodies, ends, seed)
+    raced(rt, alloc, limits, &capacities, bodies, row, seed)
 }

@@ -2,29 +2,43 @@
 
 use gmp_seq::Outcome;
 
-/// A script, its lines parted by `/`, and how it ends.
+/// A script, its lines parted by `/`, how it ends, by how many processors and machines it is run, and whether the machines meet.
+#[derive(Drop)]
 pub struct Row {
     pub script: &'static [u8],
     pub ends: Outcome,
+    pub sizes: [(u8, u8); 2],
+    pub meets: bool,
 }
 
 fn ends(script: &'static [u8]) -> Row {
     Row {
         script,
         ends: Outcome::MainEnded,
+        sizes: [(1, 1), (4, 6)],
+        meets: false,
     }
 }
 
 fn sleeps(script: &'static [u8]) -> Row {
     Row {
-        script,
         ends: Outcome::AllAsleep,
+        ..ends(script)
+    }
+}
+
+/// A script of which main's first asks are a go and a blocking call.
+fn meets(script: &'static [u8]) -> Row {
+    Row {
+        sizes: [(1, 2), (4, 6)],
+        meets: true,
+        ..ends(script)
     }
 }
 
 /// The row of a seed.
 pub fn of_seed(seed: u64) -> Row {
-    match seed % 10 {
+    match seed % 16 {
         // Nobody sends.
         0 => sleeps(b"chan 0/body/recv 0"),
         // A buffer of two, and a sender that waits.
@@ -56,6 +70,28 @@ pub fn of_seed(seed: u64) -> Row {
         // All wait on one another.
         8 => sleeps(b"chan 0/chan 0/body/go 1/recv 0/body/recv 1/send 0 1"),
         // Those who park are readied by whoever comes later, or are left.
-        _ => sleeps(b"body/go 1/yield/ready 1/park/body/park/park"),
+        9 => sleeps(b"body/go 1/yield/ready 1/park/body/park/park"),
+        // Each push comes just before a blocking call.
+        10 => ends(
+            b"chan 0/body/go 1/block 1/go 2/block 2/go 3/block 3/recv 0/recv 0/recv 0/exit/body/send 0 1/body/send 0 2/body/send 0 3",
+        ),
+        // The same by one that was started, and main waits for whom that one starts.
+        11 => ends(
+            b"chan 0/body/go 1/recv 0/recv 0/exit/body/go 2/block 1/go 3/block 2/body/send 0 1/body/send 0 2",
+        ),
+        // A sleeper beside blocking calls.
+        12 => ends(
+            b"chan 0/body/go 1/block 1/go 2/block 2/recv 0/recv 0/exit/body/sleep 2000/send 0 1/body/send 0 2",
+        ),
+        // Fewer processors are active, and then more.
+        13 => ends(
+            b"chan 0/body/procs 1/go 1/block 1/go 2/procs 3/block 2/recv 0/recv 0/exit/body/block 3/send 0 1/body/procs 2/send 0 2",
+        ),
+        // The others are about to park when main pushes and goes into its blocking call.
+        14 => meets(b"body/go 1/block 1/exit/body"),
+        // One pushes while others are on their way, and main waits for all.
+        _ => meets(
+            b"chan 0/body/go 1/block 1/go 2/go 3/block 2/recv 0/recv 0/recv 0/exit/body/send 0 1/body/block 3/send 0 2/body/send 0 3",
+        ),
     }
 }

@@ -3,13 +3,13 @@
 //! A machine at Mind waits on its parker. All that is said here of who waits, looks, runs and is ready lies under the lock, and is kept by
 //! the entries of the history alone. No clause speaks of it: that no wake-up is lost rests on the order of these steps.
 //!
-//! 1. **Mark.** An act at the book is noted in the hold that makes it (`note_last`). So a machine is marked as one that waits from the very
+//! 1. **Note.** An act at the book is noted in the hold that makes it (`note_last`). So a machine counts as one that waits from the very
 //!    entry on that tells it to mind a deadline, before it reads the clock or its thread waits. A ticket that is given out counts as ready
 //!    from its machine's next entry on: by then it is in a queue or on the shelf, and whoever is called for it finds it. A thief may claim it
 //!    before that entry, so tickets that were given out and claims are counted apart.
 //! 2. **Settle: the call.** At the end of the same hold (`settle`) one of those that wait is called, where more goroutines are ready than
-//!    machines look for them, and more processors are idle than machines that look have none. Its mark goes, and it counts as one that
-//!    looks from then on, so that it isn't called twice.
+//!    machines look for them, and more active processors are idle than machines that look have none. It waits no more, and counts as one
+//!    that looks from then on, so that it isn't called twice.
 //! 3. **Settle: the watch.** Then, where the least deadline that stands is before the watcher's limit, or nobody watches, the watcher is
 //!    told the new limit; where there is none, one of those that wait becomes the watcher, rather the machine itself. This is put off while
 //!    more machines look than goroutines are ready: each of them comes to another act at the book, as it claims, takes a processor, gives
@@ -18,14 +18,21 @@
 //!    taken, so an unpark that comes before the wait ends it, and one that comes late costs a look, or one `woken -> false`.
 //! 5. **Look, and then wait.** A machine at Mind reads the clock, looks under the lock whether it still waits, whether it watches and until
 //!    when (`stays`), lets the lock go and waits: with no limit, or as the watcher until the limit. After each wait it looks again. It
-//!    comes back where its mark is gone, where the run is over, and as the watcher at its limit; then it counts as one that looks, and
+//!    comes back where it waits no more, where the run is over, and as the watcher at its limit; then it counts as one that looks, and
 //!    the watch is free.
 //! 6. **Act.** Whoever comes back ticks, takes a processor and looks for work by its table, and 1 to 4 hold of each of its acts at the book.
 //! 7. **The end.** The hold that brings the outcome has all unparked, and whoever looks from then on comes back.
 //!
-//! A mark that changes after step 5's look changes in a later hold, whose unpark (step 4) comes after that look: so its token is still there
-//! for the wait. Calls end, since each takes a mark away, and only `park -> mind D` brings one, after the machine has looked everywhere.
+//! Who waits changes after step 5's look in a later hold alone, whose unpark (step 4) comes after that look: so its token is still there for
+//! the wait. Calls end, since each of them leaves one less that waits, and only `park -> mind D` brings one, after the machine has looked
+//! everywhere.
+//!
+//! A blocking call that begins marks all machines that are awake, those at Mind too: what a marked one saw when it looked may be old. One
+//! that comes to its park looks again. Of those at Mind the same hold calls one by step 2, where a goroutine is ready that nobody looks for
+//! and an active processor is idle for it. Not all marked ones come back: each would make some ten entries at each blocking call, and with
+//! many machines these alone would fill the book.
 
+use crate::processors::Processors;
 use crate::set::Set;
 use gmp_base::{GNo, MNo};
 use gmp_seq::{Call, Entry, Reply};
@@ -64,9 +71,7 @@ fn deadline_in(call: &Call) -> Option<u64> {
 pub(crate) struct Watch {
     /// How many entries are noted.
     noted: usize,
-    procs: u32,
-    /// How many processors are held by nobody.
-    idle: u32,
+    processors: Processors,
     /// How many tickets were given out, and how many were claimed. One that was stolen may be claimed before it counts as given out.
     given: u64,
     claims: u64,
@@ -98,8 +103,7 @@ impl Watch {
         }
         Ok(Watch {
             noted: 0,
-            procs: u32::from(procs),
-            idle: u32::from(procs),
+            processors: Processors::idle(procs),
             given: 1,
             claims: 0,
             looks: Set::none(),
@@ -137,14 +141,6 @@ impl Watch {
 
     fn more_ready(&mut self, count: u64) {
         self.given = self.given.saturating_add(count);
-    }
-
-    fn acquired(&mut self) {
-        self.idle = self.idle.saturating_sub(1);
-    }
-
-    fn released(&mut self) {
-        self.idle = self.idle.saturating_add(1);
     }
 
     /// The deadline of the goroutine that m claimed last.
@@ -198,7 +194,7 @@ impl Watch {
         }
     }
 
-    /// Notes an entry: where machines stand, and how many processors are idle.
+    /// Notes an entry: where machines stand, and which processors are held. One that is told to look again looks as before.
     fn note(&mut self, entry: &Entry) {
         let m = entry.m;
         if self.owes.has(m) {
@@ -206,19 +202,19 @@ impl Watch {
             self.more_ready(1);
         }
         match entry.reply {
-            Reply::Proc(_) => {
+            Reply::Proc(p) => {
                 self.look(m);
-                self.acquired();
+                self.processors.hold(p);
             }
             Reply::Nothing if matches!(entry.call, Call::Acquire) => self.look(m),
-            Reply::Runs(_) => {
+            Reply::Runs(p) => {
                 self.run(m);
-                self.acquired();
+                self.processors.hold(p);
             }
-            Reply::Idle(_) => self.released(),
-            Reply::Entered(_, woken) => {
+            Reply::Idle(p) => self.processors.release(p),
+            Reply::Entered(p, woken) => {
                 self.goes(m);
-                self.released();
+                self.processors.release(p);
                 if let Some(n) = woken {
                     self.look(n);
                 }
@@ -234,7 +230,8 @@ impl Watch {
         }
     }
 
-    /// Notes an entry: which goroutines are ready, which run, and what they wait for.
+    /// Notes an entry: which goroutines are ready, which run, and what they wait for, and how many processors are active. A ticket that is
+    /// put onto the shelf was ready before.
     fn note_goroutines(&mut self, entry: &Entry) {
         let m = entry.m;
         match (entry.reply, &entry.call) {
@@ -254,6 +251,7 @@ impl Watch {
                 self.sleeps(m, deadline_in(call));
             }
             (Reply::Dead, _) => self.look(m),
+            (Reply::Number(_), Call::Procs(active)) => self.processors.set_active(*active),
             (reply, _) => {
                 if reply.ticket().is_some() {
                     self.owes = self.owes.with(m);
@@ -274,14 +272,14 @@ impl Watch {
 
     /// How many look and have no processor.
     fn bare(&self) -> u32 {
-        let held = self.procs.saturating_sub(self.idle);
+        let held = self.processors.count_held();
         let with = held.saturating_sub(self.runs.count());
         self.looks.count().saturating_sub(with)
     }
 
     /// Whether there is work for one more.
     fn wants(&self) -> bool {
-        self.given > self.taken_up() && self.idle > self.bare()
+        self.given > self.taken_up() && self.processors.count_idle() > self.bare()
     }
 
     /// The least of those who wait, and rather one who doesn't watch.

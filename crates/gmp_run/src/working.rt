@@ -72,7 +72,7 @@ impl<'a, T: Drop, C: Clock, G: Gate, L: RunLedger> Floor<'a, T, C, G, L> {
                 // At Rest a machine waits first, and no thread waits with the lock.
                 Act::Call(Call::Woken) => break,
                 Act::Call(call) => woken = bench.turn(memory_for(&call, alloc), machine),
-                Act::Pop | Act::Push => machine.queue_turn(),
+                Act::Pop | Act::Drain | Act::Push => machine.queue_turn(),
                 _ => break,
             }
         }
@@ -115,7 +115,7 @@ impl<'a, T: Runs, C: Clock, G: Gate, L: RunLedger> Floor<'a, T, C, G, L> {
                 self.at_book(rt, alloc, memory_for(&call, alloc), machine);
             }
             Act::Surrender(_) => self.at_book(rt, alloc, None, machine),
-            Act::Pop | Act::Push => machine.queue_turn(),
+            Act::Pop | Act::Drain | Act::Push => machine.queue_turn(),
             Act::Hunt => {
                 machine.lie_in_wait(self.clock);
                 machine.queue_turn();

@@ -1,6 +1,9 @@
 //! Machines beside a goroutine that is asleep until a moment that never comes: what becomes ready is run and what is due is ticked, though
 //! the machine that could do so minds that moment. Bodies wait for one another, so how long anything takes makes no difference.
 
+mod rows;
+
+use self::rows::{ROWS, Step, Steps};
 use crossbeam_utils::Backoff;
 use crossbeam_utils::sync::Parker;
 use gmp_base::{Ask, Body, CNo, GNo, MNo, Woke};
@@ -19,10 +22,8 @@ use std::time::Duration;
 /// How long somebody waits for another at most.
 pub(super) const TURNS: u32 = 10_000_000;
 
-/// The last moment that a clock of these tests shows, and a later one.
+/// The last moment that a clock of these tests shows.
 const LAST: u64 = 500;
-
-const FAR: u64 = 1_000;
 
 /// What has happened, counted, and whether somebody waited for it in vain.
 #[derive(Drop)]
@@ -54,28 +55,6 @@ impl Seen {
         }
     }
 }
-
-/// What a body does when it is resumed: all but `Meet` and `Ran` are what it asks.
-#[derive(Clone, Copy)]
-enum Step {
-    /// Starts this goroutine, and the next each further time.
-    Go(u16),
-    Yield,
-    Sleep(u64),
-    Recv(u16),
-    Close(u16),
-    /// Meets another, and then sends on this channel.
-    Meet(u16),
-    /// A blocking call until a machine minds a deadline.
-    UntilMinded,
-    /// A blocking call until the one ran that says so.
-    UntilRan,
-    /// Says that it ran, and exits.
-    Ran,
-}
-
-/// Steps, each with how often it is made.
-type Steps = &'static [(Step, u16)];
 
 /// A goroutine of this kind in this row.
 #[derive(Drop)]
@@ -123,6 +102,11 @@ impl Body for Walks {
             Step::Sleep(until) => Ask::Sleep(until),
             Step::Recv(c) => Ask::Recv(Some(CNo(c))),
             Step::Close(c) => Ask::Close(Some(CNo(c))),
+            Step::Procs(active) => Ask::Procs(active),
+            Step::RunsUntilRan => {
+                self.seen.awaits(&self.seen.ran, 1);
+                Ask::Yield
+            }
             Step::Meet(c) => {
                 self.seen.meets();
                 Ask::Send(Some(CNo(c)), 0)
@@ -205,91 +189,6 @@ impl<R: Wait + std::time::Clock> Clock for Waiting<'_, R> {
         }
     }
 }
-
-/// What is tried, by how many processors and machines, with which channels, and the steps of main and the others, each with how many
-/// goroutines make them.
-type Row = (
-    &'static str,
-    (u8, u8),
-    &'static [u32],
-    &'static [(Steps, u16)],
-);
-
-const SLEEPER: Steps = &[(Step::Sleep(FAR), 1)];
-
-const RUNNER: Steps = &[(Step::Ran, 1)];
-
-/// Starts the sleeper, and another once a machine minds the sleeper's deadline, and lets that one run while it blocks.
-const STARTS: Steps = &[
-    (Step::Go(1), 1),
-    (Step::UntilMinded, 1),
-    (Step::Go(2), 1),
-    (Step::UntilRan, 1),
-];
-
-const ROWS: [Row; 5] = [
-    (
-        "one that is ready before a blocking call",
-        (2, 2),
-        &[],
-        &[(STARTS, 1), (SLEEPER, 1), (RUNNER, 1)],
-    ),
-    (
-        "the same with one processor",
-        (1, 2),
-        &[],
-        &[(STARTS, 1), (SLEEPER, 1), (RUNNER, 1)],
-    ),
-    (
-        "an earlier deadline, by the machine that minds the later one",
-        (2, 2),
-        &[],
-        &[
-            (STARTS, 1),
-            (SLEEPER, 1),
-            (&[(Step::Sleep(100), 1), (Step::Ran, 1)], 1),
-        ],
-    ),
-    // With one processor the goroutine falls asleep on main's machine, so the other machine hears of the deadline alone.
-    (
-        "an earlier deadline, while the later one is minded",
-        (1, 2),
-        &[],
-        &[
-            (
-                &[
-                    (Step::Go(1), 1),
-                    (Step::UntilMinded, 1),
-                    (Step::Go(2), 1),
-                    (Step::Yield, 1),
-                    (Step::UntilRan, 1),
-                ],
-                1,
-            ),
-            (SLEEPER, 1),
-            (&[(Step::Sleep(100), 1), (Step::Ran, 1)], 1),
-        ],
-    ),
-    // Each of the twenty is resumed while another is.
-    (
-        "twenty by two machines",
-        (2, 2),
-        &[0, 20],
-        &[
-            (
-                &[
-                    (Step::Go(1), 21),
-                    (Step::UntilMinded, 1),
-                    (Step::Close(0), 1),
-                    (Step::Recv(1), 20),
-                ],
-                1,
-            ),
-            (SLEEPER, 1),
-            (&[(Step::Recv(0), 1), (Step::Meet(1), 1)], 20),
-        ],
-    ),
-];
 
 fn nothing_seen(alloc: Global) -> Result<Arc<Seen, Global>, Fail> {
     let seen = Seen {

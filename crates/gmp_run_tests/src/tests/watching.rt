@@ -8,11 +8,9 @@ use gmp_run::{Clock, Gate};
 use gmp_seq::{Call, Outcome};
 use gmp_worker::Boxed;
 use std::alloc::Global;
-use std::process::Abort;
-use std::sync::Wait;
 use std::sync::atomic::{AtomicBool, AtomicU64, Ordering};
 use std::test::*;
-use std::thread::{Threads, yield_now};
+use std::thread::yield_now;
 
 /// A gate that sees who is at rest or minds a deadline, and a clock by which a rest has passed at once where all are, as if it were a long one.
 #[derive(Drop)]
@@ -54,23 +52,43 @@ fn nobody_works() -> Quiet {
     }
 }
 
-/// Sleeps until each of 100 moments, 5 ms after the one before.
-#[derive(Drop)]
-struct Sleeps {
-    next: u64,
+/// What a body asks, again and again.
+#[derive(Clone, Copy)]
+enum Asks {
+    /// Sleeps until each of 100 moments, 5 ms after the one before.
+    Sleeps,
+    /// Starts each of 100 others, from goroutine 2 on, just before a blocking call.
+    Blocks,
+    /// Sleeps for a century.
+    SleepsOn,
+    Exits,
 }
 
-impl Body for Sleeps {
+#[derive(Drop)]
+struct Tireless {
+    asks: Asks,
+    asked: u16,
+}
+
+impl Body for Tireless {
     ghost resumed = { λ _ _ _ _. Unit {0} };
 
     ghost blocked = { λ _ _ _. Unit {0} };
 
     fn resume(&mut self, _woke: Woke) -> Ask {
-        self.next = self.next.saturating_add(5_000_000);
-        if self.next > 500_000_000 {
-            return Ask::Exit;
+        let before = self.asked;
+        self.asked = before.saturating_add(1);
+        match self.asks {
+            Asks::Sleeps if before < 100 => Ask::Sleep(u64::from(self.asked).saturating_mul(
+                5_000_000,
+            )),
+            Asks::Blocks if before == 0 => Ask::Go(GNo(1)),
+            Asks::Blocks if before > 200 => Ask::Exit,
+            Asks::Blocks if before % 2 == 0 => Ask::Block,
+            Asks::Blocks => Ask::Go(GNo((before / 2).saturating_add(2))),
+            Asks::SleepsOn => Ask::Sleep(3_000_000_000_000_000_000),
+            _ => Ask::Exit,
         }
-        Ask::Sleep(self.next)
     }
 
     fn blocking(&mut self) -> u64 {
@@ -78,27 +96,56 @@ impl Body for Sleeps {
     }
 }
 
-/// How many entries 100 sleeps make.
-fn entries<R: Threads + Wait + Abort + Sync>(
-    rt: &R,
-    alloc: Global,
-    size: (u8, u8),
-) -> Result<usize, Fail> {
-    let mut bodies: Vec<Boxed> = Vec::new(alloc);
-    bodies.push(Box::new(alloc, Sleeps { next: 0 })?)?;
-    let quiet = nobody_works();
-    let report = report_of(rt, alloc, size, &[], bodies, &quiet, &quiet)?;
-    assert!(rt; report.outcome == Outcome::MainEnded);
-    Ok(report.history.len())
-}
+/// What is tried: what bodies ask, each by so many, by how many processors and machines, and how many entries they make at least and at most.
+type Row = (
+    &'static str,
+    &'static [(Asks, u16)],
+    (u8, u8),
+    (usize, usize),
+);
 
-/// Of 64 machines one comes back for a deadline that all mind.
+const SLEEPS: &[(Asks, u16)] = &[(Asks::Sleeps, 1)];
+
+const BLOCKS: &[(Asks, u16)] = &[(Asks::Blocks, 1), (Asks::SleepsOn, 1), (Asks::Exits, 100)];
+
+const ROWS: [Row; 4] = [
+    ("100 sleeps", SLEEPS, (1, 1), (904, 904)),
+    (
+        "100 sleeps beside those that mind",
+        SLEEPS,
+        (32, 64),
+        (904, 3_616),
+    ),
+    ("100 blocking calls", BLOCKS, (1, 2), (500, 5_000)),
+    (
+        "100 blocking calls beside those that mind",
+        BLOCKS,
+        (32, 64),
+        (500, 10_000),
+    ),
+];
+
+/// One comes back for a deadline that all mind, and for one that is ready at a blocking call, of 64 machines too.
 #[test]
 fn one_minds_for_all(rt: HostRuntime) -> Result<(), Fail> {
-    let alone = entries(&rt, rt.alloc(), (1, 1))?;
-    let among_many = entries(&rt, rt.alloc(), (32, 64))?;
-    assert_eq!(rt; alone, 904);
-    assert!(rt; among_many <= alone.saturating_mul(4), "{among_many}");
+    let alloc = rt.alloc();
+    for (name, kinds, size, (least, most)) in ROWS {
+        let mut bodies: Vec<Boxed> = Vec::new(alloc);
+        for (asks, count) in kinds {
+            for _ in 0..*count {
+                let body = Tireless {
+                    asks: *asks,
+                    asked: 0,
+                };
+                bodies.push(Box::new(alloc, body)?)?;
+            }
+        }
+        let quiet = nobody_works();
+        let report = report_of(&rt, alloc, size, &[], bodies, &quiet, &quiet)?;
+        assert!(rt; report.outcome == Outcome::MainEnded, "{name}");
+        let count = report.history.len();
+        assert!(rt; least <= count && count <= most, "{name}: {count}");
+    }
     Ok(())
 }
 
