@@ -116,12 +116,13 @@ const ROWS: [Row; 4] = [
         (32, 64),
         (904, 3_616),
     ),
-    ("100 blocking calls", BLOCKS, (1, 2), (500, 5_000)),
+    // Main alone makes 406.
+    ("100 blocking calls", BLOCKS, (1, 2), (406, 5_000)),
     (
         "100 blocking calls beside those that mind",
         BLOCKS,
         (32, 64),
-        (500, 10_000),
+        (406, 20_000),
     ),
 ];
 
