@@ -48,7 +48,6 @@ impl Machines {
     pub fn opening(alloc: Global, procs: u8, machines: u8) -> Result<Self, AllocError>
         requires some { 1 ≤ procs }
         requires procs { procs ≤ 32 }
-        requires some_machines { 1 ≤ machines }
         requires machines { machines ≤ 64 }
         ensures { IfOk result (λ w. w ≡ record { holders = replicate procs None; modes = replicate machines Mode.Awake; spinning = replicate machines false; marked = replicate machines false; active = procs }) }
     {
