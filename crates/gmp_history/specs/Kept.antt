@@ -1,0 +1,16 @@
+-- What a history keeps.
+use Rattle.std.specs.Prelude.{◌≤◌, ◌+◌, ℕ, List, length, All}
+use Rattle.gmp_seq.specs.declared.call.Relay.{Relay}
+use Rattle.gmp_history.specs.declared.brief.Choosing.{Choosing}
+use Rattle.gmp_history.specs.declared.brief.Row.{Row}
+use Rattle.gmp_history.specs.Brief.{IsIn}
+
+-- What rows name is there, and each row names one choosing and one sender at most. Where there is room for so many entries, each of those to
+-- come has room for its row, for a choosing and for a sender.
+pub record IsHistory (rows : List Row) (choosings : List Choosing) (relays : List Relay) (room : ℕ) (space space' space'' : ℕ) : Type 0 where
+  pub named : All (IsIn (length choosings) (length relays)) rows
+  pub few_choosings : length choosings ≤ length rows
+  pub few_relays : length relays ≤ length rows
+  pub rows_room : room ≤ space
+  pub choosings_room : room + length choosings ≤ space' + length rows
+  pub relays_room : room + length relays ≤ space'' + length rows

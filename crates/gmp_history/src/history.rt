@@ -1,0 +1,144 @@
+//! The history.
+ghost use Rattle.std.specs.Prelude.{◌≡◌, ◌<◌, ◌≤◌, ◌-◌, ◌↔◌, IsTrue, [], ◌∷◌, ◌++◌, length, slice_get, IfOk, OnOk};
+ghost use Rattle.gmp_seq.specs.Fits.{Fits};
+
+use crate::brief::{Choosing, Row};
+use crate::entries::Entries;
+use crate::parts::{brief_call, brief_reply, whole_call, whole_reply};
+use gmp_base::MNo;
+use gmp_seq::{Call, Entry, Relay, Reply};
+use std::alloc::{AllocError, Global};
+use std::marker::Model;
+
+/// A list of entries. A contract sees the list, and for how many there is room.
+///
+/// Only `with_room` and `make_room` take memory. What is not written is not touched.
+#[derive(Debug, Drop)]
+pub struct History {
+    rows: Vec<Row>,
+    choosings: Vec<Choosing>,
+    relays: Vec<Relay>,
+    room: u32,
+}
+
+impl Model for History {
+    ghost use Rattle.std.specs.Prelude.{vec_capacity};
+    ghost use Rattle.gmp_history.specs.Brief.{HistoryContents, entries_of};
+    ghost use Rattle.gmp_history.specs.Kept.{IsHistory};
+
+    ghost Value = { HistoryContents };
+
+    ghost view = { λ h. record { list = entries_of h.choosings.items h.relays.items h.rows.items; room = h.room } };
+
+    ghost invariant = { λ h. IsHistory h.rows.items h.choosings.items h.relays.items h.room (vec_capacity h.rows) (vec_capacity h.choosings) (vec_capacity h.relays) };
+}
+
+/// The row at this place, if there is one.
+fn row_at(rows: &[Row], place: usize) -> Option<Row>
+    ensures { result ≡ slice_get rows.now place }
+{
+    rows.get(place).copied()
+}
+
+impl History {
+    /// No entry, and room for so many.
+    pub fn with_room(alloc: Global, room: u32) -> Result<Self, AllocError>
+        ensures { IfOk result (λ h. h ≡ record { list = []; room = room }) }
+    {
+        Ok(History {
+            rows: Vec::with_capacity(alloc, room as usize)?,
+            choosings: Vec::with_capacity(alloc, room as usize)?,
+            relays: Vec::with_capacity(alloc, room as usize)?,
+            room,
+        })
+    }
+
+    /// No entry, and no room.
+    pub fn new(alloc: Global) -> Self
+        ensures { result ≡ record { list = []; room = 0 } }
+    {
+        History {
+            rows: Vec::new(alloc),
+            choosings: Vec::new(alloc),
+            relays: Vec::new(alloc),
+            room: 0,
+        }
+    }
+
+    /// Makes room for one more, by memory where that is wanted. It is refused where memory is, and behind 4,294,967,295 entries.
+    pub fn make_room(&mut self) -> Result<(), AllocError>
+        ensures list { self.new.list ≡ self.old.list }
+        ensures ok { OnOk result (length self.new.list < self.new.room) }
+        ensures room { self.old.room ≤ self.new.room }
+    {
+        let len = self.rows.len();
+        if len >= u32::MAX as usize {
+            return Err(AllocError);
+        }
+        self.rows.reserve(1)?;
+        self.choosings.reserve(1)?;
+        self.relays.reserve(1)?;
+        self.room = self.room.max(len as u32 + 1);
+        Ok(())
+    }
+
+    /// How many entries there are.
+    pub fn len(&self) -> usize
+        ensures { result ≡ length self.now.list }
+    {
+        self.rows.len()
+    }
+
+    /// Whether there is no entry.
+    pub fn is_empty(&self) -> bool
+        ensures { IsTrue result ↔ (length self.now.list ≡ 0) }
+    {
+        self.rows.is_empty()
+    }
+
+    /// Adds an entry at the end.
+    #[inline(always)]
+    pub fn push(&mut self, m: MNo, k: u64, call: &Call, reply: &Reply)
+        requires { length self.old.list < self.old.room }
+        ensures list { self.new ≡ record self.old { list = self.old.list ++ record { m = m; k = k; call = call.now; reply = reply.now } ∷ [] } }
+        ensures fits { Fits (record { m = m; k = k; call = call.now; reply = reply.now }) }
+    {
+        let call = brief_call(&mut self.choosings, call);
+        let reply = brief_reply(&mut self.relays, reply);
+        self.rows.push_reserved(Row { m, k, call, reply });
+    }
+
+    /// The entries, in order.
+    pub fn iter(&self) -> Entries<'_>
+        ensures { result ≡ self.now.list }
+    {
+        Entries {
+            rows: &self.rows,
+            choosings: &self.choosings,
+            relays: &self.relays,
+        }
+    }
+
+    /// The last entry, if there is one.
+    pub fn last(&self) -> Option<Entry>
+        ensures { result ≡ slice_get self.now.list (length self.now.list - 1) }
+    {
+        self.get(self.rows.len().wrapping_sub(1))
+    }
+
+    /// The entry at this place, if there is one.
+    #[inline(always)]
+    pub fn get(&self, place: usize) -> Option<Entry>
+        ensures { result ≡ slice_get self.now.list place }
+    {
+        match row_at(&self.rows, place) {
+            Some(row) => Some(Entry {
+                m: row.m,
+                k: row.k,
+                call: whole_call(&self.choosings, row.call),
+                reply: whole_reply(&self.relays, row.reply),
+            }),
+            None => None,
+        }
+    }
+}
