@@ -117,7 +117,7 @@ report_lines book =
 pub record IsReport {T Q : Type 0} (book : BookContents T Q) (report : Report T Q) : Type 0 where
   pub limits : report.limits ≡ book.log.limits
   pub capacities : report.capacities.items ≡ book.log.capacities
-  pub history : report.history.items ≡ book.log.history
+  pub history : report.history.list ≡ book.log.history
   pub outcome : Some report.outcome ≡ book.log.state.outcome
   pub bodies : map Some report.bodies.items ≡ book.bodies
   pub owners : map Some report.owners.items ≡ book.owners

@@ -28,8 +28,9 @@ use crate::opening::{Unopened, first_passes, may_open};
 use crate::settling::{settle_body, settle_owner};
 use crate::values::{Values, claimed, handed, ticket_out, told_by, way_of};
 use gmp_base::{MNo, Pass, Refusal};
+use gmp_history::History;
 use gmp_ledger::Ledger;
-use gmp_seq::{Call, Entry, Limits, Outcome, Reply};
+use gmp_seq::{Call, Limits, Outcome, Reply};
 use gmp_slots::Slots;
 use std::alloc::Global;
 use std::marker::Model;
@@ -121,8 +122,8 @@ impl<T, Q> Book<T, Q> {
     }
 
     /// Every accepted call with its reply, in order: a legal run from the start, which is the opening, to the present state.
-    pub fn history(&self) -> &[Entry]
-        ensures entries { result.now ≡ self.now.log.history }
+    pub fn history(&self) -> &History
+        ensures entries { result.now.list ≡ self.now.log.history }
         ensures legal { Run self.now.log.limits self.now.log.start self.now.log.history self.now.log.state }
         ensures start { self.now.log.start ≡ opening self.now.log.limits self.now.log.bodies self.now.log.capacities }
         ensures fits { All Fits self.now.log.history }

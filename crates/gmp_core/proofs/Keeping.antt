@@ -28,12 +28,11 @@ use Rattle.gmp_driver.specs.Machine.{Machine}
 use Rattle.gmp_driver.specs.Registers.{first_of}
 use Rattle.gmp_driver.specs.Table.{next_act}
 use Rattle.gmp_acts.specs.declared.choice.Choice.{Choice}
-use Rattle.gmp_acts.specs.declared.made.Made.{Made}
 use Rattle.gmp_acts.specs.Headline.{HasInHand}
 use Rattle.gmp_acts.specs.Hands.{PlainMachine, plain_called, plain_held, plain_machine}
 use Rattle.gmp_acts.specs.Acts.{Acts}
 use Rattle.gmp_acts.specs.Sound.{Agrees, IsSound}
-use Rattle.gmp_acts.specs.System.{System, called_number, held_number, made_of}
+use Rattle.gmp_acts.specs.System.{System, called_number, held_number}
 use Rattle.gmp_acts.proofs.Moving.{act_sound}
 use Rattle.gmp_acts.proofs.Watching.{act_watchful}
 use Rattle.gmp_acts.proofs.Onward.{act_opened}
@@ -42,7 +41,7 @@ use Rattle.gmp_turn.specs.Surrenders.{Surrenders}
 use Rattle.gmp_turn.specs.Turns.{Turns}
 use Rattle.gmp_turn.specs.Values.{AreOut, KeepsValues, body_in, called_body, held_body, owner_in, proc_owner}
 use Rattle.gmp_book.specs.Book.{BookContents}
-use Rattle.gmp_core.specs.Doing.{Desk, Does, made_by}
+use Rattle.gmp_core.specs.Doing.{Desk, Does}
 use Rattle.gmp_core.specs.Inside.{IsCore, Parts, system_of}
 use Rattle.gmp_core.specs.Local.{KeepsHand}
 use Rattle.gmp_core.specs.Queues.{Rings}
@@ -107,7 +106,7 @@ same_values f f' old now hand places out = record {
   rest = λ i none none'. rw places refl;
 }
 
-module _ {T : Type 0} (c : Parts T) (m : MNo) (x : Machine T Unit) (choice : Choice) (now : Desk T) (made : Option Made) (is : slice_get c.machines m.0 ≡ Some x) (core : IsCore c)
+module _ {T : Type 0} (c : Parts T) (m : MNo) (x : Machine T Unit) (choice : Choice) (now : Desk T) (is : slice_get c.machines m.0 ≡ Some x) (core : IsCore c)
     (turn_kept : (asked : Call) (result : Result Reply Refusal) → next_act x ≡ act.Call asked → Turns x c.book asked choice.word result now.machine now.book
     → KeepsValues (body_in x.hand) (body_in now.machine.hand) c.book.bodies now.book.bodies × KeepsValues (owner_in x.hand) (owner_in now.machine.hand) c.book.owners now.book.owners)
     (given_kept : (which : Option Value) (result : Result Unit Refusal) → next_act x ≡ act.Surrender which → Surrenders x c.book which result now.machine now.book
@@ -116,7 +115,7 @@ module _ {T : Type 0} (c : Parts T) (m : MNo) (x : Machine T Unit) (choice : Cho
   old = record { machine = x; book = c.book; rings = c.rings }
 
   abbrev c' : Parts T
-  c' = parts_after c m now made
+  c' = parts_after c m now
 
   abbrev Kept : Type 0
   Kept = KeepsValues (body_in x.hand) (body_in now.machine.hand) c.book.bodies now.book.bodies × KeepsValues (owner_in x.hand) (owner_in now.machine.hand) c.book.owners now.book.owners
@@ -135,33 +134,33 @@ module _ {T : Type 0} (c : Parts T) (m : MNo) (x : Machine T Unit) (choice : Cho
       let same : now.machine.hand ≡ x.hand = ap (λ (d : Desk T). d.machine.hand) e ∙ hand in
       kept_by (record { processor = ap (λ (h : Registers T Unit). h.processor) same; held = ap (λ (h : Registers T Unit). h.held) same; called = ap (λ (h : Registers T Unit). h.called) same }) (ap (λ (d : Desk T). d.book) e)
 
-  keeps : (a : Act) → next_act x ≡ a → Does a m choice old now made → Kept
+  keeps : (a : Act) → next_act x ≡ a → Does a m choice old now → Kept
   keeps (act.Call asked) next d = turn_kept asked d.0 next d.1
-  keeps act.Pop next d = kept_by d.0.hand d.0.book
-  keeps act.Drain next d = kept_by d.0.hand d.0.book
-  keeps act.Push next d = kept_by d.0.hand d.0.book
-  keeps act.Hunt next d = kept_by d.0.hand d.0.book
-  keeps (act.Steal v) next d = kept_by d.0.hand d.0.book
-  keeps act.Resume next d = kept_told _ refl d.0
-  keeps act.Block next d = kept_told _ refl d.0
-  keeps (act.Clock minded) next d = kept_told _ refl d.0
+  keeps act.Pop next d = kept_by d.hand d.book
+  keeps act.Drain next d = kept_by d.hand d.book
+  keeps act.Push next d = kept_by d.hand d.book
+  keeps act.Hunt next d = kept_by d.hand d.book
+  keeps (act.Steal v) next d = kept_by d.hand d.book
+  keeps act.Resume next d = kept_told _ refl d
+  keeps act.Block next d = kept_told _ refl d
+  keeps (act.Clock minded) next d = kept_told _ refl d
   keeps (act.Surrender which) next d = given_kept which d.0 next d.1
-  keeps act.Nothing next d = kept_told x refl d.0
+  keeps act.Nothing next d = kept_told x refl d
 
-  room_same : (a : Act) → Does a m choice old now made → now.rings.room ≡ c.rings.room
+  room_same : (a : Act) → Does a m choice old now → now.rings.room ≡ c.rings.room
   room_same (act.Call asked) d = ap (λ (r : Rings). r.room) d.2
-  room_same act.Pop d = d.0.room
-  room_same act.Drain d = d.0.room
-  room_same act.Push d = d.0.room
-  room_same act.Hunt d = d.0.room
-  room_same (act.Steal v) d = d.0.room
-  room_same act.Resume d = ap (λ (e : Desk T). e.rings.room) d.0
-  room_same act.Block d = ap (λ (e : Desk T). e.rings.room) d.0
-  room_same (act.Clock minded) d = ap (λ (e : Desk T). e.rings.room) d.0
+  room_same act.Pop d = d.room
+  room_same act.Drain d = d.room
+  room_same act.Push d = d.room
+  room_same act.Hunt d = d.room
+  room_same (act.Steal v) d = d.room
+  room_same act.Resume d = ap (λ (e : Desk T). e.rings.room) d
+  room_same act.Block d = ap (λ (e : Desk T). e.rings.room) d
+  room_same (act.Clock minded) d = ap (λ (e : Desk T). e.rings.room) d
   room_same (act.Surrender which) d = ap (λ (r : Rings). r.room) d.2
-  room_same act.Nothing d = ap (λ (e : Desk T). e.rings.room) d.0
+  room_same act.Nothing d = ap (λ (e : Desk T). e.rings.room) d
 
-  module _ (acts : Acts (system_of c) m choice (system_of c')) (d : Does (next_act x) m choice old now made) where
+  module _ (acts : Acts (system_of c) m choice (system_of c')) (d : Does (next_act x) m choice old now) where
     sound' : IsSound (system_of c')
     sound' = act_sound (system_of c) m choice (system_of c') acts core.sound
 
@@ -188,7 +187,6 @@ module _ {T : Type 0} (c : Parts T) (m : MNo) (x : Machine T Unit) (choice : Cho
           bodies = out_same (λ (y : Machine T Unit). body_in y.hand) c.machines m.0 x now.machine c.book.bodies now.book.bodies is kept.0 apart_bodies core.bodies;
           owners = out_same (λ (y : Machine T Unit). owner_in y.hand) c.machines m.0 x now.machine c.book.owners now.book.owners is kept.1 apart_owners core.owners;
           tickets_room = room_same (next_act x) d ∙ core.tickets_room ∙ sym opened.bodies;
-          calls_room = (let e = ap (λ (l : Limits). l.entries) opened.limits in let room = core.calls_room in omega (arith, e, room));
         }
 
     stock_after : stock_of c'.machines c'.book.bodies ≡ stock_of c.machines c.book.bodies
@@ -196,36 +194,3 @@ module _ {T : Type 0} (c : Parts T) (m : MNo) (x : Machine T Unit) (choice : Cho
 
     pub kept_after : IsCore c' × (stock_of c'.machines c'.book.bodies ≡ stock_of c.machines c.book.bodies)
     kept_after = (core_after, stock_after)
-
--- a call that was made has room
-module _ {T : Type 0} (c : Parts T) (core : IsCore c) where
-  few_calls : (system_of c).book.state.outcome ≡ None → length c.calls < c.room
-  few_calls goes =
-      let k = system_of c in
-      let order : IsInOrder k.book.limits k.book.state = legal_in_order k.book.limits k.book.bodies k.book.capacities k.book.history k.book.state core.sound.within core.sound.legal in
-      let total = legal_total k.book.limits k.book.bodies k.book.capacities k.book.history k.book.state core.sound.legal in
-      let made = ap (λ (l : List Made). length l) (sym core.sound.own) ∙ length-map k.book.history made_of in
-      let few = order.together.ongoing goes in
-      let room = core.calls_room in
-      omega (arith, total, made, few, room)
-
-  module _ (m : MNo) (x : Machine T Unit) (choice : Choice) (now : Desk T) (mk : Made) where
-    by_result : (asked : Call) (result : Result Reply Refusal) → Turns x c.book asked choice.word result now.machine now.book → Some mk ≡ made_by m asked result → length c.calls < c.room
-    by_result asked (Ok answer) t e = few_calls t.records.step.0
-    by_result asked (Err why) t e = absurd (let no : Some mk ≡ None = e in cc)
-
-    no_call : Some mk ≡ None → length c.calls < c.room
-    no_call e = absurd cc
-
-    pub room_for : (a : Act) → Does a m choice (record { machine = x; book = c.book; rings = c.rings }) now (Some mk) → length c.calls < c.room
-    room_for (act.Call asked) d = by_result asked d.0 d.1 d.3
-    room_for act.Pop d = no_call d.1
-    room_for act.Drain d = no_call d.1
-    room_for act.Push d = no_call d.1
-    room_for act.Hunt d = no_call d.1
-    room_for (act.Steal v) d = no_call d.1
-    room_for act.Resume d = no_call d.1
-    room_for act.Block d = no_call d.1
-    room_for (act.Clock minded) d = no_call d.1
-    room_for (act.Surrender which) d = no_call d.3
-    room_for act.Nothing d = no_call d.1

@@ -9,7 +9,6 @@ use Rattle.gmp_seq.specs.Fits.{AreLimits}
 use Rattle.gmp_book.specs.Book.{BookContents, opening_book, opening_passes}
 use Rattle.gmp_driver.specs.Machine.{Machine}
 use Rattle.gmp_driver.specs.Registers.{first_of, nothing}
-use Rattle.gmp_acts.specs.declared.made.Made.{Made}
 use Rattle.gmp_acts.specs.Hands.{PlainMachine, plain_machine}
 use Rattle.gmp_acts.specs.Headline.{machine_at_start, opening_system}
 use Rattle.gmp_acts.specs.System.{System}
@@ -49,35 +48,34 @@ hand_empty procs [] m x is = absurd (let no : None ≡ Some x = is in cc)
 hand_empty {T = T} procs (pass ∷ passes) zero x is = (let its : Some (at_start {T = T} {Q = Unit} procs pass) ≡ Some x = is in let e : at_start procs pass ≡ x = cc in ap (λ (y : Machine T Unit). y.hand) (sym e))
 hand_empty procs (pass ∷ passes) (suc m) x is = hand_empty procs passes m x is
 
-module _ {T : Type 0} (run : ℕ) (limits : Limits) (capacities : List ℕ) (bodies : List T) (owners : List (Unit {0})) (room : ℕ) where
+module _ {T : Type 0} (run : ℕ) (limits : Limits) (capacities : List ℕ) (bodies : List T) (owners : List (Unit {0})) where
   abbrev machines : List (Machine T Unit)
   machines = map (at_start limits.procs) (opening_passes run limits.machines)
 
   abbrev book : BookContents T Unit
   book = opening_book run limits capacities bodies owners
 
-  abbrev c : Rings → List Made → Parts T
-  c rings calls = record { book = book; rings = rings; machines = machines; calls = calls; room = room }
+  abbrev c : Rings → Parts T
+  c rings = record { book = book; rings = rings; machines = machines }
 
-  pub opening_is : (rings : Rings) (calls : List Made) → rings.queues ≡ (opening_system run limits (length bodies) capacities).queues → calls ≡ []
-      → system_of (c rings calls) ≡ opening_system run limits (length bodies) capacities
-  opening_is rings calls queues none =
-      ap (λ (l : List PlainMachine). let k : System = record { book = (opening_system run limits (length bodies) capacities).book; queues = rings.queues; machines = l; own = calls } in k) (starts_plain T run limits (range_with_len 0 limits.machines))
-      ∙ rw (queues, none) refl
+  pub opening_is : (rings : Rings) → rings.queues ≡ (opening_system run limits (length bodies) capacities).queues
+      → system_of (c rings) ≡ opening_system run limits (length bodies) capacities
+  opening_is rings queues =
+      ap (λ (l : List PlainMachine). let k : System = record { book = (opening_system run limits (length bodies) capacities).book; queues = rings.queues; machines = l; own = [] } in k) (starts_plain T run limits (range_with_len 0 limits.machines))
+      ∙ rw queues refl
 
   nothing_out : {X : Type 0} (f : Machine T Unit → ℕ → Option X) (places : List (Option X)) → ((x : Machine T Unit) (i : ℕ) → x.hand ≡ nothing → f x i ≡ None)
       → (m : ℕ) (x : Machine T Unit) → slice_get machines m ≡ Some x → AreOut (f x) places
   nothing_out f places none m x is i some = absurd (no_some (f x i) (none x i (hand_empty limits.procs (opening_passes run limits.machines) m x is)) some)
 
-  pub opening_core : (rings : Rings) (calls : List Made) → rings.queues ≡ (opening_system run limits (length bodies) capacities).queues → calls ≡ [] → AreLimits limits (length bodies) capacities
-      → rings.room ≡ length bodies → limits.entries ≤ room → IsCore (c rings calls)
-  opening_core rings calls queues none within tickets entries = record {
-    sound = rw (opening_is rings calls queues none) (opening_sound run limits (length bodies) capacities within);
-    watchful = rw (opening_is rings calls queues none) (opening_watchful run limits (length bodies) capacities within);
+  pub opening_core : (rings : Rings) → rings.queues ≡ (opening_system run limits (length bodies) capacities).queues → AreLimits limits (length bodies) capacities
+      → rings.room ≡ length bodies → IsCore (c rings)
+  opening_core rings queues within tickets = record {
+    sound = rw (opening_is rings queues) (opening_sound run limits (length bodies) capacities within);
+    watchful = rw (opening_is rings queues) (opening_watchful run limits (length bodies) capacities within);
     bodies = nothing_out (λ (x : Machine T Unit). body_in x.hand) book.bodies (λ x i e. ap (λ h. body_in h i) e);
     owners = nothing_out (λ (x : Machine T Unit). owner_in x.hand) book.owners (λ x i e. ap (λ h. owner_in h i) e);
     tickets_room = tickets;
-    calls_room = entries;
   }
 
   pub opening_stock : stock_of machines book.bodies ≡ map Some bodies

@@ -25,7 +25,6 @@ use Rattle.gmp_driver.specs.Machine.{Machine, held_at}
 use Rattle.gmp_driver.specs.Seen.{own_processor}
 use Rattle.gmp_driver.specs.Table.{next_act}
 use Rattle.gmp_acts.specs.declared.choice.Choice.{Choice}
-use Rattle.gmp_acts.specs.declared.made.Made.{Made}
 use Rattle.gmp_acts.specs.Acts.{Acts, HasFewCases}
 use Rattle.gmp_acts.specs.Hands.{PlainMachine, plain_held, plain_machine}
 use Rattle.gmp_acts.specs.Headline.{NoClaimIsRefused, SameOpening}
@@ -46,7 +45,7 @@ use Rattle.gmp_turn.proofs.Kept.{kept_at_end, turned}
 use Rattle.gmp_core.specs.Doing.{Desk, Does}
 use Rattle.gmp_core.specs.Inside.{IsCore, Parts, system_of}
 use Rattle.gmp_core.specs.Whole.{HeadlineOf, NoCallIsRefused, TakesFixed, stock_of}
-use Rattle.gmp_core.proofs.Keeping.{kept_after, one_in_hand, room_for}
+use Rattle.gmp_core.proofs.Keeping.{kept_after, one_in_hand}
 use Rattle.gmp_core.proofs.Tying.{agrees, does, is_there, machine_is, next_plain, over, parts_after, tickets}
 
 surrender_taken : {T Q : Type 0} (x x' : Machine T Q) (book book' : BookContents T Q) (which : Option Value) (result : Result Unit Refusal) → x.run ≡ book.log.run → book.log.state.outcome ≢ None
@@ -90,20 +89,20 @@ module _ {T : Type 0} (c : Parts T) (m : MNo) (x : Machine T Unit) (is : slice_g
       let room = core.tickets_room in
       (within, omega (arith, few, room))
 
-  module _ (choice : Choice) (now : Desk T) (made : Option Made) (few : HasFewCases choice.ask) (d : Does (next_act x) m choice (record { machine = x; book = c.book; rings = c.rings }) now made) where
+  module _ (choice : Choice) (now : Desk T) (few : HasFewCases choice.ask) (d : Does (next_act x) m choice (record { machine = x; book = c.book; rings = c.rings }) now) where
     abbrev c' : Parts T
-    c' = parts_after c m now made
+    c' = parts_after c m now
 
     taken : (which : Option Value) (result : Result Unit Refusal) → next_act x ≡ act.Surrender which → Surrenders x c.book which result now.machine now.book → result ≡ Ok tt
     taken which result next s =
-        surrender_taken x now.machine c.book now.book which result same_run (over c m x choice now made is core.sound which next) (core.bodies m.0 x is) (core.owners m.0 x is) (tickets c m x choice now made is core.sound) s
+        surrender_taken x now.machine c.book now.book which result same_run (over c m x choice now is core.sound which next) (core.bodies m.0 x is) (core.owners m.0 x is) (tickets c m x choice now is core.sound) s
 
     pub acts_so : Acts k m choice (system_of c')
-    acts_so = does c m x choice now made is core.sound taken few d
+    acts_so = does c m x choice now is core.sound taken few d
 
     both : IsCore c' × (stock_of c'.machines c'.book.bodies ≡ stock_of c.machines c.book.bodies)
     both =
-        kept_after c m x choice now made is core
+        kept_after c m x choice now is core
         (λ asked result next t. turned x now.machine c.book now.book asked choice.word next (plain_fits x.hand x.place (mine.driver.fits has_pass)) (core.bodies m.0 x is) (core.owners m.0 x is) result t)
         (λ which result next s. kept_at_end x c.book (one_in_hand k m x core.sound mine) (core.bodies m.0 x is) (core.owners m.0 x is) now.machine now.book which result s)
         acts_so d
@@ -123,7 +122,7 @@ module _ {T : Type 0} (c : Parts T) (m : MNo) (x : Machine T Unit) (is : slice_g
     pub fixed_so : IsListing is_shelved c.book.log.state.table.goroutines c.book.log.shelf → TakesFixed k m choice.word (system_of c')
     fixed_so listed asked answer inside next more =
         let at : next_act x ≡ act.Call asked = sym (ap next_act (machine_is c m x is) ∙ next_plain x) ∙ next in
-        let made_so = subst (λ (a : Act). Does a m choice (record { machine = x; book = c.book; rings = c.rings }) now made) at d in
+        let made_so = subst (λ (a : Act). Does a m choice (record { machine = x; book = c.book; rings = c.rings }) now) at d in
         (c.book.log.shelf, listed, chosen x now.machine c.book now.book m (count_of k.book m) asked choice.word answer made_so.0 made_so.1 more)
 
     pub headline_so : HeadlineOf (system_of c')
@@ -134,10 +133,6 @@ module _ {T : Type 0} (c : Parts T) (m : MNo) (x : Machine T Unit) (is : slice_g
 
     pub opened_so : SameOpening k.book (system_of c').book
     opened_so = act_opened k m choice (system_of c') acts_so
-
-  pub room_so : (choice : Choice) (now : Desk T) (made : Option Made) → Does (next_act x) m choice (record { machine = x; book = c.book; rings = c.rings }) now made → IfSome made (λ _. length c.calls < c.room)
-  room_so choice now None d = tt
-  room_so choice now (Some mk) d = room_for c core m x choice now mk (next_act x) d
 
 -- What a reader is told
 

@@ -1,5 +1,5 @@
 -- One act at a machine's desk is that act of all machines together, and what the core keeps it keeps.
-use Rattle.std.proofs.Common.{◌≡◌, ◌≢◌, ◌⊎◌, inl, inr, ◌+◌, ◌<◌, ◌≤◌, ◌&&◌, ◌==◌, Bool, true, if◌then◌else◌, List, map, length, set, refl, sym, ap, ◌∙◌, subst, arith, Option, Some, None, is_some, Result, Ok, Err}
+use Rattle.std.proofs.Common.{◌≡◌, ◌≢◌, ◌⊎◌, inl, inr, ◌+◌, ◌<◌, ◌≤◌, ◌++◌, [], ◌∷◌, ◌&&◌, ◌==◌, Bool, true, if◌then◌else◌, List, map, length, set, refl, sym, ap, ◌∙◌, subst, arith, Option, Some, None, is_some, Result, Ok, Err}
 use Rattle.std.proofs.lemmas.Bool.{eq-eqb}
 use Rattle.std.proofs.lemmas.List.{map-set, set-get_or}
 use Rattle.std.proofs.lemmas.Option.{get_or_from_slice_get, slice_get-map, slice_get_within}
@@ -35,6 +35,7 @@ use Rattle.gmp_acts.specs.Sound.{Agrees, IsEnd, IsSound}
 use Rattle.gmp_acts.specs.System.{BookRun, System, in_hand, is_ticket, machine_at, no_machine}
 use Rattle.gmp_acts.proofs.Granted.{granted, ticket_is_out}
 use Rattle.gmp_acts.proofs.Local.{Finds, finds}
+use Rattle.gmp_acts.proofs.Moving.{act_sound}
 use Rattle.gmp_acts.proofs.Plain.{after_plain, fits_plain, plain_fits, seen_plain}
 use Rattle.gmp_turn.specs.Acts.{run_of}
 use Rattle.gmp_turn.specs.Surrenders.{Surrenders}
@@ -42,7 +43,7 @@ use Rattle.gmp_turn.specs.Turns.{Turns}
 use Rattle.gmp_turn.proofs.Acting.{accepted}
 use Rattle.gmp_turn.proofs.Giving.{given}
 use Rattle.gmp_turn.proofs.Refusing.{stopped, unmade}
-use Rattle.gmp_core.specs.Doing.{Desk, Does, Locally, made_by, with_made}
+use Rattle.gmp_core.specs.Doing.{Desk, Does, Locally}
 use Rattle.gmp_core.specs.Inside.{Parts, system_of}
 use Rattle.gmp_core.specs.Queues.{Rings}
 
@@ -69,8 +70,27 @@ is_out_outstanding : (t : Table) (r : Readiness) → IsOutstanding t r → is_ou
 is_out_outstanding t r out = rw out.1 (eq-eqb r.epoch r.epoch refl)
 
 -- the core after an act of machine m
-abbrev pub parts_after : {T : Type 0} → Parts T → MNo → Desk T → Option Made → Parts T
-parts_after c m now made = record c { book = now.book; rings = now.rings; machines = set c.machines m.0 now.machine; calls = with_made c.calls made }
+abbrev pub parts_after : {T : Type 0} → Parts T → MNo → Desk T → Parts T
+parts_after c m now = record c { book = now.book; rings = now.rings; machines = set c.machines m.0 now.machine }
+
+-- the calls that were made, with this one
+abbrev with_made : List Made → Option Made → List Made
+with_made calls None = calls
+with_made calls (Some made) = calls ++ made ∷ []
+
+-- a call that the book accepted is one that was made
+abbrev made_by : MNo → Call → Result Reply Refusal → Option Made
+made_by m asked (Ok answer) = Some (record { m = m; call = asked; reply = answer })
+made_by m asked (Err why) = None
+
+-- the call that an act made, if it made one
+abbrev made_in : {T : Type 0} (a : Act) (m : MNo) (choice : Choice) (old now : Desk T) → Does a m choice old now → Option Made
+made_in (act.Call asked) m choice old now d = made_by m asked d.0
+made_in _ m choice old now d = None
+
+-- what is done, and the call that was made
+abbrev DoesBy : {T : Type 0} → Act → MNo → Choice → Desk T → Desk T → Option Made → Type 0
+DoesBy a m choice old now made = (d : Does a m choice old now) × (made ≡ made_in a m choice old now d)
 
 pub machine_is : {T : Type 0} (c : Parts T) (m : MNo) (x : Machine T Unit) → slice_get c.machines m.0 ≡ Some x → machine_at (system_of c) m ≡ plain_machine x
 machine_is {T = T} c m x is = get_or_from_slice_get (map plain_machine c.machines) m.0 (plain_machine x) no_machine (slice_get-map plain_machine c.machines m.0 ∙ ap (λ (o : Option (Machine T Unit)). option_map plain_machine o) is)
@@ -81,15 +101,12 @@ is_there {T = T} c m x is = slice_get_within (map plain_machine c.machines) m.0 
 pub agrees : {T : Type 0} (c : Parts T) (m : MNo) (x : Machine T Unit) → slice_get c.machines m.0 ≡ Some x → IsSound (system_of c) → Agrees (system_of c).book m (plain_machine x)
 agrees c m x is s = subst (Agrees (system_of c).book m) (machine_is c m x is) (s.each m (is_there c m x is))
 
-module _ {T : Type 0} (c : Parts T) (m : MNo) (x : Machine T Unit) (choice : Choice) (now : Desk T) (made : Option Made) (is : slice_get c.machines m.0 ≡ Some x) (s : IsSound (system_of c)) where
+module _ {T : Type 0} (c : Parts T) (m : MNo) (x : Machine T Unit) (choice : Choice) (now : Desk T) (is : slice_get c.machines m.0 ≡ Some x) (s : IsSound (system_of c)) where
   abbrev k : System
   k = system_of c
 
   abbrev old : Desk T
   old = record { machine = x; book = c.book; rings = c.rings }
-
-  abbrev k' : System
-  k' = system_of (parts_after c m now made)
 
   at : machine_at k m ≡ plain_machine x
   at = machine_is c m x is
@@ -107,25 +124,8 @@ module _ {T : Type 0} (c : Parts T) (m : MNo) (x : Machine T Unit) (choice : Cho
   abbrev sys : BookRun → WithQueues → List Made → System
   sys b l o = record { book = b; queues = l.1; machines = set (map plain_machine c.machines) m.0 l.0; own = o }
 
-  after_is : k' ≡ sys (run_of now.book.log) (plain_machine now.machine, now.rings.queues) (with_made c.calls made)
-  after_is = ap (λ (l : List PlainMachine). let j : System = record { book = run_of now.book.log; queues = now.rings.queues; machines = l; own = with_made c.calls made } in j) (map-set plain_machine c.machines m.0 now.machine)
-
-  -- Local acts
-
-  locally : (there : WithQueues) → Locally there old now → made ≡ None → k' ≡ sys k.book there k.own
-  locally there l none = after_is ∙ ap (λ (b : BookContents T Unit). sys (run_of b.log) (plain_machine now.machine, now.rings.queues) (with_made c.calls made)) l.book
-      ∙ ap (λ (w : WithQueues). sys k.book w (with_made c.calls made)) l.leads ∙ ap (λ (o : Option Made). sys k.book there (with_made c.calls o)) none
-
-  told_so : (what : Told) → now ≡ record old { machine = after x what } → made ≡ None → k' ≡ sys k.book (after (plain_machine x) what, k.queues) k.own
-  told_so what e none = after_is ∙ ap (λ (d : Desk T). sys (run_of d.book.log) (plain_machine d.machine, d.rings.queues) (with_made c.calls made)) e
-      ∙ ap (λ (p : PlainMachine). sys k.book (p, k.queues) (with_made c.calls made)) (after_plain x what) ∙ ap (λ (o : Option Made). sys k.book (after (plain_machine x) what, k.queues) (with_made c.calls o)) none
-
   set_itself : set c.machines m.0 x ≡ c.machines
   set_itself = ap (set c.machines m.0) (sym (get_or_from_slice_get c.machines m.0 x x is)) ∙ set-get_or c.machines m.0 x
-
-  nothing_done : now ≡ old → made ≡ None → k' ≡ k
-  nothing_done e none = ap (λ (d : Desk T). system_of (parts_after c m d made)) e ∙ ap (λ (o : Option Made). system_of (parts_after c m old o)) none
-      ∙ ap (λ (l : List (Machine T Unit)). system_of (record c { machines = l })) set_itself
 
   -- Calls
 
@@ -139,24 +139,13 @@ module _ {T : Type 0} (c : Parts T) (m : MNo) (x : Machine T Unit) (choice : Cho
   there = let l = inside in let e = s.count in omega (arith, l, e)
 
   answers : (asked : Call) (result : Result Reply Refusal) → next_act x ≡ act.Call asked → Turns x c.book asked choice.word result now.machine now.book
-      → Answers (plain_machine x) m asked k.book k.own (plain_machine now.machine) (run_of now.book.log) (with_made c.calls (made_by m asked result))
+      → Answers (plain_machine x) m asked k.book k.own (plain_machine now.machine) (run_of now.book.log) (with_made k.own (made_by m asked result))
   answers asked (Ok answer) next t =
-      inl (accepted x now.machine c.book now.book m asked choice.word answer c.calls next fits (grants asked next t.records.step.0) t)
+      inl (accepted x now.machine c.book now.book m asked choice.word answer k.own next fits (grants asked next t.records.step.0) t)
   answers asked (Err why) next t = elim (none_or_outcome c.book.log.state.outcome) [
-    | inl goes ↦ inr (inr (inl (unmade x now.machine c.book now.book m asked choice.word why c.calls next fits mine.run.0 there may t goes (grants asked next goes))))
-    | inr over ↦ inr (inl (stopped x now.machine c.book now.book m asked choice.word why c.calls next fits mine.run.0 there may t over))
+    | inl goes ↦ inr (inr (inl (unmade x now.machine c.book now.book m asked choice.word why k.own next fits mine.run.0 there may t goes (grants asked next goes))))
+    | inr over ↦ inr (inl (stopped x now.machine c.book now.book m asked choice.word why k.own next fits mine.run.0 there may t over))
   ]
-
-  calls : (asked : Call) → next_act x ≡ act.Call asked → Does (act.Call asked) m choice old now made → MakesCall k m asked k'
-  calls asked next d =
-      let own' = with_made c.calls (made_by m asked d.0) in (
-        plain_machine now.machine,
-        run_of now.book.log,
-        own',
-        subst (λ (p : PlainMachine). Answers p m asked k.book k.own (plain_machine now.machine) (run_of now.book.log) own') (sym at) (answers asked d.0 next d.1),
-        after_is ∙ ap (λ (r : Rings). sys (run_of now.book.log) (plain_machine now.machine, r.queues) (with_made c.calls made)) d.2
-            ∙ ap (λ (o : Option Made). sys (run_of now.book.log) (plain_machine now.machine, k.queues) (with_made c.calls o)) d.3,
-      )
 
   -- What is given back
 
@@ -168,41 +157,82 @@ module _ {T : Type 0} (c : Parts T) (m : MNo) (x : Machine T Unit) (choice : Cho
       let found : (x.place ≡ place.Over) × ((seen (plain_machine x)).first ≡ which) = subst (Finds (seen (plain_machine x)) x.place (plain x.hand)) (next_plain x ∙ next) (finds (seen (plain_machine x)) (plain x.hand) x.place (fits_plain x.hand x.place fits)) in
       mine.ended (subst IsEnd (sym found.0) tt)
 
-  module _ (taken : (which : Option Value) (result : Result Unit Refusal) → next_act x ≡ act.Surrender which → Surrenders x c.book which result now.machine now.book → result ≡ Ok tt) where
-    gives_back : (which : Option Value) → next_act x ≡ act.Surrender which → Does (act.Surrender which) m choice old now made → k' ≡ sys k.book (given_back (plain_machine x) which, k.queues) k.own
-    gives_back which next d =
-        let g = given x now.machine c.book now.book which (subst (λ (r : Result Unit Refusal). Surrenders x c.book which r now.machine now.book) (taken which d.0 next d.1) d.1) in
-        after_is ∙ ap (λ (p : PlainMachine). sys (run_of now.book.log) (p, now.rings.queues) (with_made c.calls made)) g.0
-        ∙ ap (λ (b : BookRun). sys b (given_back (plain_machine x) which, now.rings.queues) (with_made c.calls made)) g.1
-        ∙ ap (λ (r : Rings). sys k.book (given_back (plain_machine x) which, r.queues) (with_made c.calls made)) d.2
-        ∙ ap (λ (o : Option Made). sys k.book (given_back (plain_machine x) which, k.queues) (with_made c.calls o)) d.3
+  -- The act, with the call that it made beside the others
 
-    -- Each act
+  module _ (made : Option Made) where
+    abbrev k' : System
+    k' = record (system_of (parts_after c m now)) { own = with_made k.own made }
 
-    first_is : victim_of (machine_at k m).procs (begun (seen (machine_at k m)) choice.word) ≡ victim_of x.procs (begun (seen x) choice.word)
-    first_is = ap (λ (p : PlainMachine). victim_of p.procs (begun (seen p) choice.word)) at ∙ ap (λ (e : Seen). victim_of x.procs (begun e choice.word)) (seen_of_plain x)
+    after_is : k' ≡ sys (run_of now.book.log) (plain_machine now.machine, now.rings.queues) (with_made k.own made)
+    after_is = ap (λ (l : List PlainMachine). let j : System = record { book = run_of now.book.log; queues = now.rings.queues; machines = l; own = with_made k.own made } in j) (map-set plain_machine c.machines m.0 now.machine)
 
-    with_machine : (f : PlainMachine → System) → k' ≡ f (plain_machine x) → k' ≡ f (machine_at k m)
-    with_machine f e = e ∙ ap f (sym at)
+    locally : (there : WithQueues) → Locally there old now → made ≡ None → k' ≡ sys k.book there k.own
+    locally there l none = after_is ∙ ap (λ (b : BookContents T Unit). sys (run_of b.log) (plain_machine now.machine, now.rings.queues) (with_made k.own made)) l.book
+        ∙ ap (λ (w : WithQueues). sys k.book w (with_made k.own made)) l.leads ∙ ap (λ (o : Option Made). sys k.book there (with_made k.own o)) none
 
-    does_act : (a : Act) → next_act x ≡ a → Does a m choice old now made → DoesAct a k m choice k'
-    does_act (act.Call asked) next d = calls asked next d
-    does_act act.Pop next d = with_machine (λ (p : PlainMachine). with_local k m (popped p k.queues)) (locally _ d.0 d.1)
-    does_act act.Drain next d = with_machine (λ (p : PlainMachine). with_local k m (drained p k.queues)) (locally _ d.0 d.1)
-    does_act act.Push next d = with_machine (λ (p : PlainMachine). with_local k m (pushed p k.queues p.hand.to_store choice.push_refused)) (locally _ d.0 d.1)
-    does_act act.Hunt next d =
-        with_machine (λ (p : PlainMachine). with_local k m (stolen p (Some choice.word) k.queues (victim_of (machine_at k m).procs (begun (seen (machine_at k m)) choice.word)) choice.unsure))
-        (locally _ d.0 d.1 ∙ ap (λ (v : PNo). with_local k m (stolen (plain_machine x) (Some choice.word) k.queues v choice.unsure)) (sym first_is))
-    does_act (act.Steal v) next d = with_machine (λ (p : PlainMachine). with_local k m (stolen p None k.queues v choice.unsure)) (locally _ d.0 d.1)
-    does_act act.Resume next d = with_machine (λ (p : PlainMachine). sys k.book (after p (told.Asked choice.ask), k.queues) k.own) (told_so _ d.0 d.1)
-    does_act act.Block next d = with_machine (λ (p : PlainMachine). sys k.book (after p (told.Number choice.number), k.queues) k.own) (told_so _ d.0 d.1)
-    does_act (act.Clock minded) next d = with_machine (λ (p : PlainMachine). sys k.book (after p (told.Moment choice.moment), k.queues) k.own) (told_so _ d.0 d.1)
-    does_act (act.Surrender which) next d = with_machine (λ (p : PlainMachine). sys k.book (given_back p which, k.queues) k.own) (gives_back which next d)
-    does_act act.Nothing next d = nothing_done d.0 d.1
+    told_so : (what : Told) → now ≡ record old { machine = after x what } → made ≡ None → k' ≡ sys k.book (after (plain_machine x) what, k.queues) k.own
+    told_so what e none = after_is ∙ ap (λ (d : Desk T). sys (run_of d.book.log) (plain_machine d.machine, d.rings.queues) (with_made k.own made)) e
+        ∙ ap (λ (p : PlainMachine). sys k.book (p, k.queues) (with_made k.own made)) (after_plain x what) ∙ ap (λ (o : Option Made). sys k.book (after (plain_machine x) what, k.queues) (with_made k.own o)) none
 
-    pub does : HasFewCases choice.ask → Does (next_act x) m choice old now made → Acts k m choice k'
-    does few d = record {
-      few = few;
-      by_place = λ _. subst (λ (a : Act). DoesAct a k m choice k') (sym (ap next_act at ∙ next_plain x)) (does_act (next_act x) refl d);
-      else_none = λ past. (let l = inside in absurd (omega (arith, l, past)));
-    }
+    nothing_done : now ≡ old → made ≡ None → k' ≡ k
+    nothing_done e none = ap (λ (d : Desk T). let j : System = record (system_of (parts_after c m d)) { own = with_made k.own made } in j) e
+        ∙ ap (λ (o : Option Made). let j : System = record (system_of (parts_after c m old)) { own = with_made k.own o } in j) none
+        ∙ ap (λ (l : List (Machine T Unit)). system_of (record c { machines = l })) set_itself
+
+    calls : (asked : Call) → next_act x ≡ act.Call asked → DoesBy (act.Call asked) m choice old now made → MakesCall k m asked k'
+    calls asked next d =
+        let own' = with_made k.own (made_by m asked d.0.0) in (
+          plain_machine now.machine,
+          run_of now.book.log,
+          own',
+          subst (λ (p : PlainMachine). Answers p m asked k.book k.own (plain_machine now.machine) (run_of now.book.log) own') (sym at) (answers asked d.0.0 next d.0.1),
+          after_is ∙ ap (λ (r : Rings). sys (run_of now.book.log) (plain_machine now.machine, r.queues) (with_made k.own made)) d.0.2
+              ∙ ap (λ (o : Option Made). sys (run_of now.book.log) (plain_machine now.machine, k.queues) (with_made k.own o)) d.1,
+        )
+
+    module _ (taken : (which : Option Value) (result : Result Unit Refusal) → next_act x ≡ act.Surrender which → Surrenders x c.book which result now.machine now.book → result ≡ Ok tt) where
+      gives_back : (which : Option Value) → next_act x ≡ act.Surrender which → DoesBy (act.Surrender which) m choice old now made → k' ≡ sys k.book (given_back (plain_machine x) which, k.queues) k.own
+      gives_back which next d =
+          let g = given x now.machine c.book now.book which (subst (λ (r : Result Unit Refusal). Surrenders x c.book which r now.machine now.book) (taken which d.0.0 next d.0.1) d.0.1) in
+          after_is ∙ ap (λ (p : PlainMachine). sys (run_of now.book.log) (p, now.rings.queues) (with_made k.own made)) g.0
+          ∙ ap (λ (b : BookRun). sys b (given_back (plain_machine x) which, now.rings.queues) (with_made k.own made)) g.1
+          ∙ ap (λ (r : Rings). sys k.book (given_back (plain_machine x) which, r.queues) (with_made k.own made)) d.0.2
+          ∙ ap (λ (o : Option Made). sys k.book (given_back (plain_machine x) which, k.queues) (with_made k.own o)) d.1
+
+      -- Each act
+
+      first_is : victim_of (machine_at k m).procs (begun (seen (machine_at k m)) choice.word) ≡ victim_of x.procs (begun (seen x) choice.word)
+      first_is = ap (λ (p : PlainMachine). victim_of p.procs (begun (seen p) choice.word)) at ∙ ap (λ (e : Seen). victim_of x.procs (begun e choice.word)) (seen_of_plain x)
+
+      with_machine : (f : PlainMachine → System) → k' ≡ f (plain_machine x) → k' ≡ f (machine_at k m)
+      with_machine f e = e ∙ ap f (sym at)
+
+      does_act : (a : Act) → next_act x ≡ a → DoesBy a m choice old now made → DoesAct a k m choice k'
+      does_act (act.Call asked) next d = calls asked next d
+      does_act act.Pop next d = with_machine (λ (p : PlainMachine). with_local k m (popped p k.queues)) (locally _ d.0 d.1)
+      does_act act.Drain next d = with_machine (λ (p : PlainMachine). with_local k m (drained p k.queues)) (locally _ d.0 d.1)
+      does_act act.Push next d = with_machine (λ (p : PlainMachine). with_local k m (pushed p k.queues p.hand.to_store choice.push_refused)) (locally _ d.0 d.1)
+      does_act act.Hunt next d =
+          with_machine (λ (p : PlainMachine). with_local k m (stolen p (Some choice.word) k.queues (victim_of (machine_at k m).procs (begun (seen (machine_at k m)) choice.word)) choice.unsure))
+          (locally _ d.0 d.1 ∙ ap (λ (v : PNo). with_local k m (stolen (plain_machine x) (Some choice.word) k.queues v choice.unsure)) (sym first_is))
+      does_act (act.Steal v) next d = with_machine (λ (p : PlainMachine). with_local k m (stolen p None k.queues v choice.unsure)) (locally _ d.0 d.1)
+      does_act act.Resume next d = with_machine (λ (p : PlainMachine). sys k.book (after p (told.Asked choice.ask), k.queues) k.own) (told_so _ d.0 d.1)
+      does_act act.Block next d = with_machine (λ (p : PlainMachine). sys k.book (after p (told.Number choice.number), k.queues) k.own) (told_so _ d.0 d.1)
+      does_act (act.Clock minded) next d = with_machine (λ (p : PlainMachine). sys k.book (after p (told.Moment choice.moment), k.queues) k.own) (told_so _ d.0 d.1)
+      does_act (act.Surrender which) next d = with_machine (λ (p : PlainMachine). sys k.book (given_back p which, k.queues) k.own) (gives_back which next d)
+      does_act act.Nothing next d = nothing_done d.0 d.1
+
+      does_so : HasFewCases choice.ask → DoesBy (next_act x) m choice old now made → Acts k m choice k'
+      does_so few d = record {
+        few = few;
+        by_place = λ _. subst (λ (a : Act). DoesAct a k m choice k') (sym (ap next_act at ∙ next_plain x)) (does_act (next_act x) refl d);
+        else_none = λ past. (let l = inside in absurd (omega (arith, l, past)));
+      }
+
+  -- The calls that were made are those of the history, after the act as before it.
+  pub does : ((which : Option Value) (result : Result Unit Refusal) → next_act x ≡ act.Surrender which → Surrenders x c.book which result now.machine now.book → result ≡ Ok tt)
+      → HasFewCases choice.ask → Does (next_act x) m choice old now → Acts k m choice (system_of (parts_after c m now))
+  does taken few d =
+      let made : Option Made = made_in (next_act x) m choice old now d in
+      let acts : Acts k m choice (k' made) = does_so made taken few (d, refl) in
+      subst (λ (l : List Made). Acts k m choice (record (system_of (parts_after c m now)) { own = l })) (sym (act_sound k m choice (k' made) acts s).own) acts

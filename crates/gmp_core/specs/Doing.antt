@@ -27,16 +27,6 @@ pub record Desk (T : Type 0) : Type 0 where
   pub book : BookContents T Unit
   pub rings : Rings
 
--- a call that the book accepted is one that was made
-abbrev pub made_by : MNo → Call → Result Reply Refusal → Option Made
-made_by m asked (Ok answer) = Some (record { m = m; call = asked; reply = answer })
-made_by m asked (Err why) = None
-
--- the calls that were made, with this one
-abbrev pub with_made : List Made → Option Made → List Made
-with_made calls None = calls
-with_made calls (Some made) = calls ++ made ∷ []
-
 -- the act is on a queue, a body or the clock: it leads there in plain parts, and no body and no owner moves
 pub record Locally {T : Type 0} (there : WithQueues) (old now : Desk T) : Type 0 where
   pub leads : (plain_machine now.machine, now.rings.queues) ≡ there
@@ -44,19 +34,17 @@ pub record Locally {T : Type 0} (there : WithQueues) (old now : Desk T) : Type 0
   pub book : now.book ≡ old.book
   pub room : now.rings.room ≡ old.rings.room
 
--- what machine m does at this desk, and the call that it made, if it made one
-abbrev pub Does : {T : Type 0} → Act → MNo → Choice → Desk T → Desk T → Option Made → Type 0
-Does (act.Call asked) m choice old now made =
-    (result : Result Reply Refusal) × Turns old.machine old.book asked choice.word result now.machine now.book × (now.rings ≡ old.rings) × (made ≡ made_by m asked result)
-Does act.Pop m choice old now made = Locally (popped (plain_machine old.machine) old.rings.queues) old now × (made ≡ None)
-Does act.Drain m choice old now made = Locally (drained (plain_machine old.machine) old.rings.queues) old now × (made ≡ None)
-Does act.Push m choice old now made = Locally (pushed (plain_machine old.machine) old.rings.queues old.machine.hand.to_store choice.push_refused) old now × (made ≡ None)
-Does act.Hunt m choice old now made =
-    Locally (stolen (plain_machine old.machine) (Some choice.word) old.rings.queues (victim_of old.machine.procs (begun (seen old.machine) choice.word)) choice.unsure) old now × (made ≡ None)
-Does (act.Steal v) m choice old now made = Locally (stolen (plain_machine old.machine) None old.rings.queues v choice.unsure) old now × (made ≡ None)
-Does act.Resume m choice old now made = (now ≡ record old { machine = after old.machine (told.Asked choice.ask) }) × (made ≡ None)
-Does act.Block m choice old now made = (now ≡ record old { machine = after old.machine (told.Number choice.number) }) × (made ≡ None)
-Does (act.Clock minded) m choice old now made = (now ≡ record old { machine = after old.machine (told.Moment choice.moment) }) × (made ≡ None)
-Does (act.Surrender which) m choice old now made =
-    (result : Result Unit Refusal) × Surrenders old.machine old.book which result now.machine now.book × (now.rings ≡ old.rings) × (made ≡ None)
-Does act.Nothing m choice old now made = (now ≡ old) × (made ≡ None)
+-- what machine m does at this desk
+abbrev pub Does : {T : Type 0} → Act → MNo → Choice → Desk T → Desk T → Type 0
+Does (act.Call asked) m choice old now = (result : Result Reply Refusal) × Turns old.machine old.book asked choice.word result now.machine now.book × (now.rings ≡ old.rings)
+Does act.Pop m choice old now = Locally (popped (plain_machine old.machine) old.rings.queues) old now
+Does act.Drain m choice old now = Locally (drained (plain_machine old.machine) old.rings.queues) old now
+Does act.Push m choice old now = Locally (pushed (plain_machine old.machine) old.rings.queues old.machine.hand.to_store choice.push_refused) old now
+Does act.Hunt m choice old now =
+    Locally (stolen (plain_machine old.machine) (Some choice.word) old.rings.queues (victim_of old.machine.procs (begun (seen old.machine) choice.word)) choice.unsure) old now
+Does (act.Steal v) m choice old now = Locally (stolen (plain_machine old.machine) None old.rings.queues v choice.unsure) old now
+Does act.Resume m choice old now = now ≡ record old { machine = after old.machine (told.Asked choice.ask) }
+Does act.Block m choice old now = now ≡ record old { machine = after old.machine (told.Number choice.number) }
+Does (act.Clock minded) m choice old now = now ≡ record old { machine = after old.machine (told.Moment choice.moment) }
+Does (act.Surrender which) m choice old now = (result : Result Unit Refusal) × Surrenders old.machine old.book which result now.machine now.book × (now.rings ≡ old.rings)
+Does act.Nothing m choice old now = now ≡ old

@@ -8,17 +8,17 @@ ghost use Rattle.gmp_driver.specs.Table.{next_act};
 ghost use Rattle.gmp_turn.specs.Turns.{HasMemory};
 ghost use Rattle.gmp_core.specs.Doing.{Does};
 
-use crate::copies::{copied_ask, copied_call};
+use crate::copies::copied_ask;
 use crate::local::{drain, pop, push, steal, tell};
 use crate::queues::Queues;
-use gmp_acts::{Choice, Made};
+use gmp_acts::Choice;
 use gmp_base::MNo;
 use gmp_book::Book;
 use gmp_driver::{Act, Driver, Told};
 use gmp_turn::{memory_at, surrender, turn};
 use std::alloc::Global;
 
-/// Makes the act that machine m's program names next, and answers the call that the book accepted, if it was one.
+/// Makes the act that machine m's program names next.
 #[inline(always)]
 pub(crate) fn act<T>(
     alloc: Global,
@@ -27,18 +27,18 @@ pub(crate) fn act<T>(
     queues: &mut Queues,
     m: MNo,
     choice: &Choice,
-) -> Option<Made>
+)
     requires pass { IsSome driver.old.pass }
     requires run { driver.old.run ≡ book.old.log.run }
     // A ticket to store finds room.
     requires room { (r : Readiness) → driver.old.hand.to_store ≡ Some r → (p : PNo) → own_processor driver.old.hand ≡ Some p
         → (p.0 < length queues.old.queues) × (length (slice_index_or queues.old.queues p.0 []) < queues.old.room) }
     ensures does { Does (next_act driver.old) m choice.now (record { machine = driver.old; book = book.old; rings = queues.old })
-        (record { machine = driver.new; book = book.new; rings = queues.new }) result }
+        (record { machine = driver.new; book = book.new; rings = queues.new }) }
 {
     let next = driver.next();
     let memory = memory_at(&next, alloc);
-    act_next(memory, next, driver, book, queues, m, choice)
+    act_next(memory, next, driver, book, queues, m, choice);
 }
 
 /// The same of the act that the program names. A make alone is handed memory.
@@ -51,7 +51,7 @@ fn act_next<T>(
     queues: &mut Queues,
     m: MNo,
     choice: &Choice,
-) -> Option<Made>
+)
     requires next { next ≡ next_act driver.old }
     requires memory { HasMemory next memory }
     // `Driver::next`, which names the act, says so.
@@ -61,17 +61,11 @@ fn act_next<T>(
     requires room { (r : Readiness) → driver.old.hand.to_store ≡ Some r → (p : PNo) → own_processor driver.old.hand ≡ Some p
         → (p.0 < length queues.old.queues) × (length (slice_index_or queues.old.queues p.0 []) < queues.old.room) }
     ensures does { Does next m choice.now (record { machine = driver.old; book = book.old; rings = queues.old })
-        (record { machine = driver.new; book = book.new; rings = queues.new }) result }
+        (record { machine = driver.new; book = book.new; rings = queues.new }) }
 {
     match next {
         Act::Call(call) => {
-            let asked = copied_call(&call);
-            let reply = turn(memory, driver, book, call, choice.word).ok()?;
-            return Some(Made {
-                m,
-                call: asked,
-                reply,
-            });
+            let _ = turn(memory, driver, book, call, choice.word);
         }
         Act::Pop => pop(driver, queues),
         Act::Drain => drain(driver, queues),
@@ -89,5 +83,4 @@ fn act_next<T>(
         }
         Act::Nothing => {}
     }
-    None
 }

@@ -1,11 +1,11 @@
 //! The core.
 ghost use Rattle.std.specs.Borrow.{sem};
-ghost use Rattle.std.specs.Prelude.{◌≡◌, ◌<◌, All, Some, false, is_some, length, map, slice_get, vec_capacity, IfErr, IfOk, IfSome, OnOk};
+ghost use Rattle.std.specs.Prelude.{◌≡◌, All, Some, false, is_some, length, map, slice_get, IfErr, IfOk, IfSome, OnOk};
 ghost use Rattle.std.specs.Option.{option_map_or};
 ghost use Rattle.gmp_seq.specs.Fits.{AreLimits, Fits};
 ghost use Rattle.gmp_seq.specs.Machines.{is_parked_mode};
 ghost use Rattle.gmp_book.specs.Book.{WhyUnopened};
-ghost use Rattle.gmp_core.specs.Doing.{with_made};
+ghost use Rattle.gmp_acts.specs.System.{made_of};
 ghost use Rattle.gmp_core.specs.Whole.{wanted_by};
 
 use crate::acting::act;
@@ -13,11 +13,12 @@ use crate::copies::has_few;
 use crate::opening::{let_go, starting};
 use crate::queues::Queues;
 use crate::want::Want;
-use gmp_acts::{Choice, Made};
+use gmp_acts::Choice;
 use gmp_base::{MNo, Refusal, Refused, Woke};
 use gmp_book::{Book, Unopened};
 use gmp_driver::{Act, Driver};
-use gmp_seq::{Entry, Limits, Outcome};
+use gmp_history::History;
+use gmp_seq::{Limits, Outcome};
 use std::alloc::Global;
 use std::marker::Model;
 
@@ -29,22 +30,20 @@ pub struct Core<T> {
     book: Book<T, ()>,
     queues: Queues,
     drivers: Vec<Driver<T, ()>>,
-    calls: Vec<Made>,
 }
 
 impl<T> Model for Core<T> {
-    ghost use Rattle.std.specs.Prelude.{vec_capacity};
     ghost use Rattle.gmp_core.specs.Whole.{Whole, stock_of};
     ghost use Rattle.gmp_core.specs.Inside.{IsCore, system_of};
 
     ghost Value = { Whole T };
 
     ghost view = { λ c. record {
-      system = system_of (record { book = c.book; rings = c.queues; machines = c.drivers.items; calls = c.calls.items; room = vec_capacity c.calls });
+      system = system_of (record { book = c.book; rings = c.queues; machines = c.drivers.items });
       stock = stock_of c.drivers.items c.book.bodies;
     } };
 
-    ghost invariant = { λ c. IsCore (record { book = c.book; rings = c.queues; machines = c.drivers.items; calls = c.calls.items; room = vec_capacity c.calls }) };
+    ghost invariant = { λ c. IsCore (record { book = c.book; rings = c.queues; machines = c.drivers.items }) };
 }
 
 /// What an act reads of a choice.
@@ -58,18 +57,6 @@ fn wanted(act: Act) -> Want
         Act::Block => Want::Number,
         Act::Clock(minded) => Want::Moment(minded),
         _ => Want::Nothing,
-    }
-}
-
-/// Adds a call that was made.
-#[inline(always)]
-fn note(calls: &mut Vec<Made>, made: Option<Made>)
-    requires room { IfSome made (λ _. length calls.old.items < vec_capacity calls.old) }
-    ensures calls { calls.new.items ≡ with_made calls.old.items made }
-    ensures room { vec_capacity calls.new ≡ vec_capacity calls.old }
-{
-    if let Some(made) = made {
-        calls.push_reserved(made);
     }
 }
 
@@ -105,9 +92,6 @@ impl<T> Core<T> {
         let Ok(queues) = Queues::open(alloc, limits.procs, bodies.len() as u16) else {
             return Err(Refused::of(why, bodies));
         };
-        let Ok(calls) = Vec::with_capacity(alloc, limits.entries as usize) else {
-            return Err(Refused::of(why, bodies));
-        };
         let Ok(owners) = vec![in alloc; (); limits.procs as usize] else {
             return Err(Refused::of(why, bodies));
         };
@@ -125,7 +109,6 @@ impl<T> Core<T> {
                 book,
                 queues,
                 drivers: starting(room, passes, limits.procs),
-                calls,
             }),
         }
     }
@@ -148,7 +131,7 @@ impl<T> Core<T> {
         let Some(driver) = self.drivers.get_mut(m.0 as usize) else {
             return;
         };
-        let made = act(
+        act(
             self.alloc,
             driver,
             &mut self.book,
@@ -156,7 +139,6 @@ impl<T> Core<T> {
             m,
             choice,
         );
-        note(&mut self.calls, made);
     }
 
     /// The headline holds, and no work is left asleep: the type keeps it.
@@ -227,22 +209,16 @@ impl<T> Core<T> {
         }
     }
 
-    /// Every call that the book accepted with its reply, in order. Its numbers are within their types.
-    pub fn history(&self) -> &[Entry]
-        ensures entries { result.now ≡ self.now.system.book.history }
+    /// Every call that the book accepted with its reply, in order: each machine's are those that it made, with the replies that it was told.
+    /// Its numbers are within their types.
+    pub fn history(&self) -> &History
+        ensures entries { result.now.list ≡ self.now.system.book.history }
+        ensures own { map made_of result.now.list ≡ self.now.system.own }
         ensures headline { HeadlineOf self.now.system }
         ensures within { AreLimits self.now.system.book.limits self.now.system.book.bodies self.now.system.book.capacities }
         ensures fits { All Fits self.now.system.book.history }
     {
         self.book.history()
-    }
-
-    /// Every call that the machines made, in order, each with its machine and the reply that this was told.
-    pub fn own(&self) -> &[Made]
-        ensures made { result.now ≡ self.now.system.own }
-        ensures headline { HeadlineOf self.now.system }
-    {
-        self.calls.as_slice()
     }
 
     /// How the run ended, if it did.
@@ -264,7 +240,6 @@ impl<T: Drop> Core<T> {
             book: _,
             queues: _,
             drivers,
-            calls: _,
         } = self;
         let_go(drivers);
         outcome

@@ -1,5 +1,5 @@
 -- What a history's rows stand for stays, whatever is added beside them.
-use Rattle.std.proofs.Common.{◌≡◌, ℕ, zero, suc, ◌+◌, ◌<◌, ◌≤◌, List, [], ◌∷◌, ◌++◌, length, get_or, slice_get, Option, None, Some, refl, ap, ◌∙◌, arith, length-append}
+use Rattle.std.proofs.Common.{◌≡◌, ℕ, zero, suc, ◌+◌, ◌^◌, ◌<◌, ◌≤◌, List, [], ◌∷◌, ◌++◌, length, get_or, slice_get, Option, None, Some, refl, ap, ◌∙◌, arith, length-append}
 use Rattle.std.specs.Prelude.{All}
 use Rattle.std.proofs.lemmas.List.{map-append}
 use Rattle.std.proofs.lemmas.List.Elements.{All-append}
@@ -84,8 +84,8 @@ only P x p (suc k) d l = absurd (omega arith)
 
 pub one_more : (s s' : List Choosing) (r r' : List Relay) (rows rows' : List Row) (row : Row) (call : Call) (reply : Reply) (room space space' space'' : ℕ)
     → IsHistory rows s r room space space' space'' → s' ≡ s ++ choosing_in call → r' ≡ r ++ relay_in reply → rows' ≡ rows ++ row ∷ []
-    → IsCallIn (length s') row.call → IsReplyIn (length r') row.reply → IsHistory rows' s' r' room space space' space''
-one_more s s' r r' rows rows' row call reply room space space' space'' h es er erows there there' = (
+    → IsCallIn (length s') row.call → IsReplyIn (length r') row.reply → length rows < room → room < 2 ^ 32 → IsHistory rows' s' r' room space space' space''
+one_more s s' r r' rows rows' row call reply room space space' space'' h es er erows there there' free small = (
     let ls : length s' ≡ length s + length (choosing_in call) = ap length es ∙ length-append s (choosing_in call) in
     let lr : length r' ≡ length r + length (relay_in reply) = ap length er ∙ length-append r (relay_in reply) in
     let lrows : length rows' ≡ length rows + 1 = ap length erows ∙ length-append rows (row ∷ []) in
@@ -95,6 +95,7 @@ one_more s s' r r' rows rows' row call reply room space space' space'' h es er e
     let last : All (IsIn (length s') (length r')) (row ∷ []) = only (IsIn (length s') (length r')) row (record { call = there; reply = there' }) in
     record {
       named = rw erows (All-append (IsIn (length s') (length r')) rows (row ∷ []) before last);
+      few = omega (arith, lrows, free, small);
       few_choosings = omega (arith, ls, lrows, few_choosings call, h.few_choosings);
       few_relays = omega (arith, lr, lrows, few_relays reply, h.few_relays);
       rows_room = h.rows_room;

@@ -1,5 +1,5 @@
 -- What a history keeps.
-use Rattle.std.specs.Prelude.{◌≤◌, ◌+◌, ℕ, List, length, All}
+use Rattle.std.specs.Prelude.{◌≤◌, ◌<◌, ◌+◌, ◌^◌, ℕ, List, length, All}
 use Rattle.gmp_seq.specs.declared.call.Relay.{Relay}
 use Rattle.gmp_history.specs.declared.brief.Choosing.{Choosing}
 use Rattle.gmp_history.specs.declared.brief.Row.{Row}
@@ -9,6 +9,7 @@ use Rattle.gmp_history.specs.Brief.{IsIn}
 -- come has room for its row, for a choosing and for a sender.
 pub record IsHistory (rows : List Row) (choosings : List Choosing) (relays : List Relay) (room : ℕ) (space space' space'' : ℕ) : Type 0 where
   pub named : All (IsIn (length choosings) (length relays)) rows
+  pub few : length rows < 2 ^ 32
   pub few_choosings : length choosings ≤ length rows
   pub few_relays : length relays ≤ length rows
   pub rows_room : room ≤ space

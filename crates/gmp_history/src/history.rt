@@ -1,5 +1,5 @@
 //! The history.
-ghost use Rattle.std.specs.Prelude.{◌≡◌, ◌<◌, ◌≤◌, ◌-◌, ◌↔◌, IsTrue, [], ◌∷◌, ◌++◌, length, slice_get, IfOk, OnOk};
+ghost use Rattle.std.specs.Prelude.{◌≡◌, ◌<◌, ◌≤◌, ◌-◌, ◌^◌, ◌↔◌, IsTrue, [], ◌∷◌, ◌++◌, length, slice_get, IfOk, OnOk};
 ghost use Rattle.gmp_seq.specs.Fits.{Fits};
 
 use crate::brief::{Choosing, Row};
@@ -84,7 +84,8 @@ impl History {
 
     /// How many entries there are.
     pub fn len(&self) -> usize
-        ensures { result ≡ length self.now.list }
+        ensures value { result ≡ length self.now.list }
+        ensures few { result < 2 ^ 32 }
     {
         self.rows.len()
     }
@@ -110,7 +111,8 @@ impl History {
 
     /// The entries, in order.
     pub fn iter(&self) -> Entries<'_>
-        ensures { result ≡ self.now.list }
+        ensures list { result ≡ self.now.list }
+        ensures few { length self.now.list < 2 ^ 32 }
     {
         Entries {
             rows: &self.rows,

@@ -19,7 +19,8 @@ ghost use Rattle.gmp_ledger.specs.Refusals.{IsAllowed, IsCurrent, Says, first_re
 use crate::handed::Handed;
 use crate::scheduler::Scheduler;
 use gmp_base::{MNo, Pass, Readiness, Refusal, Woke};
-use gmp_seq::{Call, Entry, Limits, Outcome, Reply};
+use gmp_history::History;
+use gmp_seq::{Call, Limits, Outcome, Reply};
 use std::alloc::{AllocError, Global};
 use std::marker::Model;
 
@@ -34,11 +35,10 @@ pub struct Ledger {
     bodies: u16,
     capacities: Vec<u32>,
     scheduler: Scheduler,
-    entries: Vec<Entry>,
+    entries: History,
 }
 
 impl Model for Ledger {
-    ghost use Rattle.std.specs.Prelude.{vec_capacity};
     ghost use Rattle.gmp_ledger.specs.Kept.{IsLedger, IsSized};
     ghost use Rattle.gmp_ledger.specs.LedgerView.{log_of};
     ghost use Rattle.gmp_ledger.specs.Log.{Log};
@@ -47,7 +47,7 @@ impl Model for Ledger {
 
     ghost view = { log_of };
 
-    ghost invariant = { λ l. IsLedger (log_of l) (vec_capacity l.entries) × IsSized l.limits l.scheduler };
+    ghost invariant = { λ l. IsLedger (log_of l) l.entries.room × IsSized l.limits l.scheduler };
 }
 
 impl Ledger {
@@ -63,7 +63,7 @@ impl Ledger {
         ensures { IfOk result (λ l. l ≡ opening_log run limits bodies capacities.items) }
     {
         let scheduler = Scheduler::open(alloc, limits, bodies, &capacities)?;
-        let entries = Vec::with_capacity(alloc, limits.entries as usize)?;
+        let entries = History::with_room(alloc, limits.entries)?;
         Ok(Ledger {
             run,
             limits,
@@ -91,8 +91,8 @@ impl Ledger {
     }
 
     /// Every accepted call with its reply, in order: a legal run from the start.
-    pub fn history(&self) -> &[Entry]
-        ensures entries { result.now ≡ self.now.history }
+    pub fn history(&self) -> &History
+        ensures entries { result.now.list ≡ self.now.history }
         ensures legal { Run self.now.limits self.now.start self.now.history self.now.state }
         // A legal run leads to the start.
         ensures before { (h : List Entry) × IsLegal self.now.limits self.now.bodies self.now.capacities h self.now.start }
@@ -105,7 +105,7 @@ impl Ledger {
     {
         // It tells that the shelf lists those on it.
         let _ = self.scheduler.goroutines.has_shelved();
-        self.entries.as_slice()
+        &self.entries
     }
 
     /// Whether the ticket of this readiness is given out, and not yet claimed or put back.
@@ -201,7 +201,7 @@ impl Ledger {
             .scheduler
             .effect(memory, self.limits, m, g, p, &call, word)?;
         self.scheduler.count_one(self.limits, m, reply);
-        self.entries.push_reserved(Entry::new(m, k, call, reply));
+        self.entries.push(m, k, &call, &reply);
         pass.advance(self.scheduler.counts.all());
         Ok(reply)
     }
@@ -235,10 +235,10 @@ impl Ledger {
     }
 
     /// The limits, what the channels of the opening could hold, and the history.
-    pub fn into_parts(self) -> (Limits, Vec<u32>, Vec<Entry>)
+    pub fn into_parts(self) -> (Limits, Vec<u32>, History)
         ensures limits { result.0 ≡ self.limits }
         ensures capacities { result.1.items ≡ self.capacities }
-        ensures history { result.2.items ≡ self.history }
+        ensures history { result.2.list ≡ self.history }
         ensures legal { Run self.limits self.start self.history self.state }
         ensures start { self.start ≡ opening self.limits self.bodies self.capacities }
         ensures fits { All Fits self.history }

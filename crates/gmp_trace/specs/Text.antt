@@ -240,10 +240,10 @@ pub record Content : Type 0 where
   pub end : End
 
 abbrev pub content : Trace → Content
-content x = record { limits = x.limits; bodies = x.bodies; capacities = x.capacities.items; entries = x.entries.items; end = x.end }
+content x = record { limits = x.limits; bodies = x.bodies; capacities = x.capacities.items; entries = x.entries.list; end = x.end }
 
 abbrev pub content_of : TraceView → Content
-content_of x = record { limits = x.limits; bodies = x.bodies; capacities = x.capacities.now; entries = x.entries.now; end = x.end }
+content_of x = record { limits = x.limits; bodies = x.bodies; capacities = x.capacities.now; entries = x.entries.now.list; end = x.end }
 
 -- the lines before the entries
 unfoldable pub opening_text : Limits → ℕ → List ℕ → List ℕ

@@ -10,7 +10,9 @@ ghost use Rattle.gmp_trace.specs.Text.{content};
 use crate::put::{put, put_digits, put_number};
 use crate::trace::{End, Trace};
 use crate::writing::WriteError;
-use gmp_seq::{Call, Entry};
+use gmp_base::MNo;
+use gmp_history::History;
+use gmp_seq::Call;
 use itoa::Buffer;
 use std::alloc::{AllocError, Global};
 use std::io::Write;
@@ -103,14 +105,22 @@ struct Counts {
     calls: [u64; CALLS],
 }
 
-fn count(entries: &[Entry]) -> Counts
-    ensures machines { CountsMachines result.machines entries.now }
-    ensures calls { CountsCalls result.calls entries.now }
+/// The machine's place in an array of all that a number can name.
+fn machine_place(m: MNo) -> usize
+    ensures value { result ≡ m.0 }
+    ensures bound { result < 256 }
+{
+    usize::from(m.0)
+}
+
+fn count(entries: &History) -> Counts
+    ensures machines { CountsMachines result.machines entries.now.list }
+    ensures calls { CountsCalls result.calls entries.now.list }
 {
     let mut machines = [0u64; 256];
     let mut calls = [0u64; CALLS];
-    for entry in entries {
-        machines[usize::from(entry.m.0)] += 1;
+    for entry in entries.iter() {
+        machines[machine_place(entry.m)] += 1;
         calls[place(&entry.call)] += 1;
     }
     Counts { machines, calls }

@@ -3,7 +3,8 @@
 ghost use Rattle.std.specs.Prelude.{◌≡◌};
 ghost use Rattle.gmp_trace.specs.Text.{content, content_of, end_of};
 
-use gmp_seq::{Entry, Limits, Outcome};
+use gmp_history::History;
+use gmp_seq::{Limits, Outcome};
 
 /// How a run ended.
 #[derive(Clone, Copy, Debug, PartialEq, Eq)]
@@ -38,7 +39,7 @@ pub struct Trace {
     /// The capacities of the channels that were there at the opening.
     pub capacities: Vec<u32>,
     /// The calls in order, each with its reply.
-    pub entries: Vec<Entry>,
+    pub entries: History,
     pub end: End,
 }
 
@@ -51,7 +52,7 @@ pub struct TraceView<'a> {
     /// The capacities of the channels that were there at the opening.
     pub capacities: &'a [u32],
     /// The calls in order, each with its reply.
-    pub entries: &'a [Entry],
+    pub entries: &'a History,
     pub end: End,
 }
 

@@ -15,6 +15,7 @@ use crate::bad::{Bad, Why};
 use crate::trace::{End, Trace};
 use crate::watch::{Watch, Work, tell};
 use gmp_base::Fault;
+use gmp_history::History;
 use gmp_seq::{Call, Entry, Limits, Reply};
 use std::alloc::{AllocError, Global};
 
@@ -190,14 +191,15 @@ fn body<W: Watch>(
     machines: u8,
     text: &[u8],
     watch: &mut W,
-) -> Result<(Vec<Entry>, End), Bad>
+) -> Result<(History, End), Bad>
     requires { machines ≤ 64 }
-    ensures found { IfOk result (λ r. AreEntries machines r.0.items × (text.now ≡ entries_text 0 r.0.items ++ end_text r.1)) }
+    ensures found { IfOk result (λ r. AreEntries machines r.0.list × (text.now ≡ entries_text 0 r.0.list ++ end_text r.1)) }
     ensures only { (es : List Entry) (end : End) → IsBody machines text.now es end
-        → MatchResult result (λ r. (r.0.items ≡ es) × (r.1 ≡ end)) (λ bad. bad.why ≡ Why.OutOfMemory) }
+        → MatchResult result (λ r. (r.0.list ≡ es) × (r.1 ≡ end)) (λ bad. bad.why ≡ Why.OutOfMemory) }
     ensures fault { IfErr result (λ bad. IsBodyFault machines text.now bad.line bad.why) }
 {
-    let mut entries = Vec::new(alloc);
+    let mut entries = History::new(alloc);
+    let mut entry = blank();
     let mut counts = [0u64; 64];
     let mut words = Vec::new(alloc);
     let mut line = Vec::new(alloc);
@@ -205,7 +207,6 @@ fn body<W: Watch>(
     while !rest.is_empty() {
         let number = entries.len() as u64;
         tell(watch, Work::Reading, number);
-        let mut entry = blank();
         let Ok(found) = answered_at(rest, &mut words, &mut line, &mut entry) else {
             return Err(OUT_OF_MEMORY);
         };
@@ -222,9 +223,10 @@ fn body<W: Watch>(
             });
         }
         counts[usize::from(entry.m.0)] += 1;
-        let Ok(()) = entries.push(entry) else {
+        let Ok(()) = entries.make_room() else {
             return Err(OUT_OF_MEMORY);
         };
+        entries.push(entry.m, entry.k, &entry.call, &entry.reply);
         rest = more;
     }
     Err(Bad {

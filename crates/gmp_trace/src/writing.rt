@@ -71,7 +71,7 @@ pub fn write_view<W: Write>(
     let mut out = Vec::with_capacity(alloc, GATHERED + LONGEST)?;
     put_opening(&mut out, &trace.limits, trace.bodies, trace.capacities)?;
     for (number, entry) in trace.entries.iter().enumerate() {
-        put_entry(&mut out, number as u64, entry)?;
+        put_entry(&mut out, number as u64, &entry)?;
         if out.len() >= GATHERED {
             send(&mut out, writer)?;
         }

@@ -1,9 +1,8 @@
 -- What is counted of each machine, entry by entry and log by log.
-use Rattle.std.proofs.Common.{◌≡◌, ◌≢◌, ◌⊎◌, inl, inr, ℕ, ◌+◌, ◌<◌, ◌≤◌, ◌==◌, min, Bool, true, false, if◌then◌else◌, List, [], ◌∷◌, ◌++◌, length, map, filter, get_or, set, take, sym, ap, subst, ◌∙◌, arith}
+use Rattle.std.proofs.Common.{◌≡◌, ◌≢◌, ◌⊎◌, inl, inr, ℕ, ◌+◌, ◌<◌, ◌≤◌, ◌==◌, min, Bool, true, false, if◌then◌else◌, List, [], ◌∷◌, ◌++◌, length, map, filter, get_or, set, take, refl, sym, ap, subst, ◌∙◌, arith, length-append}
 use Rattle.std.proofs.lemmas.Bool.{cases_eq, eq-eqb, ne_eqb}
 use Rattle.std.proofs.lemmas.List.{append-nil, get_or-set_other, get_or-set_same, length-map, length_push, map-append}
-use Rattle.std.proofs.lemmas.List.Elements.{filter_more}
-use Rattle.std.proofs.lemmas.List.Filters.{length-filter_more}
+use Rattle.std.proofs.lemmas.List.Elements.{filter_more, filter-append}
 use Rattle.std.proofs.lemmas.List.Sums.{count_by-le-length, length-filter, sum_by_push}
 use Rattle.std.specs.List.{count_by, sum}
 use Rattle.gmp_seq.specs.declared.call.Entry.{Entry}
@@ -31,21 +30,25 @@ few_entries history m =
     let is : entries_of history m ≡ count_by p history = length-filter p history in
     omega (arith, is, count_by-le-length p history)
 
-module _ (history : List Entry) (i : ℕ) (e : Entry) (there : i < length history) (is : e ≡ get_or history i e) where
-  one_more : (m : ℕ) (b : Bool) → (e.m.0 == m) ≡ b → entries_of (take (i + 1) history) m ≡ entries_of (take i history) m + (if b then 1 else 0)
+module _ (es : List Entry) (e : Entry) where
+  one_more : (m : ℕ) (b : Bool) → (e.m.0 == m) ≡ b → entries_of (es ++ e ∷ []) m ≡ entries_of es m + (if b then 1 else 0)
   one_more m b own =
       let p : Entry → Bool = λ (x : Entry). x.m.0 == m in
-      length-filter_more p history i e there ∙ ap (λ (c : Bool). entries_of (take i history) m + (if c then 1 else 0)) (ap p (sym is) ∙ own)
+      ap (λ (l : List Entry). length l) (filter-append p es (e ∷ [])) ∙ length-append (filter p es) (filter p (e ∷ []))
+      ∙ ap (λ (c : Bool). entries_of es m + length (if c then e ∷ [] else [])) own ∙ counts b where
+    counts : (b : Bool) → entries_of es m + length (if b then e ∷ [] else []) ≡ entries_of es m + (if b then 1 else 0)
+    counts true = refl
+    counts false = refl
 
-  pub counted_own : (k : ℕ) (t : Tally) → e.m.0 ≡ k → t ≡ tally_of (take i history) [] k → record t { found = t.found + 1 } ≡ tally_of (take (i + 1) history) [] k
+  pub counted_own : (k : ℕ) (t : Tally) → e.m.0 ≡ k → t ≡ tally_of es [] k → record t { found = t.found + 1 } ≡ tally_of (es ++ e ∷ []) [] k
   counted_own k t own was =
       ap (λ (u : Tally). record u { found = u.found + 1 }) was
       ∙ ap (λ (n : ℕ). record no_tally { found = n }) (sym (one_more k true (eq-eqb e.m.0 k own)))
 
-  pub counted_others : (k : ℕ) → e.m.0 ≡ k → (m : ℕ) → m ≢ k → tally_of (take i history) [] m ≡ tally_of (take (i + 1) history) [] m
+  pub counted_others : (k : ℕ) → e.m.0 ≡ k → (m : ℕ) → m ≢ k → tally_of es [] m ≡ tally_of (es ++ e ∷ []) [] m
   counted_others k own m ne =
-      let more : entries_of (take (i + 1) history) m ≡ entries_of (take i history) m + 0 = one_more m false (ne_eqb e.m.0 m (λ same. ne (sym same ∙ own))) in
-      let same : entries_of (take i history) m ≡ entries_of (take (i + 1) history) m = omega (arith, more) in
+      let more : entries_of (es ++ e ∷ []) m ≡ entries_of es m + 0 = one_more m false (ne_eqb e.m.0 m (λ same. ne (sym same ∙ own))) in
+      let same : entries_of es m ≡ entries_of (es ++ e ∷ []) m = omega (arith, more) in
       ap (λ (n : ℕ). record no_tally { found = n }) same
 
 -- Logs

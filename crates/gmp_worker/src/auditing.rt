@@ -3,7 +3,7 @@ ghost use Rattle.std.specs.Prelude.{◌≡◌, ◌↔◌, ◌⊎◌, ℕ, ◌+�
 ghost use Rattle.gmp_worker.specs.Audit.{AgreesWithLogs, IsMismatch, no_tally, tally_of};
 
 use gmp_base::MNo;
-use gmp_seq::Entry;
+use gmp_history::History;
 
 /// How many machines an `MNo` can name.
 const MACHINES: usize = 256;
@@ -38,9 +38,9 @@ struct Tally {
 
 /// Whether each machine that has entries has one log, and each log says how many entries its machine has; else the least machine for which
 /// that fails. In time linear in the entries and the logs, and without memory.
-pub fn audit(history: &[Entry], logs: &[PassLog]) -> Result<(), Mismatch>
-    ensures ok { OnOk result ((m : ℕ) → m < 2 ^ 8 → AgreesWithLogs history.now logs.now m) }
-    ensures err { IfErr result (λ e. IsMismatch history.now logs.now e) }
+pub fn audit(history: &History, logs: &[PassLog]) -> Result<(), Mismatch>
+    ensures ok { OnOk result ((m : ℕ) → m < 2 ^ 8 → AgreesWithLogs history.now.list logs.now m) }
+    ensures err { IfErr result (λ e. IsMismatch history.now.list logs.now e) }
 {
     let tallies = tallied(history, logs);
     for (m, tally) in tallies.iter().enumerate() {
@@ -56,16 +56,16 @@ pub fn audit(history: &[Entry], logs: &[PassLog]) -> Result<(), Mismatch>
 }
 
 /// What is counted of each machine.
-fn tallied(history: &[Entry], logs: &[PassLog]) -> [Tally; MACHINES]
-    ensures tallies { (m : ℕ) → m < 2 ^ 8 → slice_index_or result m no_tally ≡ tally_of history.now logs.now m }
-    ensures few { length history.now + 1 < 2 ^ 64 }
+fn tallied(history: &History, logs: &[PassLog]) -> [Tally; MACHINES]
+    ensures tallies { (m : ℕ) → m < 2 ^ 8 → slice_index_or result m no_tally ≡ tally_of history.now.list logs.now m }
+    ensures few { length history.now.list + 1 < 2 ^ 64 }
 {
     let mut tallies = [Tally {
         found: 0,
         logs: 0,
         said: 0,
     }; MACHINES];
-    for entry in history {
+    for entry in history.iter() {
         tallies[usize::from(entry.m.0)].found += 1;
     }
     for log in logs {

@@ -7,9 +7,9 @@ use Rattle.gmp_trace.proofs.whole.body.Given as goal
 
 abbrev pub invariant-loop-rest : goal.invariant-loop-rest
 invariant-loop-rest g l = record {
-  starts : BeginsWith l.machines l.text l.entries.items l.rest;
-  counts : Counts l.counts l.entries.items;
-  left : (xs : List Entry) (end : End) → IsBody l.machines l.text xs end → Left l.entries.items l.rest xs end;
+  starts : BeginsWith l.machines l.text l.entries.list l.rest;
+  counts : Counts l.counts l.entries.list;
+  left : (xs : List Entry) (end : End) → IsBody l.machines l.text xs end → Left l.entries.list l.rest xs end;
 }
 
 abbrev pub decreases-loop-rest : goal.decreases-loop-rest

@@ -1,5 +1,7 @@
-use Rattle.std.proofs.Common.{arith}
-use Rattle.gmp_trace.proofs.Owing.{entries_text-next, Owes-paid, AppendsStart-none, AppendsStart-longer, on_refusal}
+use Rattle.std.proofs.Common.{◌≡◌, [], arith, drop}
+use Rattle.std.proofs.lemmas.Iterator.Consumers.{YieldsList-end, YieldsList-from_first, YieldsList-turn}
+use Rattle.std.proofs.lemmas.List.{append-nil, drop_all, length_push}
+use Rattle.gmp_trace.proofs.Owing.{entries_text-next, Owes-paid, AppendsStart-none, AppendsStart-longer, Appends-settled, on_refusal}
 use Rattle.gmp_trace.proofs.writing.write_view.Goals.{then-len-ge-GATHERED+in_ok-send, else-len-ge-GATHERED}
 use Rattle.gmp_trace.proofs.writing.write_view.Goals as goal
 
@@ -10,21 +12,42 @@ pub returns-in_err-put_opening-clause-begun : goal.returns-in_err-put_opening-cl
 returns-in_err-put_opening-clause-begun g c = on_refusal _ _ (AppendsStart-none _ _)
 
 pub returns-in_err-put_entry-clause-begun : goal.returns-in_err-put_entry-clause-begun
-returns-in_err-put_entry-clause-begun g c = on_refusal _ _ (AppendsStart-longer _ _ _ _ _ c.loop-number.invariant)
+returns-in_err-put_entry-clause-begun g c = on_refusal _ _ (AppendsStart-longer _ _ _ _ _ c.loop-number.invariant.owes)
+
+pub overflow_step-number : goal.overflow_step-number
+overflow_step-number g c =
+    let t = YieldsList-turn (YieldsList-from_first (λ x. x) (λ left. left) c.args.trace.entries.now.list c.iter-entry-items.ensures.list)
+    c.loop-number.yielded _ c.loop-number.yielded_by _ _ c.in-Some.entry c.in-Some.is c.next.ensures.steps in
+    omega (arith, c.loop-number.invariant.counted, t.0, c.iter-entry-items.ensures.few)
 
 pub loop-number-preserved : goal.loop-number-preserved
 loop-number-preserved g c =
-    let es = c.args.trace.entries.now in
+    let es = c.args.trace.entries.now.list in
     let n = c.loop-number.number in
-    let at = c.entry-item.is in
-    let next = entries_text-next n es c.entry-item.result c.loop-number.out.items (omega arith) at in
-    let owed = rw (next, ← c.in_ok-put_entry.ensures) at c.loop-number.invariant in
+    let k = c.loop-number.invariant in
+    let t = YieldsList-turn (YieldsList-from_first (λ x. x) (λ left. left) es c.iter-entry-items.ensures.list)
+    c.loop-number.yielded _ c.loop-number.yielded_by _ _ c.in-Some.entry c.in-Some.is c.next.ensures.steps in
+    let next = entries_text-next n es c.in-Some.entry c.loop-number.out.items (omega (arith, k.counted, t.0)) (rw k.counted t.1) in
+    let owed = rw (next, ← c.in_ok-put_entry.ensures) at k.owes in
+    let more = length_push c.loop-number.yielded c.in-Some.entry in
     elim c.if-len-ge-GATHERED.branch [
       | then-len-ge-GATHERED+in_ok-send w ↦
           let paid = Owes-paid _ _ _ _ _ _ owed w.in_ok-send.ensures.sent in
-          rw (w.writer-is, w.out-is, w.in_ok-send.ensures.empty) paid
-      | else-len-ge-GATHERED w ↦ rw (w.writer-is, w.out-is) owed
+          record { counted = omega (arith, k.counted, more); owes = rw (w.writer-is, w.out-is, w.in_ok-send.ensures.empty) paid }
+      | else-len-ge-GATHERED w ↦ record { counted = omega (arith, k.counted, more); owes = rw (w.writer-is, w.out-is) owed }
     ]
 
 pub returns-in_err-put_end-clause-begun : goal.returns-in_err-put_end-clause-begun
-returns-in_err-put_end-clause-begun g c = on_refusal _ _ (AppendsStart-longer _ _ _ _ _ c.loop-number.invariant)
+returns-in_err-put_end-clause-begun g c = on_refusal _ _ (AppendsStart-longer _ _ _ _ _ c.loop-number.invariant.owes)
+
+pub returns-clause-written : goal.returns-clause-written
+returns-clause-written g c =
+    let es = c.args.trace.entries.now.list in
+    let n = c.loop-number.number in
+    let k = c.loop-number.invariant in
+    let ended = YieldsList-end (YieldsList-from_first (λ x. x) (λ left. left) es c.iter-entry-items.ensures.list)
+    c.loop-number.yielded _ c.loop-number.yielded_by _ _ c.in-None.is c.next.ensures.steps in
+    let none : drop n es ≡ [] = drop_all n es (omega (arith, k.counted, ended.1)) in
+    let owed = rw (none, append-nil c.loop-number.out.items) at k.owes in
+    let sent = rw c.in_ok-put_end.ensures at c.in_ok-send-2.ensures.sent in
+    Appends-settled _ _ _ _ _ _ owed sent

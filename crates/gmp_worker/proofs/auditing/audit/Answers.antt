@@ -10,11 +10,11 @@ loop-m-preserved c =
     let m = c.loop-m.m in
     let counted = c.tallied-tallies.ensures in
     let so = c.if-not-agrees.ensures.0 refl in
-    below_more _ _ c.loop-m.invariant (agree c.args.history.now c.args.logs.now m (get_or c.tallied-tallies.result m no_tally) (counted.tallies m c.loop-m-test.true) counted.few so.0 so.1)
+    below_more _ _ c.loop-m.invariant (agree c.args.history.now.list c.args.logs.now m (get_or c.tallied-tallies.result m no_tally) (counted.tallies m c.loop-m-test.true) counted.few so.0 so.1)
 
 pub returns-then-not-agrees-clause-err : goal.returns-then-not-agrees-clause-err
 returns-then-not-agrees-clause-err c =
-    let history = c.args.history.now in
+    let history = c.args.history.now.list in
     let logs = c.args.logs.now in
     let m = c.loop-m.m in
     let tally = get_or c.tallied-tallies.result m no_tally in

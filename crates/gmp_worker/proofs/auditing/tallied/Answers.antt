@@ -1,5 +1,6 @@
-use Rattle.std.proofs.Common.{◌∙◌, ◌+◌, ◌<◌, List, [], ap, arith, get_or, length, sym, take}
-use Rattle.std.proofs.lemmas.List.{get_or-replicate, get_or_default, length-replicate, length-set, length-take, take_all}
+use Rattle.std.proofs.Common.{◌≡◌, ◌∙◌, ◌+◌, ◌<◌, List, [], ◌∷◌, ◌++◌, ap, arith, get_or, length, sym, take}
+use Rattle.std.proofs.lemmas.List.{get_or-replicate, get_or_default, length-replicate, length-set, length-take, map-id, take_all}
+use Rattle.std.proofs.lemmas.Iterator.Consumers.{YieldsList-at, YieldsList-end, YieldsList-from_first, YieldsList-turn}
 use Rattle.gmp_seq.specs.declared.call.Entry.{Entry}
 use Rattle.gmp_worker.specs.declared.auditing.PassLog.{PassLog}
 use Rattle.gmp_worker.specs.declared.auditing.Tally.{Tally}
@@ -12,35 +13,38 @@ use Rattle.gmp_worker.proofs.auditing.tallied.Goals as goal
 pub loop-entry-init : goal.loop-entry-init
 loop-entry-init c = (length-replicate 256 no_tally, λ m few. get_or-replicate 256 m no_tally no_tally few)
 
+-- what the loop took so far is a start of the history
 pub overflow_add-tallies : goal.overflow_add-tallies
 overflow_add-tallies c =
     let k = c.from.result in
     let few : k < 256 = omega arith in
     let found = ap (λ (t : Tally). t.found) (c.loop-entry.invariant.1 k few) in
-    let few_so_far = few_entries (take c.loop-entry.entry-index c.args.history.now) k in
-    let so_far = length-take c.loop-entry.entry-index c.args.history.now in
-    omega (arith, found, few_so_far, so_far)
+    let few_so_far = few_entries c.loop-entry.yielded k in
+    let t = YieldsList-turn (YieldsList-at c.into_iter-entry-iterator.ensures.into_iter_gives (YieldsList-from_first (λ x. x) (λ left. left) c.args.history.now.list c.iter-entry-items.ensures.list))
+    c.loop-entry.yielded _ c.loop-entry.yielded_by _ _ c.in-Some.entry c.in-Some.is c.next.ensures.steps in
+    omega (arith, found, few_so_far, t.0, c.iter-entry-items.ensures.few)
 
 pub loop-entry-preserved : goal.loop-entry-preserved
 loop-entry-preserved c =
-    let history = c.args.history.now in
-    let i = c.loop-entry.entry-index in
-    let e = c.entry-item.result in
+    let es = c.loop-entry.yielded in
+    let e = c.in-Some.entry in
     let k = c.from.result in
     let own = sym c.from.ensures in
     let few : k < 256 = omega arith in
     let within : k < length c.loop-entry.tallies = omega (arith, few, c.loop-entry.invariant.0) in (
       length-set c.loop-entry.tallies k _ ∙ c.loop-entry.invariant.0,
-      next_tallies (tally_of (take i history) []) (tally_of (take (i + 1) history) []) c.loop-entry.tallies k _ within c.loop-entry.invariant.1
-          (counted_own history i e c.loop-entry-test.true c.entry-item.is k (get_or c.loop-entry.tallies k no_tally) own (c.loop-entry.invariant.1 k few))
-          (counted_others history i e c.loop-entry-test.true c.entry-item.is k own),
+      next_tallies (tally_of es []) (tally_of (es ++ e ∷ []) []) c.loop-entry.tallies k _ within c.loop-entry.invariant.1
+          (counted_own es e k (get_or c.loop-entry.tallies k no_tally) own (c.loop-entry.invariant.1 k few))
+          (counted_others es e k own),
     )
 
 -- Logs
 
 pub loop-log-init : goal.loop-log-init
 loop-log-init c =
-    let all = take_all c.loop-entry.entry-index c.args.history.now c.loop-entry-test.false in
+    let ended = YieldsList-end (YieldsList-at c.into_iter-entry-iterator.ensures.into_iter_gives (YieldsList-from_first (λ x. x) (λ left. left) c.args.history.now.list c.iter-entry-items.ensures.list))
+    c.loop-entry.yielded _ c.loop-entry.yielded_by _ _ c.in-None.is c.next.ensures.steps in
+    let all : c.loop-entry.yielded ≡ c.args.history.now.list = sym (map-id c.loop-entry.yielded) ∙ ended.0 in
     (c.loop-entry.invariant.0, λ m few. c.loop-entry.invariant.1 m few ∙ ap (λ (h : List Entry). tally_of h [] m) all)
 
 pub overflow_add-tallies-in-loop-log : goal.overflow_add-tallies-in-loop-log
@@ -54,7 +58,7 @@ overflow_add-tallies-in-loop-log c =
 
 pub loop-log-preserved : goal.loop-log-preserved
 loop-log-preserved c =
-    let history = c.args.history.now in
+    let history = c.args.history.now.list in
     let logs = c.args.logs.now in
     let i = c.loop-log.log-index in
     let k = c.from-m.result in
@@ -73,4 +77,4 @@ loop-log-preserved c =
 pub returns-clause-tallies : goal.returns-clause-tallies
 returns-clause-tallies c =
     let all = take_all c.loop-log.log-index c.args.logs.now c.loop-log-test.false in
-    λ m few. c.loop-log.invariant.1 m few ∙ ap (λ (logs : List PassLog). tally_of c.args.history.now logs m) all
+    λ m few. c.loop-log.invariant.1 m few ∙ ap (λ (logs : List PassLog). tally_of c.args.history.now.list logs m) all

@@ -2,7 +2,7 @@ use Rattle.std.proofs.Common.{ap}
 use Rattle.gmp_acts.proofs.Whole.{headline_of}
 use Rattle.gmp_core.specs.Whole.{Whole}
 use Rattle.gmp_core.proofs.Stock.{found}
-use Rattle.gmp_core.proofs.Together.{acts_so, awake_so, calls_so, claims_so, core_so, finds_room, fixed_so, has_pass, headline_so, opened_so, room_so, same_run, stock_so}
+use Rattle.gmp_core.proofs.Together.{acts_so, awake_so, calls_so, claims_so, core_so, finds_room, fixed_so, has_pass, headline_so, opened_so, same_run, stock_so}
 use Rattle.gmp_core.proofs.engine.Core.act.Goals as goal
 
 pub returns-in_default-clause-headline : goal.returns-in_default-clause-headline
@@ -11,67 +11,62 @@ returns-in_default-clause-headline g c = headline_of _ c.self.invariant.sound
 pub returns-in_default-clause-awake : goal.returns-in_default-clause-awake
 returns-in_default-clause-awake g c = c.self.invariant.watchful.awake
 
-pub act-made-requires-clause-pass : goal.act-made-requires-clause-pass
-act-made-requires-clause-pass g c =
+pub act-requires-clause-pass : goal.act-requires-clause-pass
+act-requires-clause-pass g c =
     let at = found c.self.inside.drivers.items c.args.m.0 c.in-Some.driver.now c.in-Some.ensures.item.3.0 c.in-Some.ensures.value in
     has_pass _ c.args.m c.in-Some.driver.now at c.self.invariant
 
-pub act-made-requires-clause-run : goal.act-made-requires-clause-run
-act-made-requires-clause-run g c =
+pub act-requires-clause-run : goal.act-requires-clause-run
+act-requires-clause-run g c =
     let at = found c.self.inside.drivers.items c.args.m.0 c.in-Some.driver.now c.in-Some.ensures.item.3.0 c.in-Some.ensures.value in
     same_run _ c.args.m c.in-Some.driver.now at c.self.invariant
 
-pub act-made-requires-clause-room : goal.act-made-requires-clause-room
-act-made-requires-clause-room g c =
+pub act-requires-clause-room : goal.act-requires-clause-room
+act-requires-clause-room g c =
     let at = found c.self.inside.drivers.items c.args.m.0 c.in-Some.driver.now c.in-Some.ensures.item.3.0 c.in-Some.ensures.value in
     finds_room _ c.args.m c.in-Some.driver.now at c.self.invariant
-
-pub note-requires : goal.note-requires
-note-requires g c =
-    let at = found c.self.inside.drivers.items c.args.m.0 c.in-Some.driver.now c.in-Some.ensures.item.3.0 c.in-Some.ensures.value in
-    record { room = room_so _ c.args.m c.in-Some.driver.now at c.self.invariant c.args.choice.now _ c.act-made.result c.act-made.ensures.does }
 
 pub invariant_of-self-2 : goal.invariant_of-self-2
 invariant_of-self-2 g c =
     let at = found c.self.inside.drivers.items c.args.m.0 c.in-Some.driver.now c.in-Some.ensures.item.3.0 c.in-Some.ensures.value in
-    rw (c.note.ensures.calls, c.note.ensures.room) (core_so _ c.args.m c.in-Some.driver.now at c.self.invariant c.args.choice.now _ c.act-made.result c.has_few.ensures c.act-made.ensures.does)
+    (core_so _ c.args.m c.in-Some.driver.now at c.self.invariant c.args.choice.now _ c.has_few.ensures c.act.ensures.does)
 
 pub returns-clause-acts : goal.returns-clause-acts
 returns-clause-acts g c =
     let at = found c.self.inside.drivers.items c.args.m.0 c.in-Some.driver.now c.in-Some.ensures.item.3.0 c.in-Some.ensures.value in
-    rw (← ap (λ (w : Whole _). w.system) c.self.view_is, c.note.ensures.calls) (acts_so _ c.args.m c.in-Some.driver.now at c.self.invariant c.args.choice.now _ c.act-made.result c.has_few.ensures c.act-made.ensures.does)
+    rw (← ap (λ (w : Whole _). w.system) c.self.view_is) (acts_so _ c.args.m c.in-Some.driver.now at c.self.invariant c.args.choice.now _ c.has_few.ensures c.act.ensures.does)
 
 pub returns-clause-stock : goal.returns-clause-stock
 returns-clause-stock g c =
     let at = found c.self.inside.drivers.items c.args.m.0 c.in-Some.driver.now c.in-Some.ensures.item.3.0 c.in-Some.ensures.value in
-    rw (← ap (λ (w : Whole _). w.stock) c.self.view_is) (stock_so _ c.args.m c.in-Some.driver.now at c.self.invariant c.args.choice.now _ c.act-made.result c.has_few.ensures c.act-made.ensures.does)
+    rw (← ap (λ (w : Whole _). w.stock) c.self.view_is) (stock_so _ c.args.m c.in-Some.driver.now at c.self.invariant c.args.choice.now _ c.has_few.ensures c.act.ensures.does)
 
 pub returns-clause-claims : goal.returns-clause-claims
 returns-clause-claims g c =
     let at = found c.self.inside.drivers.items c.args.m.0 c.in-Some.driver.now c.in-Some.ensures.item.3.0 c.in-Some.ensures.value in
-    rw (← ap (λ (w : Whole _). w.system) c.self.view_is, c.note.ensures.calls) (claims_so _ c.args.m c.in-Some.driver.now at c.self.invariant c.args.choice.now _ c.act-made.result c.has_few.ensures c.act-made.ensures.does)
+    rw (← ap (λ (w : Whole _). w.system) c.self.view_is) (claims_so _ c.args.m c.in-Some.driver.now at c.self.invariant c.args.choice.now _ c.has_few.ensures c.act.ensures.does)
 
 pub returns-clause-calls : goal.returns-clause-calls
 returns-clause-calls g c =
     let at = found c.self.inside.drivers.items c.args.m.0 c.in-Some.driver.now c.in-Some.ensures.item.3.0 c.in-Some.ensures.value in
-    rw (← ap (λ (w : Whole _). w.system) c.self.view_is) (calls_so _ c.args.m c.in-Some.driver.now at c.self.invariant c.args.choice.now _ c.act-made.result c.has_few.ensures c.act-made.ensures.does)
+    rw (← ap (λ (w : Whole _). w.system) c.self.view_is) (calls_so _ c.args.m c.in-Some.driver.now at c.self.invariant c.args.choice.now _ c.has_few.ensures c.act.ensures.does)
 
 pub returns-clause-fixed : goal.returns-clause-fixed
 returns-clause-fixed g c =
     let at = found c.self.inside.drivers.items c.args.m.0 c.in-Some.driver.now c.in-Some.ensures.item.3.0 c.in-Some.ensures.value in
-    rw (← ap (λ (w : Whole _). w.system) c.self.view_is) (fixed_so _ c.args.m c.in-Some.driver.now at c.self.invariant c.args.choice.now _ c.act-made.result c.has_few.ensures c.act-made.ensures.does c.history.ensures.listing)
+    rw (← ap (λ (w : Whole _). w.system) c.self.view_is) (fixed_so _ c.args.m c.in-Some.driver.now at c.self.invariant c.args.choice.now _ c.has_few.ensures c.act.ensures.does c.history.ensures.listing)
 
 pub returns-clause-headline : goal.returns-clause-headline
 returns-clause-headline g c =
     let at = found c.self.inside.drivers.items c.args.m.0 c.in-Some.driver.now c.in-Some.ensures.item.3.0 c.in-Some.ensures.value in
-    rw (c.note.ensures.calls) (headline_so _ c.args.m c.in-Some.driver.now at c.self.invariant c.args.choice.now _ c.act-made.result c.has_few.ensures c.act-made.ensures.does)
+    (headline_so _ c.args.m c.in-Some.driver.now at c.self.invariant c.args.choice.now _ c.has_few.ensures c.act.ensures.does)
 
 pub returns-clause-awake : goal.returns-clause-awake
 returns-clause-awake g c =
     let at = found c.self.inside.drivers.items c.args.m.0 c.in-Some.driver.now c.in-Some.ensures.item.3.0 c.in-Some.ensures.value in
-    awake_so _ c.args.m c.in-Some.driver.now at c.self.invariant c.args.choice.now _ c.act-made.result c.has_few.ensures c.act-made.ensures.does
+    awake_so _ c.args.m c.in-Some.driver.now at c.self.invariant c.args.choice.now _ c.has_few.ensures c.act.ensures.does
 
 pub returns-clause-opened : goal.returns-clause-opened
 returns-clause-opened g c =
     let at = found c.self.inside.drivers.items c.args.m.0 c.in-Some.driver.now c.in-Some.ensures.item.3.0 c.in-Some.ensures.value in
-    rw (← ap (λ (w : Whole _). w.system) c.self.view_is) (opened_so _ c.args.m c.in-Some.driver.now at c.self.invariant c.args.choice.now _ c.act-made.result c.has_few.ensures c.act-made.ensures.does)
+    rw (← ap (λ (w : Whole _). w.system) c.self.view_is) (opened_so _ c.args.m c.in-Some.driver.now at c.self.invariant c.args.choice.now _ c.has_few.ensures c.act.ensures.does)

@@ -7,27 +7,24 @@ use Rattle.gmp_core.proofs.engine.Core.open.Goals as goal
 pub starting-requires-clause-room : goal.starting-requires-clause-room
 starting-requires-clause-room g c =
     let long : length c.in-Ok-open.passes.items ≡ c.args.limits.machines = ap (λ (l : List Pass). length l) c.in-Ok-open.ensures.passes ∙ passes_long c.args.run c.args.limits.machines in
-    let room : c.args.limits.machines ≤ vec_capacity c.in-Ok-with_capacity-2.room = search rules in
+    let room : c.args.limits.machines ≤ vec_capacity c.in-Ok-with_capacity.room = search rules in
     omega (arith, long, room)
 
 pub invariant_of-result : goal.invariant_of-result
 invariant_of-result g c =
     let within : AreLimits c.args.limits (length c.args.bodies.items) c.args.capacities.now = c.in-Ok-open.ensures.within.0 in
-    let calls : c.in-Ok-with_capacity.calls.items ≡ [] = c.in-Ok-with_capacity.ensures.items in
     let queues : c.in-Ok.queues.queues ≡ replicate c.args.limits.procs [] = search rules in
     let room : c.in-Ok.queues.room ≡ length c.args.bodies.items = search rules in
-    let entries : c.args.limits.entries ≤ vec_capacity c.in-Ok-with_capacity.calls = search rules in
     rw (c.in-Ok-open.ensures.book, c.starting.ensures, c.in-Ok-open.ensures.passes)
-    (opening_core c.args.run c.args.limits c.args.capacities.now c.args.bodies.items c.in-Ok-vec.owners.items (vec_capacity c.in-Ok-with_capacity.calls) c.in-Ok.queues c.in-Ok-with_capacity.calls.items queues calls within room entries)
+    (opening_core c.args.run c.args.limits c.args.capacities.now c.args.bodies.items c.in-Ok-vec.owners.items c.in-Ok.queues queues within room)
 
 pub returns-in-Ok-open-clause-system : goal.returns-in-Ok-open-clause-system
 returns-in-Ok-open-clause-system g c =
-    let calls : c.in-Ok-with_capacity.calls.items ≡ [] = c.in-Ok-with_capacity.ensures.items in
     let queues : c.in-Ok.queues.queues ≡ replicate c.args.limits.procs [] = search rules in
     rw (c.in-Ok-open.ensures.book, c.starting.ensures, c.in-Ok-open.ensures.passes)
-    (opening_is c.args.run c.args.limits c.args.capacities.now c.args.bodies.items c.in-Ok-vec.owners.items (vec_capacity c.in-Ok-with_capacity.calls) c.in-Ok.queues c.in-Ok-with_capacity.calls.items queues calls)
+    (opening_is c.args.run c.args.limits c.args.capacities.now c.args.bodies.items c.in-Ok-vec.owners.items c.in-Ok.queues queues)
 
 pub returns-in-Ok-open-clause-stock : goal.returns-in-Ok-open-clause-stock
 returns-in-Ok-open-clause-stock g c =
     rw (c.in-Ok-open.ensures.book, c.starting.ensures, c.in-Ok-open.ensures.passes)
-    (opening_stock c.args.run c.args.limits c.args.capacities.now c.args.bodies.items c.in-Ok-vec.owners.items (vec_capacity c.in-Ok-with_capacity.calls))
+    (opening_stock c.args.run c.args.limits c.args.capacities.now c.args.bodies.items c.in-Ok-vec.owners.items)

@@ -1,4 +1,5 @@
-use Rattle.gmp_ledger.proofs.Common.{subst, arith, rules, IsInOrder, Grants, goroutine_in, processor_in, log_of, Log}
+use Rattle.gmp_history.specs.Brief.{HistoryContents}
+use Rattle.gmp_ledger.proofs.Common.{ap, refl, subst, arith, rules, IsInOrder, Grants, goroutine_in, processor_in, log_of, Log}
 use Rattle.gmp_ledger.proofs.Granted.{in_order, kept_on, may_go}
 use Rattle.gmp_ledger.specs.Scene.{scheduler_state}
 use Rattle.gmp_ledger.proofs.ledger.Ledger.accept.Goals as goal
@@ -17,8 +18,8 @@ count_one-requires-clause-there c = rw c.in_ok-reply.ensures.rest.counts (may_go
 pub count_one-requires-clause-few : goal.count_one-requires-clause-few
 count_one-requires-clause-few c = rw c.in_ok-reply.ensures.rest.counts (may_go _ _ _ c.args.pass.now c.args.call c.args.values.now c.self.view_is c.self.invariant.0 c.requires.suits c.requires.allowed).few
 
-pub push_reserved-requires : goal.push_reserved-requires
-push_reserved-requires c =
+pub push-requires : goal.push-requires
+push-requires c =
     let may = (may_go _ _ _ c.args.pass.now c.args.call c.args.values.now c.self.view_is c.self.invariant.0 c.requires.suits c.requires.allowed) in
     omega (arith, may.room)
 
@@ -31,8 +32,8 @@ pub invariant_of-self-2 : goal.invariant_of-self-2
 invariant_of-self-2 c =
     let k = c.in_ok-reply in
     let rest = k.ensures.rest in (
-      kept_on (log_of c.self.inside) _ c.args.pass.now c.self.invariant.0 (may_go _ _ _ c.args.pass.now c.args.call c.args.values.now c.self.view_is c.self.invariant.0 c.requires.suits c.requires.allowed).current c.args.call k.reply (scheduler_state c.effect.new.self) c.new.result _ _ (k.ensures.effect _ _) rest.counts
-          c.new.ensures.value c.new.ensures.fits (search rules) c.push_reserved.ensures.capacity,
+      kept_on (log_of c.self.inside) _ c.args.pass.now c.self.invariant.0 (may_go _ _ _ c.args.pass.now c.args.call c.args.values.now c.self.view_is c.self.invariant.0 c.requires.suits c.requires.allowed).current c.args.call k.reply (scheduler_state c.effect.new.self) (record { m = c.args.pass.now.m; k = c.args.pass.now.calls; call = c.args.call; reply = k.reply }) _ _ (k.ensures.effect _ _) rest.counts
+          refl c.push.ensures.fits (search rules) (ap (λ (h : HistoryContents). h.room) c.push.ensures.list),
       record { channels = rw (c.count_one.ensures.rest, rest.limit) c.self.invariant.1.channels; machines = rw (c.count_one.ensures.rest, rest.machines) c.self.invariant.1.machines },
     )
 
