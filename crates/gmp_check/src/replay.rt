@@ -10,6 +10,7 @@ ghost use Rattle.gmp_check.specs.Replayed.{EndsWith, IsOpenError, IsReplayError}
 
 use crate::error::{OpenError, OutOfMemory, ReplayError};
 use crate::state::State;
+use gmp_history::History;
 use gmp_seq::{Entry, Limits, Outcome};
 use gmp_trace::{Watch, Work, tell};
 use std::alloc::Global;
@@ -84,11 +85,11 @@ pub fn outcome_of(
     limits: Limits,
     bodies: u16,
     capacities: &[u32],
-    entries: &[Entry],
+    entries: &History,
 ) -> Result<Option<Outcome>, ReplayError>
     ensures within { OnOk result (AreLimits limits bodies capacities.now) }
-    ensures ends { IfOk result (EndsWith limits bodies capacities.now entries.now) }
-    ensures why { IfErr result (IsReplayError limits bodies capacities.now entries.now) }
+    ensures ends { IfOk result (EndsWith limits bodies capacities.now entries.now.list) }
+    ensures why { IfErr result (IsReplayError limits bodies capacities.now entries.now.list) }
 {
     outcome_watched(alloc, limits, bodies, capacities, entries, &mut ())
 }
@@ -99,17 +100,17 @@ pub(crate) fn outcome_watched<W: Watch>(
     limits: Limits,
     bodies: u16,
     capacities: &[u32],
-    entries: &[Entry],
+    entries: &History,
     watch: &mut W,
 ) -> Result<Option<Outcome>, ReplayError>
     ensures within { OnOk result (AreLimits limits bodies capacities.now) }
-    ensures ends { IfOk result (EndsWith limits bodies capacities.now entries.now) }
-    ensures why { IfErr result (IsReplayError limits bodies capacities.now entries.now) }
+    ensures ends { IfOk result (EndsWith limits bodies capacities.now entries.now.list) }
+    ensures why { IfErr result (IsReplayError limits bodies capacities.now entries.now.list) }
 {
     let mut replay = Replay::open(alloc, limits, bodies, capacities)?;
     for (i, entry) in entries.iter().enumerate() {
         tell(watch, Work::Checking, i as u64);
-        if !replay.step(entry)? {
+        if !replay.step(&entry)? {
             return Err(ReplayError::NoStep(i));
         }
     }

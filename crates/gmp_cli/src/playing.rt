@@ -12,8 +12,9 @@ use crate::clock::Clock;
 use gmp_acts::Choice;
 use gmp_base::{Ask, Body, MNo, Refusal, Refused};
 use gmp_core::{Core, Want};
+use gmp_history::History;
 use gmp_script::ScriptBody;
-use gmp_seq::{Entry, Limits, Outcome};
+use gmp_seq::{Limits, Outcome};
 use std::alloc::Global;
 
 /// The number of the run: there is one.
@@ -192,8 +193,8 @@ impl Player {
     }
 
     /// Every call so far.
-    pub(crate) fn history(&self) -> &[Entry]
-        ensures entries { result.now ≡ self.now.core.system.book.history }
+    pub(crate) fn history(&self) -> &History
+        ensures entries { result.now.list ≡ self.now.core.system.book.history }
         ensures headline { HeadlineOf self.now.core.system }
         ensures within { AreLimits self.now.core.system.book.limits self.now.core.system.book.bodies self.now.core.system.book.capacities }
         ensures fits { All Fits self.now.core.system.book.history }

@@ -65,6 +65,18 @@ impl History {
         }
     }
 
+    /// These entries.
+    pub fn of(alloc: Global, entries: &[Entry]) -> Result<Self, AllocError>
+        ensures { IfOk result (λ h. h.list ≡ entries.now) }
+    {
+        let mut history = History::new(alloc);
+        for entry in entries {
+            history.make_room()?;
+            history.push(entry.m, entry.k, &entry.call, &entry.reply);
+        }
+        Ok(history)
+    }
+
     /// Makes room for one more, by memory where that is wanted. It is refused where memory is, and behind 4,294,967,295 entries.
     pub fn make_room(&mut self) -> Result<(), AllocError>
         ensures list { self.new.list ≡ self.old.list }

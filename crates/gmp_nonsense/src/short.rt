@@ -18,10 +18,6 @@ pub enum Short {
     Late,
     #[error("it has no end")]
     Endless,
-    #[error("the machines made {0} calls, and there are {1} entries")]
-    OtherCount(usize, usize),
-    #[error("call {0} is not what its entry says")]
-    OtherCall(usize),
     #[error("the plain scheduler says: {0}")]
     Replay(ReplayError),
     #[error("the plain scheduler has another outcome")]

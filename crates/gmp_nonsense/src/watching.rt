@@ -56,7 +56,7 @@ impl Watch {
             };
         }
         match core.history().last() {
-            Some(entry) if added == 1 => self.called(m, wants, entry),
+            Some(entry) if added == 1 => self.called(m, wants, &entry),
             _ if added == 0 => self.passed(m, wants, choice.unsure),
             _ => Err(Short::OtherEntries(m.0)),
         }

@@ -6,7 +6,8 @@ use crate::judging::changes::changes;
 use crate::opening::{Line, Opening, end_line, put_lines};
 use crate::short::Short;
 use gmp_check::ReplayError;
-use gmp_seq::Entry;
+use gmp_history::History;
+use gmp_seq::{Entry, Outcome};
 use gmp_trace::read_entry;
 use std::alloc::{AllocError, Global};
 
@@ -76,8 +77,13 @@ impl Judge<'_> {
         self.end(&opening, end)
     }
 
+    /// The outcome of the entries so far.
+    fn outcome(&self, opening: &Opening) -> Result<Option<Outcome>, Short> {
+        opening.outcome(self.alloc, &History::of(self.alloc, &self.entries)?)
+    }
+
     fn end(&self, opening: &Opening, line: &str) -> Result<(), Short> {
-        let outcome = opening.outcome(self.alloc, &self.entries)?;
+        let outcome = self.outcome(opening)?;
         let said = end_line(self.alloc, outcome)?;
         if said.as_str() == line {
             Ok(())
@@ -121,7 +127,7 @@ impl Judge<'_> {
     /// The entry of a line is a step here.
     fn is_step(&mut self, opening: &Opening, line: &str) -> Result<(), Short> {
         self.push(line)?;
-        let outcome = opening.outcome(self.alloc, &self.entries);
+        let outcome = self.outcome(opening);
         self.entries.pop();
         match outcome {
             Ok(_) => Ok(()),

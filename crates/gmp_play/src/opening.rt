@@ -2,7 +2,8 @@
 
 use crate::short::Short;
 use crate::words::line_of;
-use gmp_seq::{Entry, Limits, Outcome};
+use gmp_history::History;
+use gmp_seq::{Limits, Outcome};
 use gmp_trace::{End, put_end, read_capacities, read_limits};
 use std::alloc::Global;
 
@@ -65,7 +66,7 @@ impl Opening {
     }
 
     /// The outcome of these entries, by the plain scheduler.
-    pub fn outcome(&self, alloc: Global, entries: &[Entry]) -> Result<Option<Outcome>, Short> {
+    pub fn outcome(&self, alloc: Global, entries: &History) -> Result<Option<Outcome>, Short> {
         match gmp_check::outcome_of(alloc, self.limits, self.bodies, &self.capacities, entries) {
             Ok(outcome) => Ok(outcome),
             Err(why) => Err(Short::Replayed(why)),

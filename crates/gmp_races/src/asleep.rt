@@ -1,6 +1,7 @@
 //! Whether work is left asleep.
 
 use gmp_base::MNo;
+use gmp_history::History;
 use gmp_seq::{Call, Entry, Mode, Reply};
 use std::alloc::{AllocError, Global};
 
@@ -66,11 +67,11 @@ impl State {
 pub fn leaves_work_asleep(
     alloc: Global,
     machines: u8,
-    history: &[Entry],
+    history: &History,
 ) -> Result<bool, AllocError> {
     let mut state = State::opening(alloc, machines)?;
-    for entry in history {
-        state.note(entry);
+    for entry in history.iter() {
+        state.note(&entry);
         if state.is_asleep() {
             return Ok(true);
         }

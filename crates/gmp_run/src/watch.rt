@@ -35,6 +35,7 @@
 use crate::processors::Processors;
 use crate::set::Set;
 use gmp_base::{GNo, MNo};
+use gmp_history::History;
 use gmp_seq::{Call, Entry, Reply};
 use std::alloc::{AllocError, Global};
 
@@ -185,11 +186,11 @@ impl Watch {
     }
 
     /// Notes the last entry, unless it is noted.
-    pub fn note_last(&mut self, history: &[Entry]) {
+    pub fn note_last(&mut self, history: &History) {
         if history.len() > self.noted {
             self.noted = history.len();
             if let Some(entry) = history.last() {
-                self.note(entry);
+                self.note(&entry);
             }
         }
     }

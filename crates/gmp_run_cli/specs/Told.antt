@@ -17,7 +17,7 @@ use Rattle.gmp_words.specs.Runs.{status_of}
 -- the trace of a report, of a run that was opened with these capacities
 abbrev pub trace_of : {T : Type 0} → List ℕ → Report T → Content
 trace_of capacities r =
-    record { limits = r.limits; bodies = length r.bodies.items; capacities = capacities; entries = r.history.items; end = end_of (Some r.outcome) }
+    record { limits = r.limits; bodies = length r.bodies.items; capacities = capacities; entries = r.history.list; end = end_of (Some r.outcome) }
 
 -- the trace's text went out where it is asked for, and else its summary
 abbrev pub IsPrinted : Bool → Content → Option (List ℕ) → Option (List ℕ) → Type 0
@@ -26,11 +26,11 @@ IsPrinted false x old new = Appends old new (summary_text x)
 
 -- each machine's logs say how many of the entries are its own
 abbrev pub AllAgree : {T : Type 0} → Report T → Type 0
-AllAgree r = (m : ℕ) → m < 2 ^ 8 → AgreesWithLogs r.history.items r.logs.items m
+AllAgree r = (m : ℕ) → m < 2 ^ 8 → AgreesWithLogs r.history.list r.logs.items m
 
 -- m is the least machine whose logs don't
 abbrev pub IsLeast : {T : Type 0} → Report T → MNo → Type 0
-IsLeast r m = (e : Mismatch) × IsMismatch r.history.items r.logs.items e × e.m ≡ m
+IsLeast r m = (e : Mismatch) × IsMismatch r.history.list r.logs.items e × e.m ≡ m
 
 -- every machine agrees, and the trace or the summary of the run, which ended so, was written
 pub record Prints {T : Type 0} (shows_trace : Bool) (capacities : List ℕ) (r : Report T) (end : End) (old new : Option (List ℕ)) : Type 0 where

@@ -86,7 +86,7 @@ impl Making {
 
     /// The last entry is this make, by the number of the machine's next call.
     fn is_entered(&self, capacity: u32) -> bool {
-        let is_make = |entry: &Entry| {
+        let is_make = |entry: Entry| {
             entry.m == MNo(0)
                 && entry.k == self.count()
                 && matches!(entry.call, Call::Make(n) if n == capacity)

@@ -3,8 +3,9 @@
 use crate::short::Short;
 use crate::threads::Last;
 use gmp_base::{Ask, Body, GNo, Refusal, Woke};
+use gmp_history::History;
 use gmp_run::{Open, Report, Unrun, run};
-use gmp_seq::{Call, Entry, Limits, Outcome};
+use gmp_seq::{Call, Limits, Outcome};
 use gmp_worker::{Boxed, audit};
 use std::alloc::Global;
 use std::sync::Wait;
@@ -80,9 +81,9 @@ fn are_in_order(bodies: &mut Vec<Boxed>) -> bool {
 }
 
 /// How many makes, puts and exits there are.
-fn counts(history: &[Entry]) -> [usize; 3] {
+fn counts(history: &History) -> [usize; 3] {
     let mut counts = [0usize; 3];
-    for entry in history {
+    for entry in history.iter() {
         let place = match entry.call {
             Call::Make(_) => 0,
             Call::Put(_) => 1,

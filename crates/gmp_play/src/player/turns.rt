@@ -132,8 +132,9 @@ impl Player {
     /// The last entry, as a trace writes it.
     fn last_line(&self, book: &Desk) -> Result<String, Short> {
         let mut text = Vec::new(self.alloc);
-        if let Some((entry, earlier)) = book.history().split_last() {
-            put_entry(&mut text, earlier.len() as u64, entry)?;
+        let history = book.history();
+        if let Some(entry) = history.last() {
+            put_entry(&mut text, history.len() as u64 - 1, &entry)?;
         }
         line_of(text)
     }

@@ -1,6 +1,7 @@
 //! Audits of a history of one machine.
 
 use gmp_base::MNo;
+use gmp_history::History;
 use gmp_seq::{Call, Entry, Reply};
 use gmp_worker::{Mismatch, PassLog, audit};
 
@@ -22,7 +23,8 @@ fn mismatch(said: u64) -> Result<(), Mismatch> {
 
 #[test]
 fn one_log_says_how_many_entries_there_are(rt: HostRuntime) {
-    let history = [0, 1, 2, 3, 4, 5, 6].map(entry);
+    let entries = [0, 1, 2, 3, 4, 5, 6].map(entry);
+    let history = History::of(rt.alloc(), &entries).expect(&rt, "memory");
     for (logs, want) in [
         (&[log(7)][..], Ok(())),
         (&[log(6)][..], mismatch(6)),

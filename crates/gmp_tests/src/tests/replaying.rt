@@ -1,6 +1,7 @@
 //! Want of memory: run with each allocation refused in turn. And what no trace can say, since two replies are spelled alike.
 use gmp_base::{CNo, Fault, GNo, MNo, PNo, Readiness};
 use gmp_check::{OpenError, OutOfMemory, Replay, ReplayError, outcome_of};
+use gmp_history::History;
 use gmp_seq::{Call, Entry, Limits, Outcome, Reply};
 use std::process::Abort;
 
@@ -71,9 +72,13 @@ fn a_make_that_is_refused_memory_can_be_made_again(rt: HostRuntime) {
 
 #[test]
 fn want_of_memory_is_told(rt: HostRuntime) {
-    let outcome = outcome_of(rt.alloc(), LIMITS, 1, &[3], &[]);
+    let none = History::new(rt.alloc());
+    let outcome = outcome_of(rt.alloc(), LIMITS, 1, &[3], &none);
     assert!(rt; outcome == Ok(None) || outcome == Err(ReplayError::OutOfMemory));
-    let outcome = outcome_of(rt.alloc(), LIMITS, 1, &[], &makes());
+    let Ok(history) = History::of(rt.alloc(), &makes()) else {
+        return;
+    };
+    let outcome = outcome_of(rt.alloc(), LIMITS, 1, &[], &history);
     assert!(rt;
         outcome == Ok(Some(Outcome::MainEnded)) || outcome == Err(ReplayError::OutOfMemory)
     );

@@ -1,7 +1,8 @@
 //! Two machines, one of which steals.
-use gmp_acts::{Choice, Made};
+use gmp_acts::Choice;
 use gmp_base::{Ask, GNo, MNo, PNo, Readiness};
 use gmp_core::{Core, Want};
+use gmp_history::History;
 use gmp_seq::{Call, Limits, Reply};
 use std::alloc::Global;
 use std::process::Abort;
@@ -58,7 +59,7 @@ fn first_of(g: u16) -> Readiness {
 }
 
 /// Machine 1 claims goroutine 1, of those that it stole, and puts goroutine 2, whose push is refused, on the shelf.
-fn steals(rt: &impl Abort, calls: &[Made]) {
+fn steals(rt: &impl Abort, history: &History) {
     let replies = [
         Reply::Proc(PNo(1)),
         Reply::Nothing,
@@ -69,14 +70,14 @@ fn steals(rt: &impl Abort, calls: &[Made]) {
         Reply::Held,
     ];
     let mut at = 0;
-    for made in calls {
-        if made.m == MNo(1) {
-            assert_eq!(rt; replies.get(at).copied(), Some(made.reply));
+    for entry in history.iter() {
+        if entry.m == MNo(1) {
+            assert_eq!(rt; replies.get(at).copied(), Some(entry.reply));
             at += 1;
         }
-        match &made.call {
+        match &entry.call {
             Call::Put(r) => assert_eq!(rt; *r, first_of(2)),
-            Call::Claim(r) => assert!(rt; made.m == MNo(0) || *r == first_of(1)),
+            Call::Claim(r) => assert!(rt; entry.m == MNo(0) || *r == first_of(1)),
             _ => {}
         }
     }
@@ -90,7 +91,6 @@ fn a_machine_steals_and_its_push_is_refused(rt: HostRuntime) {
     let moves: Vec<(MNo, Choice)> = (0..27).map(nth_move).collect(alloc).expect(&rt, "memory");
     core.run(&moves);
     have_bodies(&rt, &mut core);
-    steals(&rt, core.own());
-    assert_eq!(rt; core.history().len(), core.own().len());
+    steals(&rt, core.history());
     assert_eq!(rt; core.close(), None);
 }

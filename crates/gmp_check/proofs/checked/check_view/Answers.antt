@@ -10,14 +10,14 @@ pub line_of-requires : goal.line_of-requires
 line_of-requires g c =
     let t = c.args.trace in
     let k = c.in-Ok-2 in
-    few_entries t.limits t.bodies t.capacities.now t.entries.now k.field-0 k.ensures.within k.ensures.ends
+    few_entries t.limits t.bodies t.capacities.now t.entries.now.list k.field-0 k.ensures.within k.ensures.ends
 
 pub line_of-requires-in-Err-NoStep : goal.line_of-requires-in-Err-NoStep
 line_of-requires-in-Err-NoStep g c =
     let t = c.args.trace in
     let k = c.in-Err-NoStep in
-    let told = subst (IsReplayError t.limits t.bodies t.capacities.now t.entries.now) k.field-0-is k.ensures.why in
-    rw k.i-is (few_before t.limits t.bodies t.capacities.now t.entries.now k.i told.0 told.1)
+    let told = subst (IsReplayError t.limits t.bodies t.capacities.now t.entries.now.list) k.field-0-is k.ensures.why in
+    rw k.i-is (few_before t.limits t.bodies t.capacities.now t.entries.now.list k.i told.0 told.1)
 
 pub returns-in-Ok-2-clause-exact : goal.returns-in-Ok-2-clause-exact
 returns-in-Ok-2-clause-exact g c outcome right =

@@ -11,7 +11,7 @@ pub returns-in-Ok-written-clause-traced : goal.returns-in-Ok-written-clause-trac
 returns-in-Ok-written-clause-traced g c = λ nothing.
     let s = c.args.settings.now in
     let script = c.args.script in
-    let x : Content = record { limits = c.limits-limits.result; bodies = c.len-count.result; capacities = c.deref-2.result.now; entries = c.history.result.now; end = c.of-end.result } in
+    let x : Content = record { limits = c.limits-limits.result; bodies = c.len-count.result; capacities = c.deref-2.result.now; entries = c.history.result.now.list; end = c.of-end.result } in
     let opened : stage c.in-Ok.player ≡ opening_stage (limits_of s) script.capacities.items script.readings.items script.bodies.items =
     c.in-Ok.ensures.stage ∙ ap (λ (l : Limits). opening_stage l c.deref.result.now script.readings.items script.bodies.items) c.limits-limits.ensures
     ∙ ap (λ (cs : List ℕ). opening_stage (limits_of s) cs script.readings.items script.bodies.items) c.deref.ensures.value in
