@@ -9,8 +9,8 @@ returns-in_err-out-clause-begun g c = on_refusal _ _ (AppendsStart-none _ _)
 pub returns-in_err-put_opening-clause-begun : goal.returns-in_err-put_opening-clause-begun
 returns-in_err-put_opening-clause-begun g c = on_refusal _ _ (AppendsStart-none _ _)
 
-pub returns-in_err-put_entry-clause-begun : goal.returns-in_err-put_entry-clause-begun
-returns-in_err-put_entry-clause-begun g c = on_refusal _ _ (AppendsStart-longer _ _ _ _ _ c.loop-number.invariant)
+pub returns-in_err-put_entry_by-clause-begun : goal.returns-in_err-put_entry_by-clause-begun
+returns-in_err-put_entry_by-clause-begun g c = on_refusal _ _ (AppendsStart-longer _ _ _ _ _ c.loop-number.invariant)
 
 pub loop-number-preserved : goal.loop-number-preserved
 loop-number-preserved g c =
@@ -18,7 +18,7 @@ loop-number-preserved g c =
     let n = c.loop-number.number in
     let at = c.entry-item.is in
     let next = entries_text-next n es c.entry-item.result c.loop-number.out.items (omega arith) at in
-    let owed = rw (next, ← c.in_ok-put_entry.ensures) at c.loop-number.invariant in
+    let owed = rw (next, ← c.in_ok-put_entry_by.ensures) at c.loop-number.invariant in
     elim c.if-len-ge-GATHERED.branch [
       | then-len-ge-GATHERED+in_ok-send w ↦
           let paid = Owes-paid _ _ _ _ _ _ owed w.in_ok-send.ensures.sent in
