@@ -71,7 +71,7 @@ fn place_long(line: &mut [u8], at: usize, n: u64) -> usize
     place(line, at, buffer.format(n).as_bytes())
 }
 
-/// The digits of a number, most often of two or more.
+/// The digits of a number. It stands apart, so that the test for one digit alone is inlined.
 #[inline(never)]
 fn place_more(line: &mut [u8], at: usize, n: u64) -> usize
     requires { at + 20 ≤ length line.old }

@@ -1,4 +1,5 @@
-//! Puts words at a place in a line that has room for them, and answers where they end.
+//! Puts words at a place in a line that has room for them, and answers where they end. Each bound is as if every number
+//! in the words had 20 digits.
 
 ghost use Rattle.std.specs.Prelude.{◌≡◌, ◌+◌, ◌<◌, ◌≤◌, [], ◌∷◌, ◌++◌, length, take, decimal};
 ghost use Rattle.gmp_trace.specs.Text.{boolean, channel_text, case_text, piece_text};
