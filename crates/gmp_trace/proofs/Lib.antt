@@ -11,6 +11,7 @@ pub mod Rows
 pub mod Lines
 pub mod Opening
 pub mod Body
+pub mod Pairs
 pub mod Parts
 pub mod OneFault
 pub mod Counting

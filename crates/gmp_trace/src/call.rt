@@ -1,77 +1,95 @@
 //! The words of a call.
 
-ghost use Rattle.std.specs.Prelude.{◌≡◌, ◌++◌, OnOk, map};
+ghost use Rattle.std.specs.Prelude.{◌≡◌, ◌+◌, ◌*◌, ◌≤◌, ◌++◌, OnOk, length, take, map};
 ghost use Rattle.gmp_trace.specs.Text.{fields, call_pieces, default_pieces, until_pieces};
 ghost use Rattle.gmp_trace.specs.Text.Piece.{OfCase};
 
-use crate::put::{
-    put_case, put_named, put_named_channel, put_named_readiness, put_number, put_word,
+use crate::place::{
+    place_case, place_named, place_named_channel, place_named_readiness, place_number, place_word,
 };
 use gmp_base::Case;
 use gmp_seq::Call;
 use std::alloc::AllocError;
 
-fn put_cases(out: &mut Vec<u8>, cases: &[Case]) -> Result<(), AllocError>
-    ensures { OnOk result (out.new.items ≡ out.old.items ++ fields (map OfCase cases.now)) }
+fn place_cases(line: &mut [u8], at: usize, cases: &[Case]) -> usize
+    requires { at + 47 * length cases.now ≤ length line.old }
+    ensures text { take result line.new ≡ take at line.old ++ fields (map OfCase cases.now) }
+    ensures end { result ≤ at + 47 * length cases.now }
 {
+    let mut end = at;
     for case in cases {
-        put_case(out, *case)?;
+        end = place_case(line, end, *case);
     }
-    Ok(())
+    end
 }
 
-fn put_options(out: &mut Vec<u8>, has_default: bool, until: Option<u64>) -> Result<(), AllocError>
-    ensures { OnOk result (out.new.items ≡ out.old.items ++ fields (default_pieces has_default ++ until_pieces until)) }
+fn place_options(line: &mut [u8], at: usize, has_default: bool, until: Option<u64>) -> usize
+    requires { at + 35 ≤ length line.old }
+    ensures text { take result line.new ≡ take at line.old ++ fields (default_pieces has_default ++ until_pieces until) }
+    ensures end { result ≤ at + 35 }
 {
-    if has_default {
-        put_word(out, b"default")?;
+    let at = if has_default {
+        place_word(line, at, b"default")
+    } else {
+        at
+    };
+    match until {
+        None => at,
+        Some(moment) => place_named(line, at, b"until", moment),
     }
-    if let Some(moment) = until {
-        put_named(out, b"until", moment)?;
-    }
-    Ok(())
 }
 
 /// The words of a call, each with a space before it.
+pub fn place_call(line: &mut [u8], at: usize, call: &Call) -> usize
+    requires { at + 420 ≤ length line.old }
+    ensures text { take result line.new ≡ take at line.old ++ fields (call_pieces call.now) }
+    ensures end { result ≤ at + 420 }
+{
+    match call {
+        Call::Acquire => place_word(line, at, b"acquire"),
+        Call::Take => place_word(line, at, b"take"),
+        Call::Put(r) => place_named_readiness(line, at, b"put", *r),
+        Call::Claim(r) => place_named_readiness(line, at, b"claim", *r),
+        Call::Go(g) => place_named(line, at, b"go", u64::from(g.0)),
+        Call::Yield => place_word(line, at, b"yield"),
+        Call::Exit => place_word(line, at, b"exit"),
+        Call::Make(capacity) => place_named(line, at, b"make", u64::from(*capacity)),
+        Call::Send(c, value) => {
+            let at = place_named_channel(line, at, b"send", *c);
+            place_number(line, at, *value)
+        }
+        Call::Recv(c) => place_named_channel(line, at, b"recv", *c),
+        Call::Close(c) => place_named_channel(line, at, b"close", *c),
+        Call::Len(c) => place_named_channel(line, at, b"len", *c),
+        Call::Cap(c) => place_named_channel(line, at, b"cap", *c),
+        Call::Procs(n) => place_named(line, at, b"procs", u64::from(*n)),
+        Call::Select(cases, has_default, until) => {
+            let at = place_word(line, at, b"select");
+            let at = place_cases(line, at, cases.as_slice());
+            place_options(line, at, *has_default, *until)
+        }
+        Call::Sleep(until) => place_named(line, at, b"sleep", *until),
+        Call::Gopark => place_word(line, at, b"gopark"),
+        Call::Ready(g) => place_named(line, at, b"ready", u64::from(g.0)),
+        Call::Enter => place_word(line, at, b"enter"),
+        Call::Leave(number) => place_named(line, at, b"leave", *number),
+        Call::Spin => place_word(line, at, b"spin"),
+        Call::Woken => place_word(line, at, b"woken"),
+        Call::Keep => place_word(line, at, b"keep"),
+        Call::Unspin => place_word(line, at, b"unspin"),
+        Call::Poke => place_word(line, at, b"poke"),
+        Call::Declare => place_word(line, at, b"declare"),
+        Call::Bare => place_word(line, at, b"bare"),
+        Call::Park => place_word(line, at, b"park"),
+        Call::Tick(moment) => place_named(line, at, b"tick", *moment),
+    }
+}
+
+/// The words of a call, at the end of a text.
 pub fn put_call(out: &mut Vec<u8>, call: &Call) -> Result<(), AllocError>
     ensures { OnOk result (out.new.items ≡ out.old.items ++ fields (call_pieces call.now)) }
 {
-    match call {
-        Call::Acquire => put_word(out, b"acquire"),
-        Call::Take => put_word(out, b"take"),
-        Call::Put(r) => put_named_readiness(out, b"put", *r),
-        Call::Claim(r) => put_named_readiness(out, b"claim", *r),
-        Call::Go(g) => put_named(out, b"go", u64::from(g.0)),
-        Call::Yield => put_word(out, b"yield"),
-        Call::Exit => put_word(out, b"exit"),
-        Call::Make(capacity) => put_named(out, b"make", u64::from(*capacity)),
-        Call::Send(c, value) => {
-            put_named_channel(out, b"send", *c)?;
-            put_number(out, *value)
-        }
-        Call::Recv(c) => put_named_channel(out, b"recv", *c),
-        Call::Close(c) => put_named_channel(out, b"close", *c),
-        Call::Len(c) => put_named_channel(out, b"len", *c),
-        Call::Cap(c) => put_named_channel(out, b"cap", *c),
-        Call::Procs(n) => put_named(out, b"procs", u64::from(*n)),
-        Call::Select(cases, has_default, until) => {
-            put_word(out, b"select")?;
-            put_cases(out, cases.as_slice())?;
-            put_options(out, *has_default, *until)
-        }
-        Call::Sleep(until) => put_named(out, b"sleep", *until),
-        Call::Gopark => put_word(out, b"gopark"),
-        Call::Ready(g) => put_named(out, b"ready", u64::from(g.0)),
-        Call::Enter => put_word(out, b"enter"),
-        Call::Leave(number) => put_named(out, b"leave", *number),
-        Call::Spin => put_word(out, b"spin"),
-        Call::Woken => put_word(out, b"woken"),
-        Call::Keep => put_word(out, b"keep"),
-        Call::Unspin => put_word(out, b"unspin"),
-        Call::Poke => put_word(out, b"poke"),
-        Call::Declare => put_word(out, b"declare"),
-        Call::Bare => put_word(out, b"bare"),
-        Call::Park => put_word(out, b"park"),
-        Call::Tick(moment) => put_named(out, b"tick", *moment),
-    }
+    let mut room = [0; 420];
+    let end = place_call(&mut room, 0, call);
+    out.extend_from_slice(&room[..end])
 }

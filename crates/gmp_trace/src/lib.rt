@@ -11,10 +11,12 @@
 mod at;
 mod bad;
 mod call;
+mod digits;
 mod guess;
 mod guess_reply;
 pub mod laws;
 mod line;
+mod place;
 mod put;
 mod reading;
 mod reply;

@@ -1,14 +1,19 @@
 //! Lines of the text.
 
-ghost use Rattle.std.specs.Prelude.{◌≡◌, ◌++◌, OnOk};
+ghost use Rattle.std.specs.Prelude.{◌≡◌, ◌≤◌, ◌++◌, OnOk, length, take};
 ghost use Rattle.gmp_trace.specs.Text.{limit, limits_text, capacities_text, opening_text, end_text, entry_text};
 
-use crate::call::put_call;
-use crate::put::{put, put_digits, put_named, put_number, put_pair, put_word};
-use crate::reply::put_reply;
+use crate::call::place_call;
+use crate::digits::place_digits;
+use crate::place::{place_byte, place_pair, place_word};
+use crate::put::{put, put_named, put_number};
+use crate::reply::place_reply;
 use crate::trace::End;
 use gmp_seq::{Entry, Limits};
 use std::alloc::AllocError;
+
+/// A line of an entry is no longer: its longest has a select of 8 sends.
+pub const LONGEST: usize = 640;
 
 #[tactic(auto, unfolding(crate::specs::Text::limit))]
 fn put_limit(out: &mut Vec<u8>, name: &[u8], n: u64) -> Result<(), AllocError>
@@ -61,18 +66,40 @@ pub fn put_opening(
     Ok(())
 }
 
-/// The line of an entry: its number, its machine and which of the machine's it is, the call and the reply.
+/// The line of an entry, at the beginning of the room: its number, its machine and which of the machine's it is, the
+/// call and the reply.
 #[tactic(auto, unfolding(crate::specs::Text::entry_text))]
+fn place_entry(line: &mut [u8], number: u64, entry: &Entry) -> usize
+    requires { 640 ≤ length line.old }
+    ensures text { take result line.new ≡ entry_text number entry.now }
+    ensures end { result ≤ 640 }
+{
+    let at = place_digits(line, 0, number);
+    let at = place_pair(line, at, u64::from(entry.m.0), entry.k);
+    let at = place_call(line, at, &entry.call);
+    let at = place_word(line, at, b"->");
+    let at = place_reply(line, at, &entry.reply);
+    place_byte(line, at, b'\n')
+}
+
+/// The same as `put_entry`, by room for a line that is there.
+pub fn put_entry_by(
+    out: &mut Vec<u8>,
+    line: &mut [u8; LONGEST],
+    number: u64,
+    entry: &Entry,
+) -> Result<(), AllocError>
+    ensures { OnOk result (out.new.items ≡ out.old.items ++ entry_text number entry.now) }
+{
+    let end = place_entry(line, number, entry);
+    out.extend_from_slice(&line[..end])
+}
+
+/// The line of an entry: its number, its machine and which of the machine's it is, the call and the reply.
 pub fn put_entry(out: &mut Vec<u8>, number: u64, entry: &Entry) -> Result<(), AllocError>
     ensures { OnOk result (out.new.items ≡ out.old.items ++ entry_text number entry.now) }
 {
-    put_digits(out, number)?;
-    put_pair(out, u64::from(entry.m.0), entry.k)?;
-    put_call(out, &entry.call)?;
-    put_word(out, b"->")?;
-    put_reply(out, &entry.reply)?;
-    out.push(b'\n')?;
-    Ok(())
+    put_entry_by(out, &mut [0; LONGEST], number, entry)
 }
 
 /// The last line.

@@ -1,105 +1,120 @@
 //! The words of a reply.
 
-ghost use Rattle.std.specs.Prelude.{◌≡◌, ◌++◌, OnOk};
+ghost use Rattle.std.specs.Prelude.{◌≡◌, ◌+◌, ◌≤◌, ◌++◌, length, take};
 ghost use Rattle.gmp_trace.specs.Text.{fields, served_pieces, moved_pieces, woken_pieces, sent_pieces, got_pieces, fault_pieces, taken_pieces, reply_pieces};
 
-use crate::put::{put_bool, put_named, put_named_channel, put_named_readiness, put_word};
+use crate::place::{
+    place_bool, place_named, place_named_channel, place_named_readiness, place_word,
+};
 use gmp_base::{Fault, MNo, Readiness};
 use gmp_seq::{Relay, Reply, Taken};
-use std::alloc::AllocError;
 
-fn put_sent(out: &mut Vec<u8>, to: Option<Readiness>) -> Result<(), AllocError>
-    ensures { OnOk result (out.new.items ≡ out.old.items ++ fields (sent_pieces to)) }
+fn place_sent(line: &mut [u8], at: usize, to: Option<Readiness>) -> usize
+    requires { at + 53 ≤ length line.old }
+    ensures text { take result line.new ≡ take at line.old ++ fields (sent_pieces to) }
+    ensures end { result ≤ at + 53 }
 {
-    put_word(out, b"sent")?;
+    let at = place_word(line, at, b"sent");
     match to {
-        None => Ok(()),
-        Some(r) => put_named_readiness(out, b"wakes", r),
+        None => at,
+        Some(r) => place_named_readiness(line, at, b"wakes", r),
     }
 }
 
-fn put_moved(out: &mut Vec<u8>, from: Option<Relay>) -> Result<(), AllocError>
-    ensures { OnOk result (out.new.items ≡ out.old.items ++ fields (moved_pieces from)) }
+fn place_moved(line: &mut [u8], at: usize, from: Option<Relay>) -> usize
+    requires { at + 75 ≤ length line.old }
+    ensures text { take result line.new ≡ take at line.old ++ fields (moved_pieces from) }
+    ensures end { result ≤ at + 75 }
 {
     let Some(relay) = from else {
-        return Ok(());
+        return at;
     };
-    put_named_readiness(out, b"wakes", relay.sender)?;
-    put_named(out, b"moves", relay.value)
+    let at = place_named_readiness(line, at, b"wakes", relay.sender);
+    place_named(line, at, b"moves", relay.value)
 }
 
-fn put_got(out: &mut Vec<u8>, value: u64, sent: bool, from: Option<Relay>) -> Result<(), AllocError>
-    ensures { OnOk result (out.new.items ≡ out.old.items ++ fields (got_pieces value sent from)) }
+fn place_got(line: &mut [u8], at: usize, value: u64, sent: bool, from: Option<Relay>) -> usize
+    requires { at + 106 ≤ length line.old }
+    ensures text { take result line.new ≡ take at line.old ++ fields (got_pieces value sent from) }
+    ensures end { result ≤ at + 106 }
 {
-    put_named(out, b"got", value)?;
-    put_bool(out, sent)?;
-    put_moved(out, from)
+    let at = place_named(line, at, b"got", value);
+    let at = place_bool(line, at, sent);
+    place_moved(line, at, from)
 }
 
-fn put_fault(out: &mut Vec<u8>, fault: Fault) -> Result<(), AllocError>
-    ensures { OnOk result (out.new.items ≡ out.old.items ++ fields (fault_pieces fault)) }
+fn place_fault(line: &mut [u8], at: usize, fault: Fault) -> usize
+    requires { at + 27 ≤ length line.old }
+    ensures text { take result line.new ≡ take at line.old ++ fields (fault_pieces fault) }
+    ensures end { result ≤ at + 27 }
 {
-    put_named(out, b"fault", u64::from(fault.number()))
+    place_named(line, at, b"fault", u64::from(fault.number()))
 }
 
-fn put_taken(out: &mut Vec<u8>, taken: Taken) -> Result<(), AllocError>
-    ensures { OnOk result (out.new.items ≡ out.old.items ++ fields (taken_pieces taken)) }
+fn place_taken(line: &mut [u8], at: usize, taken: Taken) -> usize
+    requires { at + 106 ≤ length line.old }
+    ensures text { take result line.new ≡ take at line.old ++ fields (taken_pieces taken) }
+    ensures end { result ≤ at + 106 }
 {
     match taken {
-        Taken::Sent(to) => put_sent(out, to),
-        Taken::Got(value, sent, from) => put_got(out, value, sent, from),
-        Taken::Failed => put_fault(out, Fault::SendOnClosed),
+        Taken::Sent(to) => place_sent(line, at, to),
+        Taken::Got(value, sent, from) => place_got(line, at, value, sent, from),
+        Taken::Failed => place_fault(line, at, Fault::SendOnClosed),
     }
 }
 
-fn put_woken(out: &mut Vec<u8>, machine: Option<MNo>) -> Result<(), AllocError>
-    ensures { OnOk result (out.new.items ≡ out.old.items ++ fields (woken_pieces machine)) }
+fn place_woken(line: &mut [u8], at: usize, machine: Option<MNo>) -> usize
+    requires { at + 27 ≤ length line.old }
+    ensures text { take result line.new ≡ take at line.old ++ fields (woken_pieces machine) }
+    ensures end { result ≤ at + 27 }
 {
     match machine {
-        None => Ok(()),
-        Some(m) => put_named(out, b"wakes", u64::from(m.0)),
+        None => at,
+        Some(m) => place_named(line, at, b"wakes", u64::from(m.0)),
     }
 }
 
 /// The words of a reply, each with a space before it.
-pub fn put_reply(out: &mut Vec<u8>, reply: &Reply) -> Result<(), AllocError>
-    ensures { OnOk result (out.new.items ≡ out.old.items ++ fields (reply_pieces reply.now)) }
+pub fn place_reply(line: &mut [u8], at: usize, reply: &Reply) -> usize
+    requires { at + 140 ≤ length line.old }
+    ensures text { take result line.new ≡ take at line.old ++ fields (reply_pieces reply.now) }
+    ensures end { result ≤ at + 140 }
 {
     match *reply {
-        Reply::Proc(p) => put_named(out, b"proc", u64::from(p.0)),
-        Reply::Nothing => put_word(out, b"none"),
-        Reply::Ticket(r) => put_named_readiness(out, b"ticket", r),
-        Reply::Shelf => put_word(out, b"shelf"),
-        Reply::Held => put_word(out, b"held"),
-        Reply::Fault(fault) => put_fault(out, fault),
-        Reply::Shelved(r) => put_named_readiness(out, b"shelf", r),
-        Reply::Dead => put_word(out, b"dead"),
-        Reply::MainEnded => put_word(out, b"main ended"),
-        Reply::Channel(c) => put_named_channel(out, b"chan", Some(c)),
-        Reply::Sent(to) => put_sent(out, to),
-        Reply::Waits => put_word(out, b"waits"),
-        Reply::Got(value, sent, from) => put_got(out, value, sent, from),
-        Reply::Closed(count) => put_named(out, b"closed", count),
-        Reply::Number(n) => put_named(out, b"number", n),
+        Reply::Proc(p) => place_named(line, at, b"proc", u64::from(p.0)),
+        Reply::Nothing => place_word(line, at, b"none"),
+        Reply::Ticket(r) => place_named_readiness(line, at, b"ticket", r),
+        Reply::Shelf => place_word(line, at, b"shelf"),
+        Reply::Held => place_word(line, at, b"held"),
+        Reply::Fault(fault) => place_fault(line, at, fault),
+        Reply::Shelved(r) => place_named_readiness(line, at, b"shelf", r),
+        Reply::Dead => place_word(line, at, b"dead"),
+        Reply::MainEnded => place_word(line, at, b"main ended"),
+        Reply::Channel(c) => place_named_channel(line, at, b"chan", Some(c)),
+        Reply::Sent(to) => place_sent(line, at, to),
+        Reply::Waits => place_word(line, at, b"waits"),
+        Reply::Got(value, sent, from) => place_got(line, at, value, sent, from),
+        Reply::Closed(count) => place_named(line, at, b"closed", count),
+        Reply::Number(n) => place_named(line, at, b"number", n),
         Reply::Chose(case, taken) => {
-            put_named(out, b"chose", u64::from(case))?;
-            put_taken(out, taken)
+            let at = place_named(line, at, b"chose", u64::from(case));
+            place_taken(line, at, taken)
         }
-        Reply::Default => put_word(out, b"default"),
+        Reply::Default => place_word(line, at, b"default"),
         Reply::Entered(p, machine) => {
-            put_named(out, b"idle", u64::from(p.0))?;
-            put_woken(out, machine)
+            let at = place_named(line, at, b"idle", u64::from(p.0));
+            place_woken(line, at, machine)
         }
-        Reply::Runs(p) => put_named(out, b"runs", u64::from(p.0)),
-        Reply::Answer(b) => put_bool(out, b),
-        Reply::Done => put_word(out, b"done"),
-        Reply::Wakes(m) => put_named(out, b"wakes", u64::from(m.0)),
-        Reply::Idle(p) => put_named(out, b"idle", u64::from(p.0)),
-        Reply::Parked => put_word(out, b"parked"),
-        Reply::Work => put_word(out, b"work"),
-        Reply::LookAgain => put_word(out, b"look again"),
-        Reply::Mind(until) => put_named(out, b"mind", until),
-        Reply::AllAsleep => put_word(out, b"all asleep"),
-        Reply::Woke(count) => put_named(out, b"woke", count),
+        Reply::Runs(p) => place_named(line, at, b"runs", u64::from(p.0)),
+        Reply::Answer(b) => place_bool(line, at, b),
+        Reply::Done => place_word(line, at, b"done"),
+        Reply::Wakes(m) => place_named(line, at, b"wakes", u64::from(m.0)),
+        Reply::Idle(p) => place_named(line, at, b"idle", u64::from(p.0)),
+        Reply::Parked => place_word(line, at, b"parked"),
+        Reply::Work => place_word(line, at, b"work"),
+        Reply::LookAgain => place_word(line, at, b"look again"),
+        Reply::Mind(until) => place_named(line, at, b"mind", until),
+        Reply::AllAsleep => place_word(line, at, b"all asleep"),
+        Reply::Woke(count) => place_named(line, at, b"woke", count),
     }
 }

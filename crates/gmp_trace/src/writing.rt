@@ -5,7 +5,7 @@ ghost use Rattle.std.specs.Io.KnownBytes.{Appends};
 ghost use Rattle.gmp_trace.specs.declared.writing.WriteError.TheVariants.{Device, OutOfMemory};
 ghost use Rattle.gmp_trace.specs.Text.{text, content, content_of, AppendsStart};
 
-use crate::line::{put_end, put_entry, put_opening};
+use crate::line::{LONGEST, put_end, put_entry_by, put_opening};
 use crate::trace::{Trace, TraceView};
 use std::alloc::{AllocError, Global};
 use std::io::Write;
@@ -32,9 +32,6 @@ impl From<AllocError> for WriteError {
 
 /// As many bytes are gathered before they go out.
 const GATHERED: usize = 65_536;
-
-/// A line of an entry is shorter: its longest has a select of 8 sends.
-const LONGEST: usize = 512;
 
 fn send<W: Write>(out: &mut Vec<u8>, writer: &mut W) -> Result<(), WriteError>
     ensures sent { OnOk result (Appends (W.contents writer.old) (W.contents writer.new) out.old.items) }
@@ -70,8 +67,9 @@ pub fn write_view<W: Write>(
 {
     let mut out = Vec::with_capacity(alloc, GATHERED + LONGEST)?;
     put_opening(&mut out, &trace.limits, trace.bodies, trace.capacities)?;
+    let mut line = [0; LONGEST];
     for (number, entry) in trace.entries.iter().enumerate() {
-        put_entry(&mut out, number as u64, &entry)?;
+        put_entry_by(&mut out, &mut line, number as u64, &entry)?;
         if out.len() >= GATHERED {
             send(&mut out, writer)?;
         }

@@ -11,8 +11,8 @@ returns-in_err-out-clause-begun g c = on_refusal _ _ (AppendsStart-none _ _)
 pub returns-in_err-put_opening-clause-begun : goal.returns-in_err-put_opening-clause-begun
 returns-in_err-put_opening-clause-begun g c = on_refusal _ _ (AppendsStart-none _ _)
 
-pub returns-in_err-put_entry-clause-begun : goal.returns-in_err-put_entry-clause-begun
-returns-in_err-put_entry-clause-begun g c = on_refusal _ _ (AppendsStart-longer _ _ _ _ _ c.loop-number.invariant.owes)
+pub returns-in_err-put_entry_by-clause-begun : goal.returns-in_err-put_entry_by-clause-begun
+returns-in_err-put_entry_by-clause-begun g c = on_refusal _ _ (AppendsStart-longer _ _ _ _ _ c.loop-number.invariant.owes)
 
 pub overflow_step-number : goal.overflow_step-number
 overflow_step-number g c =
@@ -28,7 +28,7 @@ loop-number-preserved g c =
     let t = YieldsList-turn (YieldsList-from_first (λ x. x) (λ left. left) es c.iter-entry-items.ensures.list)
     c.loop-number.yielded _ c.loop-number.yielded_by _ _ c.in-Some.entry c.in-Some.is c.next.ensures.steps in
     let next = entries_text-next n es c.in-Some.entry c.loop-number.out.items (omega (arith, k.counted, t.0)) (rw k.counted t.1) in
-    let owed = rw (next, ← c.in_ok-put_entry.ensures) at k.owes in
+    let owed = rw (next, ← c.in_ok-put_entry_by.ensures) at k.owes in
     let more = length_push c.loop-number.yielded c.in-Some.entry in
     elim c.if-len-ge-GATHERED.branch [
       | then-len-ge-GATHERED+in_ok-send w ↦
