@@ -19,6 +19,7 @@ pub(crate) struct Deadline {
 
 impl Deadline {
     /// That of a goroutine, where it waits with one.
+    #[inline(always)]
     pub(crate) fn of(g: GNo, status: &Status) -> Option<Deadline>
         ensures { result ≡ deadline_in g status.now }
     {
@@ -91,6 +92,7 @@ impl Deadlines {
     }
 
     /// Puts one in its place, if one is given.
+    #[inline(always)]
     pub(crate) fn add(&mut self, x: Option<Deadline>)
         requires new { IfSome x (λ d. Contains self.old.list d → ⊥) }
         requires room { length self.old.list + tally (is_some x) ≤ self.old.room }
@@ -106,6 +108,7 @@ impl Deadlines {
     }
 
     /// Takes one out, if one is given: it is found by halves, and those that are sooner move up.
+    #[inline(always)]
     pub(crate) fn withdraw(&mut self, x: Option<Deadline>)
         requires there { IfSome x (λ d. Contains self.old.list d) }
         ensures each { (d : Deadline) → Contains self.new.list d ↔ (Contains self.old.list d × (x ≢ Some d)) }

@@ -94,6 +94,7 @@ impl Rows {
     }
 
     /// Writes a row.
+    #[inline(always)]
     fn set(&mut self, g: GNo, row: Goroutine)
         requires { g.0 < length self.old }
         ensures { self.new ≡ slice_set self.old g.0 row }
@@ -109,6 +110,7 @@ impl Rows {
     }
 
     /// Gives a goroutine another status.
+    #[inline(always)]
     pub(crate) fn turn(&mut self, g: GNo, status: Status)
         requires { g.0 < length self.old }
         ensures { self.new ≡ turned self.old g status }
@@ -118,6 +120,7 @@ impl Rows {
     }
 
     /// Makes a goroutine ready by its next epoch, which is answered.
+    #[inline(always)]
     pub(crate) fn rise(&mut self, g: GNo, place: Place, woke: Woke) -> u64
         requires within { g.0 < length self.old }
         requires young { epoch_in self.old g < 2 ^ 63 }

@@ -55,6 +55,14 @@ pub fn audit(history: &History, logs: &[PassLog]) -> Result<(), Mismatch>
     Ok(())
 }
 
+/// The machine's place among all that a number can name.
+fn machine_place(m: MNo) -> usize
+    ensures value { result ≡ m.0 }
+    ensures bound { result < 2 ^ 8 }
+{
+    usize::from(m.0)
+}
+
 /// What is counted of each machine.
 fn tallied(history: &History, logs: &[PassLog]) -> [Tally; MACHINES]
     ensures tallies { (m : ℕ) → m < 2 ^ 8 → slice_index_or result m no_tally ≡ tally_of history.now.list logs.now m }
@@ -66,10 +74,10 @@ fn tallied(history: &History, logs: &[PassLog]) -> [Tally; MACHINES]
         said: 0,
     }; MACHINES];
     for entry in history.iter() {
-        tallies[usize::from(entry.m.0)].found += 1;
+        tallies[machine_place(entry.m)].found += 1;
     }
     for log in logs {
-        let m = usize::from(log.m.0);
+        let m = machine_place(log.m);
         let tally = tallies[m];
         tallies[m] = Tally {
             logs: tally.logs + 1,

@@ -16,8 +16,8 @@ loop-entry-init c = (length-replicate 256 no_tally, λ m few. get_or-replicate 2
 -- what the loop took so far is a start of the history
 pub overflow_add-tallies : goal.overflow_add-tallies
 overflow_add-tallies c =
-    let k = c.from.result in
-    let few : k < 256 = omega arith in
+    let k = c.machine_place.result in
+    let few : k < 256 = c.machine_place.ensures.bound in
     let found = ap (λ (t : Tally). t.found) (c.loop-entry.invariant.1 k few) in
     let few_so_far = few_entries c.loop-entry.yielded k in
     let t = YieldsList-turn (YieldsList-at c.into_iter-entry-iterator.ensures.into_iter_gives (YieldsList-from_first (λ x. x) (λ left. left) c.args.history.now.list c.iter-entry-items.ensures.list))
@@ -28,9 +28,9 @@ pub loop-entry-preserved : goal.loop-entry-preserved
 loop-entry-preserved c =
     let es = c.loop-entry.yielded in
     let e = c.in-Some.entry in
-    let k = c.from.result in
-    let own = sym c.from.ensures in
-    let few : k < 256 = omega arith in
+    let k = c.machine_place.result in
+    let own = sym c.machine_place.ensures.value in
+    let few : k < 256 = c.machine_place.ensures.bound in
     let within : k < length c.loop-entry.tallies = omega (arith, few, c.loop-entry.invariant.0) in (
       length-set c.loop-entry.tallies k _ ∙ c.loop-entry.invariant.0,
       next_tallies (tally_of es []) (tally_of (es ++ e ∷ []) []) c.loop-entry.tallies k _ within c.loop-entry.invariant.1
@@ -49,8 +49,8 @@ loop-log-init c =
 
 pub overflow_add-tallies-in-loop-log : goal.overflow_add-tallies-in-loop-log
 overflow_add-tallies-in-loop-log c =
-    let k = c.from-m.result in
-    let few : k < 256 = omega arith in
+    let k = c.machine_place-m.result in
+    let few : k < 256 = c.machine_place-m.ensures.bound in
     let logged = ap (λ (t : Tally). t.logs) (c.loop-log.invariant.1 k few) in
     let few_so_far = few_logs (take c.loop-log.log-index c.args.logs.now) k in
     let so_far = length-take c.loop-log.log-index c.args.logs.now in
@@ -61,12 +61,12 @@ loop-log-preserved c =
     let history = c.args.history.now.list in
     let logs = c.args.logs.now in
     let i = c.loop-log.log-index in
-    let k = c.from-m.result in
+    let k = c.machine_place-m.result in
     let none : PassLog = record { m = record { 0 = 0 }; calls = 0 } in
     let l = get_or logs i none in
     let is = get_or_default logs i none l c.loop-log-test.true in
-    let own = sym c.from-m.ensures in
-    let few : k < 256 = omega arith in
+    let own = sym c.machine_place-m.ensures.value in
+    let few : k < 256 = c.machine_place-m.ensures.bound in
     let within : k < length c.loop-log.tallies = omega (arith, few, c.loop-log.invariant.0) in (
       length-set c.loop-log.tallies k _ ∙ c.loop-log.invariant.0,
       next_tallies (tally_of history (take i logs)) (tally_of history (take (i + 1) logs)) c.loop-log.tallies k _ within c.loop-log.invariant.1
