@@ -10,7 +10,7 @@ pub line_of-requires : goal.line_of-requires
 line_of-requires g c =
     let t = c.args.trace in
     let k = c.in-Ok-2 in
-    few_entries t.limits t.bodies t.capacities.now t.entries.now.list k.field-0 k.ensures.within k.ensures.ends
+    rw c.len.ensures.value (few_entries t.limits t.bodies t.capacities.now t.entries.now.list k.field-0 k.ensures.within k.ensures.ends)
 
 pub line_of-requires-in-Err-NoStep : goal.line_of-requires-in-Err-NoStep
 line_of-requires-in-Err-NoStep g c =
