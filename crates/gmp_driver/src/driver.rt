@@ -45,7 +45,7 @@ impl<T, Q> Driver<T, Q> {
     ghost use Rattle.gmp_driver.specs.Hunt.{begun, victim_of};
     ghost use Rattle.gmp_driver.specs.Loads.{IsOfRun, held_of, load_of, parts_of, with_claimed, with_held, with_to_claim};
     ghost use Rattle.gmp_driver.specs.Machine.{held_at, is_done};
-    ghost use Rattle.gmp_driver.specs.Registers.{AreFilledOnce, joined, nothing, unused, used};
+    ghost use Rattle.gmp_driver.specs.Registers.{AreFilledOnce, but, joined, nothing, put_value, unused, used};
     ghost use Rattle.gmp_driver.specs.Seen.{seen};
     ghost use Rattle.gmp_driver.specs.Table.{after, next_act};
 
@@ -189,6 +189,18 @@ impl<T, Q> Driver<T, Q> {
     {
         if let Some(r) = to_claim {
             self.hand.to_claim = Some(r);
+        }
+    }
+
+    /// Lets go of the ticket that was put onto the shelf: the one to store, where there is one, and else the one to claim.
+    #[inline(always)]
+    pub fn put_ticket(&mut self)
+        requires { IsNone self.old.pass }
+        ensures { self.new ≡ record self.old { hand = but (put_value self.old.hand.to_store) self.old.hand } }
+    {
+        match self.hand.to_store {
+            Some(_) => self.hand.to_store = None,
+            None => self.hand.to_claim = None,
         }
     }
 

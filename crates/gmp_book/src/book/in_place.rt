@@ -1,5 +1,5 @@
-//! Calls that leave values where they are: those that are handed nothing, those of the goroutine that runs, and a claim. What each does is
-//! what `call` does with these values.
+//! Calls that leave values where they are: those that are handed nothing, those of the goroutine that runs, a put and a claim. What each
+//! does is what `call` does with these values.
 ghost use Rattle.std.specs.Prelude.{◌≡◌, true, None, Some, IfOk, OnErr};
 ghost use Rattle.gmp_seq.specs.Needs.{WantsMemory};
 ghost use Rattle.gmp_ledger.specs.Done.{IsDoneTo};
@@ -65,6 +65,26 @@ impl<T, Q> Book<T, Q> {
         let given = handed_own(held);
         let reply = self.ledger.call(None, pass, call, &given, word)?;
         settle_own(&mut self.bodies, way_of(reply), reply.woke(), held);
+        Ok(reply)
+    }
+
+    /// Puts a ticket of the run onto the shelf, last.
+    #[inline(always)]
+    pub fn put_in(&mut self, pass: &mut Pass, r: Readiness) -> Result<Reply, Refusal>
+        ensures refused { Says (WantsMemory self.old.log.limits (Call.Put r) self.old.log.state) (refusal_of self.old.log pass.old (Call.Put r) (ticket_handed self.old.log.run r)) (refusal_in result) }
+        ensures err { OnErr result ((self.new ≡ self.old) × (pass.new ≡ pass.old)) }
+        ensures records { IfOk result (λ reply. Records self.old.log pass.old (Call.Put r) reply self.new.log pass.new) }
+        ensures hands { IfOk result (λ reply. Hands (Call.Put r) reply (ticket_values self.old.log.run r) (own_back self.old.log.run None reply) self.old self.new) }
+        ensures done { IfOk result (λ reply. let v = ticket_handed self.old.log.run r in IsDoneTo (Call.Put r) pass.old.m (goroutine_in v) (processor_in v) reply self.old.log.state self.new.log.state) }
+    {
+        let run = self.ledger.run();
+        let given = Handed {
+            ticket: Some((run, r)),
+            held: None,
+            called: None,
+            proc: None,
+        };
+        let reply = self.ledger.call(None, pass, Call::Put(r), &given, 0)?;
         Ok(reply)
     }
 
