@@ -32,17 +32,25 @@ use Rattle.gmp_driver.specs.declared.registers.Registers.{Registers}
 use Rattle.gmp_driver.specs.Fits.{SuitsPlace}
 use Rattle.gmp_driver.specs.Loads.{held_of, load_of, parts_of, with_claimed, with_held, with_to_claim}
 use Rattle.gmp_driver.specs.Machine.{Machine}
-use Rattle.gmp_driver.specs.Registers.{joined, used}
+use Rattle.gmp_driver.specs.Registers.{but, first_of, joined, put_value, used}
 use Rattle.gmp_driver.specs.Table.{after, next_act}
 use Rattle.gmp_turn.specs.Turns.{Turns, hand_with, handed_out, is_to_claim, load_back, told_to_driver, values_in}
 use Rattle.gmp_acts.proofs.Replies.{CanReply, replies}
 use Rattle.gmp_driver.proofs.Uses.{uses}
 use Rattle.gmp_turn.proofs.Coming.{came}
 
+-- the registers once these values come back of a call
+abbrev hand_after : {T Q : Type 0} → ℕ → Pass → Pass → Registers T Q → Call → Values T Q → Registers T Q
+hand_after run pass behind hand c back = hand_with c hand (load_back behind (is_to_claim c (load_of run pass (used (act.Call c) hand))) back)
+
+-- the registers once their ticket is put onto the shelf
+abbrev without_put : {T Q : Type 0} → Registers T Q → Registers T Q
+without_put hand = but (put_value hand.to_store) hand
+
 -- Any call
 
 module _ {T Q : Type 0} (x : Machine T Q) (asked : Call) (before behind : Pass) (book book' : BookContents T Q) (given back : Values T Q) (hand : Registers T Q) (result : Result Reply Refusal)
-    (is : values_in (handed_out x before asked) ≡ given) (has : hand_with asked x.hand (load_back behind (is_to_claim asked (handed_out x before asked)) back) ≡ hand) where
+    (is : values_in (handed_out x before asked) ≡ given) (has : hand_after x.run before behind x.hand asked back ≡ hand) where
   pub turned : (word : ℕ) (x' : Machine T Q) → x.pass ≡ Some before
       → Says (WantsMemory book.log.limits asked book.log.state) (refusal_of book.log before asked (handed_of given)) (refusal_in result)
       → IfErr result (λ why. (book' ≡ book) × (behind ≡ before) × (back ≡ values_back asked why given))
@@ -108,7 +116,7 @@ module _ {T Q : Type 0} (run n : ℕ) (pass behind : Pass) (hand : Registers T Q
   own_parts (Some h) (Some r) = refl
 
   pub own_hand : (c : Call) (held : Option (Held T)) (t : Option Readiness) → is_own c ≡ true
-      → hand_with c hand (load_back behind (is_to_claim c (load_of run pass (used (act.Call c) hand))) (record { held = held; called = None; ticket = option_map (ticket_by n) t; proc = None })) ≡ with_held held t hand
+      → hand_after run pass behind hand c (record { held = held; called = None; ticket = option_map (ticket_by n) t; proc = None }) ≡ with_held held t hand
   own_hand call.Acquire held t is = absurd (false≢true is)
   own_hand call.Take held t is = absurd (false≢true is)
   own_hand (call.Put r) held t is = absurd (false≢true is)
@@ -225,12 +233,8 @@ module _ {T Q : Type 0} (run n : ℕ) (pass behind : Pass) (hand : Registers T Q
   alone_given (call.Tick moment) is = refl
   alone_given _ is = absurd (false≢true is)
 
-  -- the registers after a call c by which these values come back
-  abbrev hand_after : Call → Values T Q → Registers T Q
-  hand_after c back = hand_with c hand (load_back behind (is_to_claim c (load_of run pass (used (act.Call c) hand))) back)
-
   -- refused
-  alone_same : (c : Call) → is_alone c ≡ true → hand_after c no_values ≡ hand
+  alone_same : (c : Call) → is_alone c ≡ true → hand_after run pass behind hand c no_values ≡ hand
   alone_same call.Take is = refl
   alone_same call.Spin is = refl
   alone_same call.Woken is = refl
@@ -242,12 +246,12 @@ module _ {T Q : Type 0} (run n : ℕ) (pass behind : Pass) (hand : Registers T Q
   alone_same (call.Tick moment) is = refl
   alone_same _ is = absurd (false≢true is)
 
-  take_hand : (t : Option Readiness) → hand_after call.Take (record { held = None; called = None; ticket = option_map (ticket_by n) t; proc = None }) ≡ with_to_claim t hand
+  take_hand : (t : Option Readiness) → hand_after run pass behind hand call.Take (record { held = None; called = None; ticket = option_map (ticket_by n) t; proc = None }) ≡ with_to_claim t hand
   take_hand None = refl
   take_hand (Some r) = refl
 
   -- only a take gives a ticket out
-  alone_hand : (c : Call) (answer : Reply) → is_alone c ≡ true → CanReply c answer → hand_after c (own_back n None answer) ≡ with_to_claim (ticket_in answer) hand
+  alone_hand : (c : Call) (answer : Reply) → is_alone c ≡ true → CanReply c answer → hand_after run pass behind hand c (own_back n None answer) ≡ with_to_claim (ticket_in answer) hand
   alone_hand call.Take answer is can = take_hand (ticket_in answer)
   alone_hand call.Spin (reply.Answer b) is can = refl
   alone_hand call.Spin _ is can = absurd can
@@ -275,16 +279,38 @@ module _ {T Q : Type 0} (run n : ℕ) (pass behind : Pass) (hand : Registers T Q
   claim_given : (r : Readiness) → hand.to_claim ≡ Some r → values_in (load_of run pass (used (act.Call (call.Claim r)) hand)) ≡ ticket_values run r
   claim_given r e = rw e refl
 
-  claim_hand : (r : Readiness) (held : Held T) → hand.to_claim ≡ Some r → hand_after (call.Claim r) (held_values (Some held)) ≡ with_claimed held hand
+  claim_hand : (r : Readiness) (held : Held T) → hand.to_claim ≡ Some r → hand_after run pass behind hand (call.Claim r) (held_values (Some held)) ≡ with_claimed held hand
   claim_hand r held e = rw e refl
 
   abbrev Again : Readiness → Option Readiness → Type 0
   Again r o =
       (let h : Registers T Q = record hand { to_claim = o } in
-      hand_with (call.Claim r) h (load_back behind (is_to_claim (call.Claim r) (load_of run pass (used (act.Call (call.Claim r)) h))) (ticket_values n r)) ≡ h)
+      hand_after run pass behind h (call.Claim r) (ticket_values n r) ≡ h)
 
   claim_again : (r : Readiness) → hand.to_claim ≡ Some r → Again r hand.to_claim
   claim_again r e = subst (λ (o : Option Readiness). Again r o) (sym e) refl
+
+  -- a put, by the ticket to store and the one to claim
+
+  abbrev holding : Option Readiness → Option Readiness → Registers T Q
+  holding s t = record hand { to_store = s; to_claim = t }
+
+  put_given : (r : Readiness) (s t : Option Readiness) → first_of s t ≡ Some r → values_in (load_of run pass (used (act.Call (call.Put r)) (holding s t))) ≡ ticket_values run r
+  put_given r (Some s) t e = ap (λ (o : Option Readiness). let v : Values T Q = record { held = None; called = None; ticket = option_map (ticket_by run) o; proc = None } in v) e
+  put_given r None (Some t) e = ap (λ (o : Option Readiness). let v : Values T Q = record { held = None; called = None; ticket = option_map (ticket_by run) o; proc = None } in v) e
+  put_given r None None e = absurd cc
+
+  put_hand : (r : Readiness) (s t : Option Readiness) (answer : Reply) → CanReply (call.Put r) answer
+      → hand_after run pass behind (holding s t) (call.Put r) (own_back n None answer) ≡ without_put (holding s t)
+  put_hand r (Some s) t reply.Shelf can = refl
+  put_hand r None (Some t) reply.Shelf can = refl
+  put_hand r None None reply.Shelf can = refl
+  put_hand r s t _ can = absurd can
+
+  put_again : (r : Readiness) (s t : Option Readiness) → first_of s t ≡ Some r → hand_after run pass behind (holding s t) (call.Put r) (ticket_values n r) ≡ holding s t
+  put_again r (Some s) t e = ap (λ (o : Option Readiness). holding o t) (sym e)
+  put_again r None (Some t) e = ap (λ (o : Option Readiness). holding None o) (sym e)
+  put_again r None None e = absurd cc
 
 -- The machine x handed out the pass (then it is m1), got back what there is (m2), and was told the answer (x').
 module _ {T Q : Type 0} (x m1 : Machine T Q) (before behind : Pass) (book book' : BookContents T Q) (has_pass : x.pass ≡ Some before) (run : x.run ≡ book.log.run) (fits : SuitsPlace x.place x.hand)
@@ -298,7 +324,7 @@ module _ {T Q : Type 0} (x m1 : Machine T Q) (before behind : Pass) (book book' 
       alone_state : m2 ≡ record x { pass = None; hand = found }
       alone_state = rw (left1, t_is) at gets
 
-      alone_has : hand_after x.run book.log.run before behind x.hand asked (own_back book.log.run None answer) ≡ found
+      alone_has : hand_after x.run before behind x.hand asked (own_back book.log.run None answer) ≡ found
       alone_has = alone_hand x.run book.log.run before behind x.hand asked answer is (replies book.log.limits before.m asked answer book.log.state book'.log.state records.step.1)
 
       pub alone_fits : SuitsPlace (after m2 (told.Replied answer)).place m2.hand
@@ -373,4 +399,52 @@ module _ {T Q : Type 0} (x m1 : Machine T Q) (before behind : Pass) (book book' 
       claim_refused word x' refused told_is =
           turned x (call.Claim r) before behind book book' (ticket_values book.log.run r) (ticket_values book.log.run r) x.hand (Err why) ticket_given
           (claim_again x.run book.log.run before behind x.hand r its_ticket) word x' has_pass refused (same.0, same.1, refl) tt tt tt tt
+          (subst (λ (m : Machine T Q). x' ≡ record (after m (told.Refused why)) { pass = Some behind }) left1 told_is)
+
+  -- A put
+
+  module _ (r : Readiness) (acts : next_act x ≡ act.Call (call.Put r)) where
+    to_put : first_of x.hand.to_store x.hand.to_claim ≡ Some r
+    to_put = uses x (call.Put r) acts fits
+
+    put_out : values_in (handed_out x before (call.Put r)) ≡ ticket_values book.log.run r
+    put_out = put_given x.run 0 before behind x.hand r x.hand.to_store x.hand.to_claim to_put ∙ ap (λ (k : ℕ). let v : Values T Q = ticket_values k r in v) run
+
+    module _ (m2 : Machine T Q) (answer : Reply) (gets : m2 ≡ record m1 { hand = without_put m1.hand })
+        (records : Records book.log before (call.Put r) answer book'.log behind) (hands : Hands (call.Put r) answer (ticket_values book.log.run r) (own_back book.log.run None answer) book book') where
+      put_state : m2 ≡ record x { pass = None; hand = without_put x.hand }
+      put_state = rw left1 at gets
+
+      put_has : hand_after x.run before behind x.hand (call.Put r) (own_back book.log.run None answer) ≡ without_put x.hand
+      put_has = put_hand x.run book.log.run before behind x.hand r x.hand.to_store x.hand.to_claim answer (replies book.log.limits before.m (call.Put r) answer book.log.state book'.log.state records.step.1)
+
+      pub put_fits : SuitsPlace (after m2 (told.Replied answer)).place m2.hand
+      put_fits =
+          let there = landed x (call.Put r) before behind book book' (ticket_values book.log.run r) (own_back book.log.run None answer) (without_put x.hand) (Ok answer) put_out put_has
+          acts fits run of tt tt records hands in
+          subst (λ (m : Machine T Q). SuitsPlace (after m (told.Replied answer)).place m.hand) (sym put_state) there.1
+
+      pub put_turned : (word : ℕ) (x' : Machine T Q) → Says (WantsMemory book.log.limits (call.Put r) book.log.state) (refusal_of book.log before (call.Put r) (ticket_handed book.log.run r)) None
+          → (let v = ticket_handed book.log.run r in IsDoneTo (call.Put r) before.m (goroutine_in v) (processor_in v) answer book.log.state book'.log.state)
+          → x' ≡ record (after m2 (told.Replied answer)) { pass = Some behind } → Turns x book (call.Put r) word (Ok answer) x' book'
+      put_turned word x' refused done told_is =
+          turned x (call.Put r) before behind book book' (ticket_values book.log.run r) (own_back book.log.run None answer) (without_put x.hand) (Ok answer) put_out put_has
+          word x' has_pass refused tt records tt hands done
+          (subst (λ (m : Machine T Q). x' ≡ record (after m (told.Replied answer)) { pass = Some behind }) put_state told_is)
+
+    module _ (why : Refusal) (same : (book' ≡ book) × (behind ≡ before)) where
+      put_stays : hand_after x.run before behind x.hand (call.Put r) (ticket_values book.log.run r) ≡ x.hand
+      put_stays = put_again x.run book.log.run before behind x.hand r x.hand.to_store x.hand.to_claim to_put
+
+      pub put_refused_fits : SuitsPlace (after m1 (told.Refused why)).place m1.hand
+      put_refused_fits =
+          let there = landed x (call.Put r) before behind book book' (ticket_values book.log.run r) (ticket_values book.log.run r) x.hand (Err why) put_out put_stays
+          acts fits run of refl same tt tt in
+          subst (λ (m : Machine T Q). SuitsPlace (after m (told.Refused why)).place m.hand) (sym left1) there.1
+
+      pub put_refused : (word : ℕ) (x' : Machine T Q) → Says (WantsMemory book.log.limits (call.Put r) book.log.state) (refusal_of book.log before (call.Put r) (ticket_handed book.log.run r)) (Some why)
+          → x' ≡ record (after m1 (told.Refused why)) { pass = Some behind } → Turns x book (call.Put r) word (Err why) x' book'
+      put_refused word x' refused told_is =
+          turned x (call.Put r) before behind book book' (ticket_values book.log.run r) (ticket_values book.log.run r) x.hand (Err why) put_out put_stays
+          word x' has_pass refused (same.0, same.1, refl) tt tt tt tt
           (subst (λ (m : Machine T Q). x' ≡ record (after m (told.Refused why)) { pass = Some behind }) left1 told_is)

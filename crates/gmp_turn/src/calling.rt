@@ -6,7 +6,7 @@ ghost use Rattle.gmp_driver.specs.Table.{next_act};
 ghost use Rattle.gmp_ledger.specs.Grants.{NeedsMemory};
 ghost use Rattle.gmp_turn.specs.Turns.{HasMemory, Turns, woken_in};
 
-use crate::in_place::{alone_turn, claim_turn, own_turn};
+use crate::in_place::{alone_turn, claim_turn, own_turn, put_turn};
 use crate::passing::{is_to_claim, load_back, opened, told_to_driver};
 use gmp_base::{MNo, Refusal};
 use gmp_book::Book;
@@ -38,6 +38,7 @@ pub fn turn<T, Q>(
 {
     match call {
         Call::Claim(r) => claim_turn(driver, book, r),
+        Call::Put(r) => put_turn(driver, book, r),
         Call::Take
         | Call::Poke
         | Call::Spin

@@ -80,6 +80,36 @@ pub(crate) fn alone_turn<T, Q>(
     }
 }
 
+/// A put: the ticket to store goes onto the shelf, or where there is none the one to claim.
+#[inline(always)]
+pub(crate) fn put_turn<T, Q>(
+    driver: &mut Driver<T, Q>,
+    book: &mut Book<T, Q>,
+    r: Readiness,
+) -> Result<Reply, Refusal>
+    requires act { next_act driver.old ≡ act.Call (Call.Put r) }
+    requires pass { IsSome driver.old.pass }
+    requires run { driver.old.run ≡ book.old.log.run }
+    requires keeps { SuitsPlace driver.old.place driver.old.hand }
+    ensures turns { (word : ℕ) → Turns driver.old book.old (Call.Put r) word result driver.new book.new }
+    ensures fits { SuitsPlace driver.new.place driver.new.hand }
+    ensures pass { IsSome driver.new.pass }
+    ensures run { driver.new.run ≡ book.new.log.run }
+{
+    let mut pass = driver.give_pass();
+    match book.put_in(&mut pass, r) {
+        Ok(reply) => {
+            driver.put_ticket();
+            driver.got_reply(pass, &reply);
+            Ok(reply)
+        }
+        Err(why) => {
+            driver.got_refusal(pass, why);
+            Err(why)
+        }
+    }
+}
+
 /// A claim: the body goes from its place in the book into the register.
 #[inline(always)]
 pub(crate) fn claim_turn<T, Q>(
