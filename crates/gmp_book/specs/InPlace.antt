@@ -1,4 +1,4 @@
--- The values of a call that is handed one thing, or none.
+-- The values of a call that is handed one thing, or nothing.
 use Rattle.std.specs.Prelude.{ℕ, Bool, true, false, Option, None, Some}
 use Rattle.std.specs.Option.{option_map}
 use Rattle.gmp_base.specs.declared.number.Readiness.{Readiness}
@@ -11,6 +11,7 @@ use Rattle.gmp_seq.specs.Step.{ticket_in}
 use Rattle.gmp_ledger.specs.declared.handed.Handed.{Handed}
 use Rattle.gmp_book.specs.declared.values.Values.{Values}
 
+-- nothing
 abbrev pub no_values : {T Q : Type 0} → Values T Q
 no_values = record { held = None; called = None; ticket = None; proc = None }
 
