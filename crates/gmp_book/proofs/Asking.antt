@@ -37,10 +37,10 @@ use Rattle.gmp_book.specs.Went as went
 use Rattle.gmp_book.specs.Went.{GoesBy, IsOn, MovesBody, moved_of}
 use Rattle.gmp_book.proofs.Moves.{BodyMoves, BothMove, OwnerMoves, moves}
 
-clash : (b : Bool) → b ≡ true → b ≡ false → ⊥
+pub clash : (b : Bool) → b ≡ true → b ≡ false → ⊥
 clash b is not_ = false≢true (sym not_ ∙ is)
 
-off : (b : Bool) → not b ≡ true → b ≡ false
+pub off : (b : Bool) → not b ≡ true → b ≡ false
 off true e = absurd (false≢true e)
 off false e = refl
 
@@ -66,14 +66,14 @@ owner_stays c m old new _ run given back owners owners' in_ out h hands = hands
 
 -- Calls of a goroutine that runs
 
-own_way : (w : Way) (c : Call) (m : MNo) (old new : Table) → is_own c ≡ true → BodyMoves w c m old new → (w ≡ way.Stays) ⊎ (w ≡ way.Home)
+pub own_way : (w : Way) (c : Call) (m : MNo) (old new : Table) → is_own c ≡ true → BodyMoves w c m old new → (w ≡ way.Stays) ⊎ (w ≡ way.Home)
 own_way way.Stays c m old new is moves = inl refl
 own_way way.Home c m old new is moves = inr refl
 own_way way.OutOfPlace c m old new is moves = absurd (clash (hands_held c) (and_parts (hands_held c) (not (hands_proc c)) is).0 moves.1)
 own_way way.IntoCall c m old new is moves = absurd (clash (hands_proc c) moves.0 (off (hands_proc c) (and_parts (hands_held c) (not (hands_proc c)) is).1))
 own_way way.OutOfCall c m old new is moves = absurd (clash (hands_held c) (and_parts (hands_held c) (not (hands_proc c)) is).0 moves.1)
 
-own_known : (c : Call) (t : Table) → is_own c ≡ true → known_by c t ≡ None
+pub own_known : (c : Call) (t : Table) → is_own c ≡ true → known_by c t ≡ None
 own_known (call.Claim r) t is = absurd (false≢true is)
 own_known (call.Leave number) t is = absurd (false≢true is)
 own_known _ t is = refl

@@ -4,3 +4,4 @@ pub mod Moves
 pub mod Handing
 pub mod Settled
 pub mod Asking
+pub mod InPlace

@@ -4,3 +4,4 @@ pub mod Kinds
 pub mod Hands
 pub mod Went
 pub mod Returns
+pub mod InPlace

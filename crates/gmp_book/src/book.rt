@@ -22,6 +22,7 @@ mod asking;
 mod channels;
 mod ending;
 mod goroutines;
+mod in_place;
 mod machines;
 
 use crate::opening::{Unopened, first_passes, may_open};

@@ -1,16 +1,18 @@
 -- What an act is handed, from the parts that the machine keeps, and the parts of what comes back.
-use Rattle.std.specs.Prelude.{◌≡◌, ℕ, IfSome}
+use Rattle.std.specs.Prelude.{◌≡◌, ℕ, IfSome, Option, None, Some}
 use Rattle.std.specs.Option.{option_map}
 use Rattle.gmp_base.specs.declared.pass.Pass.{Pass}
 use Rattle.gmp_base.specs.declared.value.Called.{Called}
 use Rattle.gmp_base.specs.declared.value.Held.{Held}
 use Rattle.gmp_base.specs.declared.value.Proc.{Proc}
 use Rattle.gmp_base.specs.Values.{readiness_of, ticket_by}
+use Rattle.gmp_base.specs.declared.number.Readiness.{Readiness}
 use Rattle.gmp_driver.specs.declared.load.Load.{Load}
 use Rattle.gmp_driver.specs.declared.registers.CalledParts.{CalledParts}
 use Rattle.gmp_driver.specs.declared.registers.HeldParts.{HeldParts}
 use Rattle.gmp_driver.specs.declared.registers.ProcParts.{ProcParts}
 use Rattle.gmp_driver.specs.declared.registers.Registers.{Registers}
+use Rattle.gmp_driver.specs.Registers.{first_of}
 
 -- Values of a run, from their parts
 
@@ -54,6 +56,20 @@ parts_of load = record {
   to_claim = option_map readiness_of load.to_claim;
   to_store = option_map readiness_of load.to_store;
 }
+
+-- Registers that one value came into
+
+-- the goroutine that runs, where it goes on, and a ticket to store, where there is one
+abbrev pub with_held : {T Q : Type 0} → Option (Held T) → Option Readiness → Registers T Q → Registers T Q
+with_held held to_store hand = record hand { held = option_map held_parts held; to_store = first_of to_store hand.to_store }
+
+-- the goroutine of the ticket to claim, which is spent
+abbrev pub with_claimed : {T Q : Type 0} → Held T → Registers T Q → Registers T Q
+with_claimed held hand = record hand { held = Some (held_parts held); to_claim = None }
+
+-- a ticket to claim, where there is one
+abbrev pub with_to_claim : {T Q : Type 0} → Option Readiness → Registers T Q → Registers T Q
+with_to_claim to_claim hand = record hand { to_claim = first_of to_claim hand.to_claim }
 
 -- the pass and all values are of the run
 pub record IsOfRun {T Q : Type 0} (number : ℕ) (load : Load T Q) : Type 0 where

@@ -1,16 +1,17 @@
 //! A machine's program, and what the machine holds.
 ghost use Rattle.std.specs.Prelude.{◌≡◌, ◌≤◌, None, Some, IsNone, IsSome, false, is_some};
 ghost use Rattle.std.specs.Borrow.{sem};
-ghost use Rattle.std.specs.Option.{option_copied_mut};
+ghost use Rattle.std.specs.Option.{option_copied_mut, option_map};
 
 use crate::act::{Act, Told};
 use crate::hunt::victim_of;
 use crate::load::Load;
 use crate::place::Place;
-use crate::registers::{Registers, fill};
+use crate::registers::{HeldParts, Registers, fill, fill_if};
 use crate::seen::Seen;
-use crate::table::{act_at, go_on, next_fresh, next_turns};
-use gmp_base::{PNo, Pass, Woke};
+use crate::table::{act_at, fresh_by, go_on, go_on_by, next_fresh, next_turns, turns_by};
+use gmp_base::{Held, PNo, Pass, Readiness, Refusal, Woke};
+use gmp_seq::Reply;
 use std::marker::Model;
 
 /// One machine's program. A contract sees its place, its registers, the pass unless it is given out, and what it holds.
@@ -38,12 +39,13 @@ impl<T, Q> Model for Driver<T, Q> {
 }
 
 impl<T, Q> Driver<T, Q> {
+    ghost use Rattle.gmp_driver.specs.declared.act.Told.TheVariants as Told;
     ghost use Rattle.gmp_driver.specs.Bodies.{body_at, lends_body};
     ghost use Rattle.gmp_driver.specs.Fits.{SuitsPlace, IsDriver};
     ghost use Rattle.gmp_driver.specs.Hunt.{begun, victim_of};
-    ghost use Rattle.gmp_driver.specs.Loads.{IsOfRun, load_of, parts_of};
+    ghost use Rattle.gmp_driver.specs.Loads.{IsOfRun, held_of, load_of, parts_of, with_claimed, with_held, with_to_claim};
     ghost use Rattle.gmp_driver.specs.Machine.{held_at, is_done};
-    ghost use Rattle.gmp_driver.specs.Registers.{AreFilledOnce, joined, nothing, unused, used};
+    ghost use Rattle.gmp_driver.specs.Registers.{AreFilledOnce, but, joined, nothing, put_value, unused, used};
     ghost use Rattle.gmp_driver.specs.Seen.{seen};
     ghost use Rattle.gmp_driver.specs.Table.{after, next_act};
 
@@ -132,6 +134,102 @@ impl<T, Q> Driver<T, Q> {
         self.fresh = next_fresh(&self.place, seen, &told);
         self.turns = next_turns(&self.place, seen, &told);
         go_on(&mut self.place, seen, told);
+    }
+
+    /// Hands out the pass alone: what the machine holds stays in its registers.
+    #[inline(always)]
+    pub fn give_pass(&mut self) -> Pass
+        requires { IsSome self.old.pass }
+        ensures pass { self.old.pass ≡ Some result }
+        ensures run { result.run ≡ self.old.run }
+        ensures left { self.new ≡ record self.old { pass = None } }
+    {
+        self.pass.take().unwrap()
+    }
+
+    /// Hands out the goroutine that runs, where there is one.
+    #[inline(always)]
+    pub fn give_held(&mut self) -> Option<Held<T>>
+        requires { IsNone self.old.pass }
+        ensures held { result ≡ option_map (held_of self.old.run) self.old.hand.held }
+        ensures left { self.new ≡ record self.old { hand = record self.old.hand { held = None } } }
+    {
+        HeldParts::wrap(self.hand.held.take(), self.run)
+    }
+
+    /// Takes back the goroutine that runs, if it goes on, and a ticket to store, where there is one.
+    #[inline(always)]
+    pub fn got_held(&mut self, held: Option<Held<T>>, to_store: Option<Readiness>)
+        requires out { IsNone self.old.pass }
+        requires empty { IsNone self.old.hand.held }
+        ensures { self.new ≡ record self.old { hand = with_held held to_store self.old.hand } }
+    {
+        fill_if(&mut self.hand.held, HeldParts::of(held));
+        if let Some(r) = to_store {
+            self.hand.to_store = Some(r);
+        }
+    }
+
+    /// Takes the goroutine that runs, by the ticket to claim, which is spent.
+    #[inline(always)]
+    pub fn got_claimed(&mut self, held: Held<T>)
+        requires out { IsNone self.old.pass }
+        requires empty { IsNone self.old.hand.held }
+        ensures { self.new ≡ record self.old { hand = with_claimed held self.old.hand } }
+    {
+        fill_if(&mut self.hand.held, HeldParts::of(Some(held)));
+        self.hand.to_claim = None;
+    }
+
+    /// Takes a ticket to claim, where there is one.
+    #[inline(always)]
+    pub fn got_ticket(&mut self, to_claim: Option<Readiness>)
+        requires { IsNone self.old.pass }
+        ensures { self.new ≡ record self.old { hand = with_to_claim to_claim self.old.hand } }
+    {
+        if let Some(r) = to_claim {
+            self.hand.to_claim = Some(r);
+        }
+    }
+
+    /// Lets go of the ticket that was put onto the shelf: the one to store, where there is one, and else the one to claim.
+    #[inline(always)]
+    pub fn put_ticket(&mut self)
+        requires { IsNone self.old.pass }
+        ensures { self.new ≡ record self.old { hand = but (put_value self.old.hand.to_store) self.old.hand } }
+    {
+        match self.hand.to_store {
+            Some(_) => self.hand.to_store = None,
+            None => self.hand.to_claim = None,
+        }
+    }
+
+    /// Takes the pass back, is told the reply, and goes on to the next place, where it must hold what that place says.
+    // As `tell`, without a copy of the reply.
+    #[inline(always)]
+    pub fn got_reply(&mut self, pass: Pass, reply: &Reply)
+        requires out { IsNone self.old.pass }
+        requires run { pass.run ≡ self.old.run }
+        requires fits { SuitsPlace (after self.old (Told.Replied reply.now)).place self.old.hand }
+        ensures { self.new ≡ record (after self.old (Told.Replied reply.now)) { pass = Some pass } }
+    {
+        let seen = self.seen();
+        self.fresh = fresh_by(&self.place, seen, reply);
+        self.turns = turns_by(&self.place, seen, reply);
+        go_on_by(&mut self.place, seen, reply);
+        fill(&mut self.pass, pass);
+    }
+
+    /// Takes the pass back, is told why the call was refused, and goes on to the next place, where it must hold what that place says.
+    #[inline(always)]
+    pub fn got_refusal(&mut self, pass: Pass, why: Refusal)
+        requires out { IsNone self.old.pass }
+        requires run { pass.run ≡ self.old.run }
+        requires fits { SuitsPlace (after self.old (Told.Refused why)).place self.old.hand }
+        ensures { self.new ≡ record (after self.old (Told.Refused why)) { pass = Some pass } }
+    {
+        self.tell(Told::Refused(why));
+        fill(&mut self.pass, pass);
     }
 
     /// Hands out the pass, and the values that the next act uses.

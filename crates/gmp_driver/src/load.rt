@@ -102,7 +102,7 @@ impl<T, Q> Registers<T, Q> {
 impl<T> HeldParts<T> {
     /// The parts of a goroutine, where there is one.
     #[inline(always)]
-    fn of(held: Option<Held<T>>) -> Option<Self>
+    pub(crate) fn of(held: Option<Held<T>>) -> Option<Self>
         ensures { result ≡ option_map held_parts held }
     {
         let (_, g, woke, body) = held?.open();
@@ -111,7 +111,7 @@ impl<T> HeldParts<T> {
 
     /// The goroutine of these parts, where there are some.
     #[inline(always)]
-    fn wrap(parts: Option<Self>, run: u64) -> Option<Held<T>>
+    pub(crate) fn wrap(parts: Option<Self>, run: u64) -> Option<Held<T>>
         ensures { result ≡ option_map (held_of run) parts }
     {
         let HeldParts { g, woke, body } = parts?;

@@ -1,6 +1,8 @@
 //! The table of a machine's program.
 ghost use Rattle.std.specs.Prelude.{◌≡◌, ◌≤◌};
+ghost use Rattle.gmp_base.specs.declared.ask.Ask.{Ask};
 ghost use Rattle.gmp_driver.specs.declared.act.Told.TheVariants as Told;
+ghost use Rattle.gmp_driver.specs.declared.place.Place.TheVariants as Place;
 ghost use Rattle.gmp_driver.specs.Table as table;
 
 use crate::act::{Act, Told, Tried};
@@ -115,19 +117,20 @@ fn raised(before: u64, ask: &Ask) -> bool
     }
 }
 
-/// Where a call of the body leads.
+/// Goes where a call of the body leads.
+// Each arm writes its own place: a place is large, and to answer one copies all of it.
 #[inline(always)]
-fn after_ask(ask: &Ask, reply: Reply) -> Place
-    ensures { result ≡ table.after_ask ask.now reply }
+fn go_on_asked(here: &mut Place, reply: &Reply)
+    ensures { (asked : Ask) → here.old ≡ Place.Do asked → here.new ≡ table.after_ask asked reply.now }
 {
-    match reply {
-        Reply::Waits | Reply::Shelved(_) | Reply::Dead => Place::Look,
-        Reply::MainEnded => Place::Over,
-        Reply::Entered(_, _) => Place::Block,
-        _ if reply.ticket().is_some() => Place::Store,
-        Reply::Number(before) if raised(before, ask) => Place::Poke,
-        _ if reply.closed() > 0 => Place::Poke,
-        _ => Place::Run,
+    match (&*here, reply) {
+        (_, Reply::Waits | Reply::Shelved(_) | Reply::Dead) => *here = Place::Look,
+        (_, Reply::MainEnded) => *here = Place::Over,
+        (_, Reply::Entered(_, _)) => *here = Place::Block,
+        (Place::Do(ask), Reply::Number(before)) if raised(*before, ask) => *here = Place::Poke,
+        _ if reply.ticket().is_some() => *here = Place::Store,
+        _ if reply.closed() > 0 => *here = Place::Poke,
+        _ => *here = Place::Run,
     }
 }
 
@@ -144,48 +147,50 @@ fn scanned(procs: u8, v: PNo) -> Place
 
 /// Goes where this reply leads.
 #[inline(always)]
-fn go_on_by(here: &mut Place, seen: Seen, reply: Reply)
-    ensures { here.new ≡ table.next_place seen here.old (Told.Replied reply) }
+pub(crate) fn go_on_by(here: &mut Place, seen: Seen, reply: &Reply)
+    ensures { here.new ≡ table.next_place seen here.old (Told.Replied reply.now) }
 {
-    let there = match (&*here, reply) {
-        (Place::Start, Reply::Proc(_)) => Place::Look,
-        (Place::Start, Reply::Nothing) => Place::Bare,
-        (Place::Ticking(_), Reply::Woke(_)) if seen.procs == 1 => Place::Look,
-        (Place::Ticking(_), Reply::Woke(_)) => Place::Keep,
-        (Place::Global, Reply::Ticket(_)) => Place::Claim,
-        (Place::Keep, Reply::Answer(true)) => Place::Look,
-        (Place::Keep, Reply::Answer(false)) => Place::Drain,
-        (Place::PutDrain, Reply::Shelf) => Place::Drain,
-        (Place::Global, Reply::Nothing) if seen.procs == 1 => Place::Drop,
-        (Place::Global, Reply::Nothing) => Place::Spin,
-        (Place::Spin, Reply::Answer(true)) => Place::Hunt(None),
-        (Place::Spin, Reply::Answer(false)) => Place::Drop,
-        (Place::PutMore(v, goal), Reply::Shelf) => more(*v, *goal),
-        (Place::Unspin, Reply::Done) if seen.to_claim.is_some() => Place::Claim,
-        (Place::Unspin, Reply::Done) => Place::Drop,
-        (Place::Claim, Reply::Wakes(_) | Reply::Nothing) => Place::Claim,
-        (Place::Claim, Reply::Held) => Place::Run,
-        (Place::Do(ask), reply) => after_ask(ask, reply),
-        (Place::PutStore, Reply::Shelf) => Place::Poke,
-        (Place::Poke, Reply::Wakes(_) | Reply::Nothing) => Place::Run,
-        (Place::Leave(_), Reply::Runs(_)) => Place::Run,
-        (Place::Leave(_), Reply::Shelved(_)) => Place::Bare,
-        (Place::Drop, Reply::Idle(_)) => Place::Scan(PNo(0)),
-        (Place::Bare, Reply::Done) => Place::Scan(PNo(0)),
-        (Place::Have, Reply::Proc(_)) => Place::Claim,
-        (Place::Have, Reply::Nothing) => Place::PutHave,
-        (Place::PutHave, Reply::Shelf) => Place::Bare,
-        (Place::Park, Reply::Parked) => Place::Rest,
-        (Place::Park, Reply::Work) => Place::Start,
-        (Place::Park, Reply::Mind(deadline)) => Place::Mind(deadline),
-        (Place::Park, Reply::AllAsleep) => Place::Over,
-        (Place::Park, Reply::LookAgain) => Place::Bare,
-        (Place::Rest, Reply::Answer(true)) => Place::Start,
-        (Place::Rest, Reply::Answer(false)) => Place::Rest,
-        (Place::MindTick(_), Reply::Woke(_)) => Place::Start,
-        (_, _) => return,
-    };
-    *here = there;
+    match (&*here, reply) {
+        (Place::Start, Reply::Proc(_)) => *here = Place::Look,
+        (Place::Start, Reply::Nothing) => *here = Place::Bare,
+        (Place::Ticking(_), Reply::Woke(_)) if seen.procs == 1 => *here = Place::Look,
+        (Place::Ticking(_), Reply::Woke(_)) => *here = Place::Keep,
+        (Place::Global, Reply::Ticket(_)) => *here = Place::Claim,
+        (Place::Keep, Reply::Answer(true)) => *here = Place::Look,
+        (Place::Keep, Reply::Answer(false)) => *here = Place::Drain,
+        (Place::PutDrain, Reply::Shelf) => *here = Place::Drain,
+        (Place::Global, Reply::Nothing) if seen.procs == 1 => *here = Place::Drop,
+        (Place::Global, Reply::Nothing) => *here = Place::Spin,
+        (Place::Spin, Reply::Answer(true)) => *here = Place::Hunt(None),
+        (Place::Spin, Reply::Answer(false)) => *here = Place::Drop,
+        (Place::PutMore(v, goal), Reply::Shelf) => {
+            let there = more(*v, *goal);
+            *here = there;
+        }
+        (Place::Unspin, Reply::Done) if seen.to_claim.is_some() => *here = Place::Claim,
+        (Place::Unspin, Reply::Done) => *here = Place::Drop,
+        (Place::Claim, Reply::Wakes(_) | Reply::Nothing) => *here = Place::Claim,
+        (Place::Claim, Reply::Held) => *here = Place::Run,
+        (Place::Do(_), _) => go_on_asked(here, reply),
+        (Place::PutStore, Reply::Shelf) => *here = Place::Poke,
+        (Place::Poke, Reply::Wakes(_) | Reply::Nothing) => *here = Place::Run,
+        (Place::Leave(_), Reply::Runs(_)) => *here = Place::Run,
+        (Place::Leave(_), Reply::Shelved(_)) => *here = Place::Bare,
+        (Place::Drop, Reply::Idle(_)) => *here = Place::Scan(PNo(0)),
+        (Place::Bare, Reply::Done) => *here = Place::Scan(PNo(0)),
+        (Place::Have, Reply::Proc(_)) => *here = Place::Claim,
+        (Place::Have, Reply::Nothing) => *here = Place::PutHave,
+        (Place::PutHave, Reply::Shelf) => *here = Place::Bare,
+        (Place::Park, Reply::Parked) => *here = Place::Rest,
+        (Place::Park, Reply::Work) => *here = Place::Start,
+        (Place::Park, Reply::Mind(deadline)) => *here = Place::Mind(*deadline),
+        (Place::Park, Reply::AllAsleep) => *here = Place::Over,
+        (Place::Park, Reply::LookAgain) => *here = Place::Bare,
+        (Place::Rest, Reply::Answer(true)) => *here = Place::Start,
+        (Place::Rest, Reply::Answer(false)) => *here = Place::Rest,
+        (Place::MindTick(_), Reply::Woke(_)) => *here = Place::Start,
+        (_, _) => {}
+    }
 }
 
 /// Goes where what came of the act leads.
@@ -196,7 +201,7 @@ pub(crate) fn go_on(here: &mut Place, seen: Seen, told: Told)
 {
     let there = match (&*here, told) {
         (_, Told::Refused(Refusal::Over)) => Place::Over,
-        (_, Told::Replied(reply)) => return go_on_by(here, seen, reply),
+        (_, Told::Replied(reply)) => return go_on_by(here, seen, &reply),
         (Place::Look, Told::Moment(now)) => Place::Ticking(now),
         (Place::Look, Told::Got) => Place::Claim,
         (Place::Look, Told::Empty) => Place::Global,
@@ -232,14 +237,25 @@ pub(crate) fn go_on(here: &mut Place, seen: Seen, told: Told)
 pub(crate) fn next_fresh(here: &Place, seen: Seen, told: &Told) -> bool
     ensures { result ≡ table.next_fresh seen here.now told.now }
 {
-    match (here, told) {
-        (Place::Ticking(_), Told::Replied(Reply::Woke(n))) => *n != 0 || seen.fresh,
-        (Place::Unspin, Told::Replied(Reply::Done)) => seen.to_claim.is_some() || seen.fresh,
-        (Place::Claim, Told::Replied(Reply::Wakes(_) | Reply::Nothing)) => false,
-        (Place::Have, Told::Replied(Reply::Proc(_))) => true,
-        (Place::Park, Told::Replied(Reply::Work)) => true,
-        (Place::Rest, Told::Replied(Reply::Answer(true))) => true,
-        (Place::MindTick(_), Told::Replied(Reply::Woke(_))) => true,
+    match told {
+        Told::Replied(reply) => fresh_by(here, seen, reply),
+        _ => seen.fresh,
+    }
+}
+
+/// Whether another machine is to be woken for what this one found, by a reply.
+#[inline(always)]
+pub(crate) fn fresh_by(here: &Place, seen: Seen, reply: &Reply) -> bool
+    ensures { result ≡ table.next_fresh seen here.now (Told.Replied reply.now) }
+{
+    match (here, reply) {
+        (Place::Ticking(_), Reply::Woke(n)) => *n != 0 || seen.fresh,
+        (Place::Unspin, Reply::Done) => seen.to_claim.is_some() || seen.fresh,
+        (Place::Claim, Reply::Wakes(_) | Reply::Nothing) => false,
+        (Place::Have, Reply::Proc(_)) => true,
+        (Place::Park, Reply::Work) => true,
+        (Place::Rest, Reply::Answer(true)) => true,
+        (Place::MindTick(_), Reply::Woke(_)) => true,
         _ => seen.fresh,
     }
 }
@@ -251,10 +267,23 @@ pub(crate) fn next_turns(here: &Place, seen: Seen, told: &Told) -> u8
     ensures turns { result ≡ table.next_turns seen here.now told.now }
     ensures few { result ≤ 16 }
 {
-    match (here, told) {
-        (Place::Ticking(_), Told::Replied(Reply::Woke(_))) => 0,
-        (Place::Claim, Told::Replied(Reply::Held)) => (seen.turns + 1).min(16),
-        (Place::MindTick(_), Told::Replied(Reply::Woke(_))) => 0,
+    match told {
+        Told::Replied(reply) => turns_by(here, seen, reply),
+        _ => seen.turns,
+    }
+}
+
+/// Claims since the last tick, up to 16, by a reply.
+#[inline(always)]
+pub(crate) fn turns_by(here: &Place, seen: Seen, reply: &Reply) -> u8
+    requires { seen.turns ≤ 16 }
+    ensures turns { result ≡ table.next_turns seen here.now (Told.Replied reply.now) }
+    ensures few { result ≤ 16 }
+{
+    match (here, reply) {
+        (Place::Ticking(_), Reply::Woke(_)) => 0,
+        (Place::Claim, Reply::Held) => (seen.turns + 1).min(16),
+        (Place::MindTick(_), Reply::Woke(_)) => 0,
         _ => seen.turns,
     }
 }

@@ -9,3 +9,4 @@ pub mod Giving
 pub mod Keeping
 pub mod Moving
 pub mod Kept
+pub mod InPlace

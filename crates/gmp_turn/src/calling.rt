@@ -6,6 +6,7 @@ ghost use Rattle.gmp_driver.specs.Table.{next_act};
 ghost use Rattle.gmp_ledger.specs.Grants.{NeedsMemory};
 ghost use Rattle.gmp_turn.specs.Turns.{HasMemory, Turns, woken_in};
 
+use crate::in_place::{alone_turn, claim_turn, own_turn, put_turn};
 use crate::passing::{is_to_claim, load_back, opened, told_to_driver};
 use gmp_base::{MNo, Refusal};
 use gmp_book::Book;
@@ -18,6 +19,55 @@ use std::alloc::Global;
 /// why the book refused it. A make is handed memory, and `word` chooses among the cases of a select. The driver holds what its new place
 /// says.
 pub fn turn<T, Q>(
+    memory: Option<Global>,
+    driver: &mut Driver<T, Q>,
+    book: &mut Book<T, Q>,
+    call: Call,
+    word: u64,
+) -> Result<Reply, Refusal>
+    requires act { next_act driver.old ≡ act.Call call }
+    requires memory { NeedsMemory call memory }
+    requires pass { IsSome driver.old.pass }
+    requires run { driver.old.run ≡ book.old.log.run }
+    // `Driver::next`, which names the call, says so.
+    requires keeps { SuitsPlace driver.old.place driver.old.hand }
+    ensures turns { Turns driver.old book.old call word result driver.new book.new }
+    ensures fits { SuitsPlace driver.new.place driver.new.hand }
+    ensures pass { IsSome driver.new.pass }
+    ensures run { driver.new.run ≡ book.new.log.run }
+{
+    match call {
+        Call::Claim(r) => claim_turn(driver, book, r),
+        Call::Put(r) => put_turn(driver, book, r),
+        Call::Take
+        | Call::Poke
+        | Call::Spin
+        | Call::Unspin
+        | Call::Woken
+        | Call::Keep
+        | Call::Bare
+        | Call::Park
+        | Call::Tick(_) => alone_turn(driver, book, call, word),
+        Call::Yield
+        | Call::Exit
+        | Call::Send(_, _)
+        | Call::Recv(_)
+        | Call::Select(_, _, _)
+        | Call::Go(_)
+        | Call::Close(_)
+        | Call::Len(_)
+        | Call::Cap(_)
+        | Call::Sleep(_)
+        | Call::Procs(_)
+        | Call::Gopark
+        | Call::Ready(_) => own_turn(driver, book, call, word),
+        _ => turn_by_values(memory, driver, book, call, word),
+    }
+}
+
+/// A turn with the values that the driver hands out.
+#[inline(never)]
+fn turn_by_values<T, Q>(
     memory: Option<Global>,
     driver: &mut Driver<T, Q>,
     book: &mut Book<T, Q>,

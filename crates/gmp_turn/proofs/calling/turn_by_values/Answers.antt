@@ -3,8 +3,8 @@ use Rattle.gmp_driver.proofs.Uses.{uses}
 use Rattle.gmp_turn.specs.Turns.{handed_out, values_in}
 use Rattle.gmp_turn.proofs.Coming.{Came, all_of, came, same_run}
 use Rattle.gmp_turn.proofs.Given.{suits}
-use Rattle.gmp_turn.proofs.calling.turn.Given.{Over}
-use Rattle.gmp_turn.proofs.calling.turn.Goals as goal
+use Rattle.gmp_turn.proofs.calling.turn_by_values.Given.{Over}
+use Rattle.gmp_turn.proofs.calling.turn_by_values.Goals as goal
 
 pub call-values-requires-clause-suits : goal.call-values-requires-clause-suits
 call-values-requires-clause-suits g c =
