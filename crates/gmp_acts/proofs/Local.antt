@@ -1,12 +1,12 @@
 -- Where acts on local queues, bodies and the clock lead: by place what the machine does then, and by gmp_driver what it holds.
-use Rattle.std.proofs.Common.{◌≡◌, ℕ, zero, suc, Bool, true, false, if◌then◌else◌, nat_le, is_some, Option, None, Some, refl, ap, subst, ◌∙◌}
+use Rattle.std.proofs.Common.{◌≡◌, ℕ, zero, suc, Bool, true, false, if◌then◌else◌, nat_le, is_some, Option, None, Some, refl, sym, ap, subst, ◌∙◌}
 use Rattle.gmp_base.specs.declared.ask.Ask.{Ask}
 use Rattle.gmp_base.specs.declared.ask.Ask.TheVariants as ask
 use Rattle.gmp_base.specs.declared.number.PNo.{PNo}
 use Rattle.gmp_base.specs.declared.number.Readiness.{Readiness}
 use Rattle.gmp_seq.specs.declared.call.Call.TheVariants as call
 use Rattle.gmp_seq.specs.declared.status.Mode.{Mode}
-use Rattle.gmp_driver.proofs.Local.{can_be_told}
+use Rattle.gmp_driver.proofs.Local.{can_be_told, suits_then}
 use Rattle.gmp_driver.proofs.Parts.{whole}
 use Rattle.gmp_driver.proofs.Uses.{none_of}
 use Rattle.gmp_driver.specs.declared.act.Act.{Act}
@@ -150,21 +150,11 @@ ticket_fits x how r f m e =
 
 -- a ticket that is drained is one to store
 pub drained_fits : (x : PlainMachine) (r : Readiness) → SuitsPlace x.place x.hand → next_act x ≡ act.Drain → FitsWith x told.Drained (record x.hand { to_store = Some r })
-drained_fits x r f e =
-    let came : PlainHand = record (used act.Drain x.hand) { to_store = Some r } in
-    let all : joined came (unused act.Drain x.hand) ≡ record x.hand { to_store = Some r } = ap (λ (h : PlainHand). let l : PlainHand = record h { to_store = Some r } in l) (whole act.Drain x.hand) in
-    subst (FitsWith x told.Drained) all
-    (subst (λ (a : Act). SuitsPlace x.place x.hand → MayCome a told.Drained → filled came ≡ come_back told.Drained (is_some x.hand.to_claim) (filled (used a x.hand)) → FitsWith x told.Drained (joined came (unused a x.hand))) e
-    (λ f m b. (can_be_told x told.Drained came f m b).1) f tt refl)
+drained_fits x r f e = suits_then x told.Drained (record x.hand { to_store = Some r }) f (subst (λ (a : Act). MayCome a told.Drained) (sym e) tt) refl
 
 -- a ticket that is pushed doesn't
 pub pushed_fits : (x : PlainMachine) → SuitsPlace x.place x.hand → next_act x ≡ act.Push → FitsWith x told.Pushed (record x.hand { to_store = None })
-pushed_fits x f e =
-    let came : PlainHand = record (used act.Push x.hand) { to_store = None } in
-    let all : joined came (unused act.Push x.hand) ≡ record x.hand { to_store = None } = ap (λ (h : PlainHand). let l : PlainHand = record h { to_store = None } in l) (whole act.Push x.hand) in
-    subst (FitsWith x told.Pushed) all
-    (subst (λ (a : Act). SuitsPlace x.place x.hand → MayCome a told.Pushed → filled came ≡ come_back told.Pushed (is_some x.hand.to_claim) (filled (used a x.hand)) → FitsWith x told.Pushed (joined came (unused a x.hand))) e
-    (λ f m b. (can_be_told x told.Pushed came f m b).1) f tt refl)
+pushed_fits x f e = suits_then x told.Pushed (record x.hand { to_store = None }) f (subst (λ (a : Act). MayCome a told.Pushed) (sym e) tt) refl
 
 -- a make that wanted memory leads back to the body
 pub unmade_leads : (what : Option Mode) (capacity : ℕ) (here there : Place) → here ≡ place.Do (ask.Make capacity) → there ≡ place.Run → Leads here there what

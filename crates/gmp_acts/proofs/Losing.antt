@@ -20,7 +20,7 @@ use Rattle.gmp_driver.specs.Seen.{number_of, own_processor, seen}
 use Rattle.gmp_driver.specs.Table.{act_at, after, next_act, next_place}
 use Rattle.gmp_acts.specs.declared.choice.Choice.{Choice}
 use Rattle.gmp_acts.specs.declared.made.Made.{Made}
-use Rattle.gmp_acts.specs.Acts.{Acts, Answers, DoesAct, given_back, drained_from, popped_from, pushed, queue_of, stolen, stolen_from, with_local, with_queue, with_ticket}
+use Rattle.gmp_acts.specs.Acts.{Acts, Answers, DoesAct, given_back, own_taken_from, pushed, queue_of, stolen, stolen_from, with_local, with_queue, with_ticket}
 use Rattle.gmp_acts.specs.Hands.{PlainMachine}
 use Rattle.gmp_acts.specs.Kept.{IsLocal, KeepsAll}
 use Rattle.gmp_acts.specs.Sound.{IsSound}
@@ -77,7 +77,7 @@ module _ (k : System) (m : MNo) (inside : m.0 < length k.machines) where
 
   module _ (s : IsSound k) where
     pops : (o : Option PNo) (queue : List Readiness) → own_processor (machine_at k m).hand ≡ o → queue_of k.queues o ≡ queue → next_act (machine_at k m) ≡ act.Pop
-        → KeepsAll k m (with_local k m (popped_from (machine_at k m) k.queues queue))
+        → KeepsAll k m (with_local k m (own_taken_from false (machine_at k m) k.queues queue))
     pops o [] own is e = told_keeps told.Empty
     pops None (t ∷ rest) own is e = absurd (let no : [] ≡ t ∷ rest = is in cc)
     pops (Some p) (t ∷ rest) own is e =
@@ -86,7 +86,7 @@ module _ (k : System) (m : MNo) (inside : m.0 < length k.machines) where
         (took_keeps p.0 t rest told.Got None is free.1 free.0)
 
     drains : (o : Option PNo) (queue : List Readiness) → own_processor (machine_at k m).hand ≡ o → queue_of k.queues o ≡ queue → next_act (machine_at k m) ≡ act.Drain
-        → KeepsAll k m (with_local k m (drained_from (machine_at k m) k.queues queue))
+        → KeepsAll k m (with_local k m (own_taken_from true (machine_at k m) k.queues queue))
     drains o [] own is e = told_keeps told.Empty
     drains None (t ∷ rest) own is e = absurd (let no : [] ≡ t ∷ rest = is in cc)
     drains (Some p) (t ∷ rest) own is e =

@@ -47,7 +47,7 @@ use Rattle.gmp_acts.specs.Hands.{hand_unmade}
 use Rattle.gmp_acts.specs.declared.choice.Choice.{Choice}
 use Rattle.gmp_acts.specs.declared.made.Made.{Made}
 use Rattle.gmp_acts.specs.System.{System, Has, machine_at, no_machine, held_number, called_number, is_same, is_ticket, in_hand, in_queue}
-use Rattle.gmp_acts.specs.Acts.{Answers, HasFewCases, Unmade, with_local, with_queue, queue_of, with_ticket, popped_from, drained_from, stolen_from, stolen, pushed, given_back, DoesAct, Acts, ActsAll}
+use Rattle.gmp_acts.specs.Acts.{Answers, HasFewCases, Unmade, with_local, with_queue, queue_of, with_ticket, own_taken_from, stolen_from, stolen, pushed, given_back, DoesAct, Acts, ActsAll}
 use Rattle.gmp_acts.specs.Sound.{Agrees, HasFewAt, IsEnd, IsSound}
 use Rattle.gmp_acts.proofs.Kept.{at_machine, hands_set, turns_few, accepted_sound}
 use Rattle.gmp_acts.proofs.Lands.{retold_some, some_of}
@@ -277,7 +277,7 @@ module _ (k : System) (m : MNo) (inside : m.0 < length k.machines) (s : IsSound 
       })
 
   pops : (o : Option PNo) (queue : List Readiness) → own_processor (machine_at k m).hand ≡ o → queue_of k.queues o ≡ queue → next_act (machine_at k m) ≡ act.Pop
-      → IsSound (with_local k m (popped_from (machine_at k m) k.queues queue))
+      → IsSound (with_local k m (own_taken_from false (machine_at k m) k.queues queue))
   pops o [] own is e = same_hand act.Pop told.Empty e tt tt refl
   pops None (t ∷ rest) own is e = absurd (let no : [] ≡ t ∷ rest = is in cc)
   pops (Some p) (t ∷ rest) own is e =
@@ -288,7 +288,7 @@ module _ (k : System) (m : MNo) (inside : m.0 < length k.machines) (s : IsSound 
       (took act.Pop p.0 t rest told.Got e tt tt is free.1 (popped_back t X.hand free.0)))
 
   drains : (o : Option PNo) (queue : List Readiness) → own_processor (machine_at k m).hand ≡ o → queue_of k.queues o ≡ queue → next_act (machine_at k m) ≡ act.Drain
-      → IsSound (with_local k m (drained_from (machine_at k m) k.queues queue))
+      → IsSound (with_local k m (own_taken_from true (machine_at k m) k.queues queue))
   drains o [] own is e = same_hand act.Drain told.Empty e tt tt refl
   drains None (t ∷ rest) own is e = absurd (let no : [] ≡ t ∷ rest = is in cc)
   drains (Some p) (t ∷ rest) own is e =

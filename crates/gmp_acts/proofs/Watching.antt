@@ -40,7 +40,7 @@ use Rattle.gmp_driver.specs.Seen.{own_processor, seen, seen_of}
 use Rattle.gmp_driver.specs.Table.{act_at, after, next_act, next_place}
 use Rattle.gmp_acts.specs.declared.choice.Choice.{Choice}
 use Rattle.gmp_acts.specs.declared.made.Made.{Made}
-use Rattle.gmp_acts.specs.Acts.{Accepted, Acts, ActsAll, Answers, DoesAct, Unmade, given_back, drained_from, popped_from, pushed, queue_of, stolen, stolen_from, with_local, with_queue, with_ticket}
+use Rattle.gmp_acts.specs.Acts.{Accepted, Acts, ActsAll, Answers, DoesAct, Unmade, given_back, own_taken_from, pushed, queue_of, stolen, stolen_from, with_local, with_queue, with_ticket}
 use Rattle.gmp_acts.specs.Hands.{PlainHand, PlainMachine, hand_after, hand_unmade}
 use Rattle.gmp_acts.specs.Headline.{opening_system}
 use Rattle.gmp_acts.specs.Lookouts.{IsLookout, IsQuiet, IsWatched, IsWatchful, NoWorkIsAsleep, has_passed}
@@ -347,7 +347,7 @@ module _ (k : System) (m : MNo) (inside : m.0 < length k.machines) (s : IsSound 
       ]
 
   pops : (o : Option PNo) (queue : List Readiness) → own_processor (machine_at k m).hand ≡ o → queue_of k.queues o ≡ queue → next_act (machine_at k m) ≡ act.Pop
-      → IsWatchful (with_local k m (popped_from (machine_at k m) k.queues queue))
+      → IsWatchful (with_local k m (own_taken_from false (machine_at k m) k.queues queue))
   pops o [] own is e = told_watchful act.Pop told.Empty e tt (λ v at none. absurd (let no : ⊥ = cc in no))
   pops None (t ∷ rest) own is e = absurd (let no : [] ≡ t ∷ rest = is in cc)
   pops (Some p) (t ∷ rest) own is e =
@@ -355,7 +355,7 @@ module _ (k : System) (m : MNo) (inside : m.0 < length k.machines) (s : IsSound 
       (took_watchful act.Pop p.0 t rest told.Got (record X.hand { to_claim = Some t }) e tt (λ none. cc) is)
 
   drains : (o : Option PNo) (queue : List Readiness) → own_processor (machine_at k m).hand ≡ o → queue_of k.queues o ≡ queue → next_act (machine_at k m) ≡ act.Drain
-      → IsWatchful (with_local k m (drained_from (machine_at k m) k.queues queue))
+      → IsWatchful (with_local k m (own_taken_from true (machine_at k m) k.queues queue))
   drains o [] own is e = told_watchful act.Drain told.Empty e tt (λ v at none. absurd (let no : ⊥ = cc in no))
   drains None (t ∷ rest) own is e = absurd (let no : [] ≡ t ∷ rest = is in cc)
   drains (Some p) (t ∷ rest) own is e =

@@ -19,10 +19,11 @@ use Rattle.gmp_driver.specs.declared.act.Act.{Act}
 use Rattle.gmp_driver.specs.declared.act.Act.TheVariants as act
 use Rattle.gmp_driver.specs.declared.act.Told.{Told}
 use Rattle.gmp_driver.specs.declared.act.Told.TheVariants as told
-use Rattle.gmp_driver.specs.declared.act.Tried.{Tried}
 use Rattle.gmp_driver.specs.declared.act.Tried.TheVariants as tried
 use Rattle.gmp_driver.specs.declared.act.Value.{Value}
 use Rattle.gmp_driver.specs.Hunt.{begun, victim_of}
+use Rattle.gmp_driver.specs.Local.{popped_for, tells}
+use Rattle.gmp_driver.specs.Own.{with_found}
 use Rattle.gmp_driver.specs.Registers.{but}
 use Rattle.gmp_driver.specs.Seen.{own_processor, seen}
 use Rattle.gmp_driver.specs.Table.{after, next_act}
@@ -111,28 +112,22 @@ abbrev pub with_ticket : Readiness → PlainHand → Option Readiness → PlainH
 with_ticket r hand None = record hand { to_claim = Some r }
 with_ticket r hand (Some t) = record hand { to_store = Some r }
 
--- the machine takes the first of the own queue, or there is none
-abbrev pub popped_from : PlainMachine → List (List Readiness) → List Readiness → WithQueues
-popped_from x queues [] = (after x told.Empty, queues)
-popped_from x queues (r ∷ rest) =
-    (after (record x { hand = record x.hand { to_claim = Some r } }) told.Got, with_queue queues (own_processor x.hand) rest)
+-- the machine takes the first of the own queue, to claim it or to store it, or there is none
+abbrev pub own_taken_from : Bool → PlainMachine → List (List Readiness) → List Readiness → WithQueues
+own_taken_from is_to_store x queues [] = (after x told.Empty, queues)
+own_taken_from is_to_store x queues (r ∷ rest) =
+    (after (record x { hand = with_found r is_to_store x.hand }) (popped_for is_to_store), with_queue queues (own_processor x.hand) rest)
 
+abbrev pub own_taken : Bool → PlainMachine → List (List Readiness) → WithQueues
+own_taken is_to_store x queues = own_taken_from is_to_store x queues (queue_of queues (own_processor x.hand))
+
+-- a pop's ticket is one to claim
 abbrev pub popped : PlainMachine → List (List Readiness) → WithQueues
-popped x queues = popped_from x queues (queue_of queues (own_processor x.hand))
+popped x queues = own_taken false x queues
 
--- the machine takes the first of the own queue, to store it, or there is none
-abbrev pub drained_from : PlainMachine → List (List Readiness) → List Readiness → WithQueues
-drained_from x queues [] = (after x told.Empty, queues)
-drained_from x queues (r ∷ rest) =
-    (after (record x { hand = record x.hand { to_store = Some r } }) told.Drained, with_queue queues (own_processor x.hand) rest)
-
+-- a drain's is one to store
 abbrev pub drained : PlainMachine → List (List Readiness) → WithQueues
-drained x queues = drained_from x queues (queue_of queues (own_processor x.hand))
-
--- what a machine is told of a steal: with the word, where it drew one
-abbrev pub tells : Option ℕ → Tried → Told
-tells None how = told.Tried how
-tells (Some word) how = told.Drew word how
+drained x queues = own_taken true x queues
 
 -- it takes the first of processor v's queue, or there is none; the hint is the queue's length before
 abbrev pub stolen_from : PlainMachine → Option ℕ → List (List Readiness) → PNo → List Readiness → WithQueues

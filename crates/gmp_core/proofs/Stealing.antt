@@ -1,25 +1,22 @@
--- What may come of acts that tell alone, and of steals; and in plain parts what a steal came to.
-use Rattle.std.proofs.Common.{◌≡◌, ℕ, Bool, true, is_some, List, [], ◌∷◌, Option, None, Some, length, refl, sym, ap, subst, ◌∙◌}
+-- What comes of acts that tell alone, and in plain parts what a steal came to.
+use Rattle.std.proofs.Common.{◌≡◌, ℕ, Bool, true, is_some, List, [], ◌∷◌, Option, None, Some, length, refl, ap, ◌∙◌}
 use Rattle.gmp_base.specs.declared.number.PNo.{PNo}
 use Rattle.gmp_base.specs.declared.number.Readiness.{Readiness}
 use Rattle.gmp_driver.specs.declared.act.Act.{Act}
 use Rattle.gmp_driver.specs.declared.act.Act.TheVariants as act
 use Rattle.gmp_driver.specs.declared.act.Told.{Told}
 use Rattle.gmp_driver.specs.declared.act.Told.TheVariants as told
-use Rattle.gmp_driver.specs.declared.act.Tried.{Tried}
 use Rattle.gmp_driver.specs.declared.act.Tried.TheVariants as tried
 use Rattle.gmp_driver.specs.declared.registers.Registers.{Registers}
-use Rattle.gmp_driver.specs.Fits.{SuitsPlace}
-use Rattle.gmp_driver.specs.Local.{Filled, MayCome, come_back, filled_with_stolen}
+use Rattle.gmp_driver.specs.Local.{Filled, MayCome, come_back, tells}
 use Rattle.gmp_driver.specs.Machine.{Machine}
-use Rattle.gmp_driver.specs.Registers.{used}
-use Rattle.gmp_driver.specs.Table.{after, next_act}
+use Rattle.gmp_driver.specs.Own.{with_found}
+use Rattle.gmp_driver.specs.Table.{after}
 use Rattle.gmp_acts.proofs.Plain.{after_plain}
-use Rattle.gmp_acts.specs.Acts.{WithQueues, stolen, stolen_from, tells, with_ticket}
+use Rattle.gmp_acts.specs.Acts.{WithQueues, stolen, stolen_from, with_ticket}
 use Rattle.gmp_acts.specs.Hands.{PlainMachine, plain, plain_machine}
-use Rattle.gmp_core.specs.Local.{IsSteal, IsTold}
+use Rattle.gmp_core.specs.Local.{IsTold}
 use Rattle.gmp_core.specs.Queues.{Pops}
-use Rattle.gmp_core.proofs.Landing.{Lands, all_lands, taken_lands, with_taken}
 
 -- nothing comes with what a machine is told of its body or the clock
 pub told_alone : (a : Act) (what : Told) → IsTold a → MayCome a what → (has : Bool) (f : Filled) → come_back what has f ≡ f
@@ -31,29 +28,9 @@ told_alone (act.Clock minded) (told.Moment now) is may has f = refl
 told_alone (act.Clock minded) _ is may has f = absurd may
 told_alone _ what is may has f = absurd is
 
--- of a steal anything may come that is told of one
-pub steal_may : (a : Act) (drawn : Option ℕ) (how : Tried) → IsSteal a drawn → MayCome a (tells drawn how)
-steal_may act.Hunt (Some word) how is = tt
-steal_may act.Hunt None how is = absurd is
-steal_may (act.Steal v) None how is = tt
-steal_may (act.Steal v) (Some word) how is = absurd is
-steal_may _ drawn how is = absurd is
-
-pub steal_comes : (drawn : Option ℕ) (hint : ℕ) (has : Bool) (f : Filled) → come_back (tells drawn (tried.Got hint)) has f ≡ filled_with_stolen has f
-steal_comes None hint has f = refl
-steal_comes (Some word) hint has f = refl
-
-pub empty_alone : (drawn : Option ℕ) (has : Bool) (f : Filled) → come_back (tells drawn tried.Empty) has f ≡ f
-empty_alone None has f = refl
-empty_alone (Some word) has f = refl
-
-pub unsure_alone : (drawn : Option ℕ) (has : Bool) (f : Filled) → come_back (tells drawn tried.Unsure) has f ≡ f
-unsure_alone None has f = refl
-unsure_alone (Some word) has f = refl
-
-plain_taken : {T Q : Type 0} (r : Readiness) (hand : Registers T Q) (o : Option Readiness) → plain (with_taken r (is_some o) hand) ≡ with_ticket r (plain hand) o
-plain_taken r hand None = refl
-plain_taken r hand (Some t) = refl
+plain_found : {T Q : Type 0} (r : Readiness) (hand : Registers T Q) (o : Option Readiness) → plain (with_found r (is_some o) hand) ≡ with_ticket r (plain hand) o
+plain_found r hand None = refl
+plain_found r hand (Some t) = refl
 
 module _ {T Q : Type 0} (x now : Machine T Q) (drawn : Option ℕ) (queues queues' : List (List Readiness)) (v : PNo) where
   pub was_unsure : now ≡ after x (tells drawn tried.Unsure) → let l : WithQueues = (plain_machine now, queues) in l ≡ stolen (plain_machine x) drawn queues v true
@@ -76,27 +53,11 @@ module _ {T Q : Type 0} (x now : Machine T Q) (drawn : Option ℕ) (queues queue
   found r hint (t ∷ rest) k e = (let same : r ≡ t = cc in rw (same, e, k.1) refl)
 
   pub was_got : (r : Readiness) (hint : ℕ) (q : List Readiness) → Pops queues v q (Some r) queues' → hint ≡ length q
-      → now ≡ after (record x { hand = with_taken r (is_some x.hand.to_claim) x.hand }) (tells drawn (tried.Got hint))
+      → now ≡ after (record x { hand = with_found r (is_some x.hand.to_claim) x.hand }) (tells drawn (tried.Got hint))
       → let l : WithQueues = (plain_machine now, queues') in l ≡ stolen_from (plain_machine x) drawn queues v q
   was_got r hint q k long e =
       ap (λ (m : PlainMachine). let l : WithQueues = (m, queues') in l) (
-      ap (λ (y : Machine T Q). plain_machine y) e ∙ after_plain (record x { hand = with_taken r (is_some x.hand.to_claim) x.hand }) (tells drawn (tried.Got hint))
-      ∙ ap (λ (h : Registers Unit Unit). after (record (plain_machine x) { hand = h }) (tells drawn (tried.Got hint))) (plain_taken r x.hand x.hand.to_claim)
+      ap (λ (y : Machine T Q). plain_machine y) e ∙ after_plain (record x { hand = with_found r (is_some x.hand.to_claim) x.hand }) (tells drawn (tried.Got hint))
+      ∙ ap (λ (h : Registers Unit Unit). after (record (plain_machine x) { hand = h }) (tells drawn (tried.Got hint))) (plain_found r x.hand x.hand.to_claim)
       )
       ∙ found r hint q k long
-
--- What the machine holds then
-
-module _ {T Q : Type 0} (x : Machine T Q) (drawn : Option ℕ) (what : Told) (fits : SuitsPlace x.place x.hand) (steals : IsSteal (next_act x) drawn) where
-  may : (how : Tried) → what ≡ tells drawn how → MayCome (next_act x) what
-  may how e = subst (MayCome (next_act x)) (sym e) (steal_may (next_act x) drawn how steals)
-
-  pub unsure_lands : what ≡ tells drawn tried.Unsure → Lands x (used (next_act x) x.hand) what x.hand
-  unsure_lands e = all_lands x what fits (may tried.Unsure e) (λ has f. ap (λ (t : Told). come_back t has f) e ∙ unsure_alone drawn has f)
-
-  pub empty_lands : what ≡ tells drawn tried.Empty → Lands x (used (next_act x) x.hand) what x.hand
-  empty_lands e = all_lands x what fits (may tried.Empty e) (λ has f. ap (λ (t : Told). come_back t has f) e ∙ empty_alone drawn has f)
-
-  pub got_lands : (r : Readiness) (hint : ℕ) (has : Bool) → is_some x.hand.to_claim ≡ has → what ≡ tells drawn (tried.Got hint)
-      → Lands x (with_taken r has (used (next_act x) x.hand)) what (with_taken r has x.hand)
-  got_lands r hint has holds e = taken_lands x what fits (may (tried.Got hint) e) r has holds (λ f. ap (λ (t : Told). come_back t has f) e ∙ steal_comes drawn hint has f)

@@ -9,7 +9,7 @@ ghost use Rattle.gmp_turn.specs.Turns.{HasMemory};
 ghost use Rattle.gmp_core.specs.Doing.{Does};
 
 use crate::copies::copied_ask;
-use crate::local::{drain, pop, push, steal, tell};
+use crate::local::{pop, push, steal, tell};
 use crate::queues::Queues;
 use gmp_acts::Choice;
 use gmp_base::MNo;
@@ -67,8 +67,8 @@ fn act_next<T>(
         Act::Call(call) => {
             let _ = turn(memory, driver, book, call, choice.word);
         }
-        Act::Pop => pop(driver, queues),
-        Act::Drain => drain(driver, queues),
+        Act::Pop => pop(driver, queues, false),
+        Act::Drain => pop(driver, queues, true),
         Act::Push => push(driver, queues, choice.push_refused),
         Act::Hunt => {
             let victim = driver.first_victim(choice.word);

@@ -1,73 +1,19 @@
 //! Acts of a machine on local queues, and what it is told of its body and of the clock.
-ghost use Rattle.std.specs.Prelude.{◌≡◌, ◌<◌, [], ◌∷◌, ◌++◌, Some, length, slice_index_or, slice_set, IsSome, IsNone, IfSome};
+ghost use Rattle.std.specs.Prelude.{◌≡◌, ◌<◌, [], Some, length, slice_index_or, IsSome};
 ghost use Rattle.gmp_base.specs.declared.number.PNo.{PNo};
 ghost use Rattle.gmp_base.specs.declared.number.Readiness.{Readiness};
-ghost use Rattle.gmp_base.specs.Values.{readiness_of};
 ghost use Rattle.gmp_driver.specs.declared.act.Act.TheVariants as Act;
 ghost use Rattle.gmp_driver.specs.Fits.{SuitsPlace};
-ghost use Rattle.gmp_driver.specs.Local.{MayCome};
+ghost use Rattle.gmp_driver.specs.Local.{IsSteal, MayCome, pop_for};
 ghost use Rattle.gmp_driver.specs.Seen.{own_processor};
 ghost use Rattle.gmp_driver.specs.Table.{after, next_act};
-ghost use Rattle.gmp_acts.specs.Acts as acts;
-ghost use Rattle.gmp_acts.specs.Acts.{drained, popped, pushed, stolen};
+ghost use Rattle.gmp_acts.specs.Acts.{own_taken, pushed, stolen};
 ghost use Rattle.gmp_acts.specs.Hands.{plain_machine};
-ghost use Rattle.gmp_core.specs.Local.{IsSteal, IsTold, KeepsHand, with_ticket_in};
+ghost use Rattle.gmp_core.specs.Local.{IsTold, KeepsHand};
 
 use crate::queues::Queues;
-use gmp_base::{PNo, Readiness, Ticket};
-use gmp_driver::{Driver, Load, Told, Tried, fill};
-
-/// The processor that an act was handed.
-fn own<T>(load: &Load<T, ()>) -> PNo
-    requires { IsSome load.now.proc }
-    ensures { IfSome load.now.proc (λ x. x.p ≡ result) }
-{
-    match &load.proc {
-        Some(proc) => proc.p,
-        None => unreachable!(),
-    }
-}
-
-/// Adds a ticket to what an act was handed: one to claim, or one to store.
-fn add<T>(load: &mut Load<T, ()>, r: Readiness, is_to_store: bool)
-    requires to_claim { IsNone load.old.to_claim }
-    requires to_store { IsNone load.old.to_store }
-    ensures { load.new ≡ with_ticket_in r is_to_store load.old }
-{
-    let ticket = Ticket::of(load.pass.run, r.g, r.epoch);
-    if is_to_store {
-        fill(&mut load.to_store, ticket);
-    } else {
-        fill(&mut load.to_claim, ticket);
-    }
-}
-
-/// Puts the ticket to store last on a queue.
-fn store<T>(load: &mut Load<T, ()>, queues: &mut Queues, p: PNo)
-    requires ticket { IsSome load.old.to_store }
-    requires there { p.0 < length queues.old.queues }
-    requires room { length (slice_index_or queues.old.queues p.0 []) < queues.old.room }
-    ensures load { load.new ≡ record load.old { to_store = None } }
-    ensures queue { IfSome load.old.to_store (λ t. queues.new ≡ record queues.old { queues = slice_set queues.old.queues p.0 (slice_index_or queues.old.queues p.0 [] ++ readiness_of t ∷ []) }) }
-{
-    match load.to_store.take() {
-        Some(ticket) => {
-            queues.push(p, ticket.readiness());
-            ticket.open();
-        }
-        None => unreachable!(),
-    }
-}
-
-/// What the machine is told of a steal: with the word, where one was drawn.
-fn tells(drawn: Option<u64>, tried: Tried) -> Told
-    ensures { result ≡ acts.tells drawn tried }
-{
-    match drawn {
-        Some(word) => Told::Drew(word, tried),
-        None => Told::Tried(tried),
-    }
-}
+use gmp_base::PNo;
+use gmp_driver::{Driver, QueueTold, Told, Tried};
 
 /// Tells the machine what its body asked, what its blocking call answered, or what the clock showed. It holds what it held.
 pub(crate) fn tell<T>(driver: &mut Driver<T, ()>, what: Told)
@@ -81,45 +27,22 @@ pub(crate) fn tell<T>(driver: &mut Driver<T, ()>, what: Told)
     driver.tell(what);
 }
 
-/// The machine takes the first ticket of its own queue, which is one to claim, or finds none.
-pub(crate) fn pop<T>(driver: &mut Driver<T, ()>, queues: &mut Queues)
-    requires next { next_act driver.old ≡ Act.Pop }
-    requires pass { IsSome driver.old.pass }
+/// The machine takes the first ticket of its own queue, which is one to claim, or one to store, or finds none.
+pub(crate) fn pop<T>(driver: &mut Driver<T, ()>, queues: &mut Queues, is_to_store: bool)
+    requires next { next_act driver.old ≡ pop_for is_to_store }
     requires fits { SuitsPlace driver.old.place driver.old.hand }
-    ensures acts { (plain_machine driver.new, queues.new.queues) ≡ popped (plain_machine driver.old) queues.old.queues }
+    ensures acts { (plain_machine driver.new, queues.new.queues) ≡ own_taken is_to_store (plain_machine driver.old) queues.old.queues }
     ensures hand { KeepsHand driver.old.hand driver.new.hand }
     ensures fits { SuitsPlace driver.new.place driver.new.hand }
     ensures pass { driver.new.pass ≡ driver.old.pass }
     ensures room { queues.new.room ≡ queues.old.room }
 {
-    let mut load = driver.give();
-    match queues.pop(own(&load)) {
-        Some(r) => {
-            add(&mut load, r, false);
-            driver.got(load, Told::Got);
-        }
-        None => driver.got(load, Told::Empty),
-    }
-}
-
-/// The machine takes the first ticket of its own queue, which is one to store, or finds none.
-pub(crate) fn drain<T>(driver: &mut Driver<T, ()>, queues: &mut Queues)
-    requires next { next_act driver.old ≡ Act.Drain }
-    requires pass { IsSome driver.old.pass }
-    requires fits { SuitsPlace driver.old.place driver.old.hand }
-    ensures acts { (plain_machine driver.new, queues.new.queues) ≡ drained (plain_machine driver.old) queues.old.queues }
-    ensures hand { KeepsHand driver.old.hand driver.new.hand }
-    ensures fits { SuitsPlace driver.new.place driver.new.hand }
-    ensures pass { driver.new.pass ≡ driver.old.pass }
-    ensures room { queues.new.room ≡ queues.old.room }
-{
-    let mut load = driver.give();
-    match queues.pop(own(&load)) {
-        Some(r) => {
-            add(&mut load, r, true);
-            driver.got(load, Told::Drained);
-        }
-        None => driver.got(load, Told::Empty),
+    let Some(p) = driver.processor() else {
+        unreachable!()
+    };
+    match queues.pop(p) {
+        Some(r) => driver.tell_found(r, is_to_store, QueueTold::Popped(is_to_store)),
+        None => driver.tell_queue(QueueTold::Empty),
     }
 }
 
@@ -133,7 +56,6 @@ pub(crate) fn steal<T>(
     unsure: bool,
 )
     requires next { IsSteal (next_act driver.old) drawn }
-    requires pass { IsSome driver.old.pass }
     requires fits { SuitsPlace driver.old.place driver.old.hand }
     ensures acts { (plain_machine driver.new, queues.new.queues) ≡ stolen (plain_machine driver.old) drawn queues.old.queues victim unsure }
     ensures hand { KeepsHand driver.old.hand driver.new.hand }
@@ -141,26 +63,24 @@ pub(crate) fn steal<T>(
     ensures pass { driver.new.pass ≡ driver.old.pass }
     ensures room { queues.new.room ≡ queues.old.room }
 {
-    let has_to_claim = driver.has_to_claim();
-    let mut load = driver.give();
     if unsure {
-        driver.got(load, tells(drawn, Tried::Unsure));
+        driver.tell_queue(QueueTold::Stole(drawn, Tried::Unsure));
         return;
     }
+    let has_to_claim = driver.has_to_claim();
     let hint = queues.len(victim);
     match queues.pop(victim) {
         Some(r) => {
-            add(&mut load, r, has_to_claim);
-            driver.got(load, tells(drawn, Tried::Got(hint)));
+            let told = QueueTold::Stole(drawn, Tried::Got(hint));
+            driver.tell_found(r, has_to_claim, told);
         }
-        None => driver.got(load, tells(drawn, Tried::Empty)),
+        None => driver.tell_queue(QueueTold::Stole(drawn, Tried::Empty)),
     }
 }
 
 /// The machine's ticket to store goes last on its own queue, unless the push is refused.
 pub(crate) fn push<T>(driver: &mut Driver<T, ()>, queues: &mut Queues, refused: bool)
     requires next { next_act driver.old ≡ Act.Push }
-    requires pass { IsSome driver.old.pass }
     requires fits { SuitsPlace driver.old.place driver.old.hand }
     requires room { (r : Readiness) → driver.old.hand.to_store ≡ Some r → (p : PNo) → own_processor driver.old.hand ≡ Some p
         → (p.0 < length queues.old.queues) × (length (slice_index_or queues.old.queues p.0 []) < queues.old.room) }
@@ -170,12 +90,16 @@ pub(crate) fn push<T>(driver: &mut Driver<T, ()>, queues: &mut Queues, refused: 
     ensures pass { driver.new.pass ≡ driver.old.pass }
     ensures room { queues.new.room ≡ queues.old.room }
 {
-    let mut load = driver.give();
     if refused {
-        driver.got(load, Told::PushRefused);
+        driver.tell_queue(QueueTold::PushRefused);
         return;
     }
-    let p = own(&load);
-    store(&mut load, queues, p);
-    driver.got(load, Told::Pushed);
+    let Some(p) = driver.processor() else {
+        unreachable!()
+    };
+    let Some(r) = driver.to_store() else {
+        unreachable!()
+    };
+    queues.push(p, r);
+    driver.tell_stored(QueueTold::Pushed);
 }

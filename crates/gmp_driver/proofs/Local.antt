@@ -105,27 +105,35 @@ module _ {T Q : Type 0} where
     to_store = one c.to_store l.to_store came.to_store left.to_store (ap (λ (y : Filled). y.to_store) e) (ap (λ (y : Filled). y.to_store) d) (ap (λ (y : Filled). y.to_store) m);
   }
 
-module _ {T Q : Type 0} (procs : ℕ) (fresh : Bool) (turns : ℕ) (hand came : Registers T Q) where
+module _ {T Q : Type 0} (procs : ℕ) (fresh : Bool) (turns : ℕ) (hand : Registers T Q) where
   abbrev FitsAt : Place → Told → Registers T Q → Type 0
   FitsAt here what hand' = SuitsPlace (next_place (seen_of procs fresh turns hand') here what) hand'
 
-  abbrev Came : Act → Told → Type 0
-  Came a what = filled came ≡ come_back what (is_some hand.to_claim) (filled (used a hand))
+  -- which registers are filled then
+  abbrev behind : Told → Filled
+  behind what = come_back what (is_some hand.to_claim) (filled hand)
 
+  -- what is held then fits the next place; and what came fills no register twice, and with what was left fills those
   abbrev Can : Act → Place → Told → Type 0
-  Can a here what = AreFilledOnce (unused a hand) came × FitsAt here what (joined came (unused a hand))
+  Can a here what =
+      ((hand' : Registers T Q) → filled hand' ≡ behind what → FitsAt here what hand')
+      × ((came : Registers T Q) → filled came ≡ come_back what (is_some hand.to_claim) (filled (used a hand)) → AreFilledOnce (unused a hand) came × (filled (joined came (unused a hand)) ≡ behind what))
 
   -- the registers were filled so, and those that are filled now fit the next place
   at : (a : Act) (here : Place) (what : Told) (f : Filled) → filled hand ≡ f → filled (used a hand) ≡ given_by a (filled hand) → filled (unused a hand) ≡ left_by a (filled hand)
-      → Came a what → meet (come_back what f.to_claim (given_by a f)) (left_by a f) ≡ none
-      → ((hand' : Registers T Q) → filled hand' ≡ join (come_back what f.to_claim (given_by a f)) (left_by a f) → FitsAt here what hand') → Can a here what
-  at a here what f was given left e m to =
-      let left_is : filled (unused a hand) ≡ left_by a f = left ∙ ap (left_by a) was in
-      let came_is : filled came ≡ come_back what f.to_claim (given_by a f) =
-      e ∙ ap (come_back what (is_some hand.to_claim)) given ∙ ap (λ (y : Filled). come_back what y.to_claim (given_by a y)) was
-      in (
-        are_apart came (unused a hand) (come_back what f.to_claim (given_by a f)) (left_by a f) came_is left_is m,
-        to (joined came (unused a hand)) (joined_is came (unused a hand) ∙ ap (λ (y : Filled). join y (filled (unused a hand))) came_is ∙ ap (join (come_back what f.to_claim (given_by a f))) left_is),
+      → meet (come_back what f.to_claim (given_by a f)) (left_by a f) ≡ none → join (come_back what f.to_claim (given_by a f)) (left_by a f) ≡ come_back what f.to_claim f
+      → ((hand' : Registers T Q) → filled hand' ≡ come_back what f.to_claim f → FitsAt here what hand') → Can a here what
+  at a here what f was given left m j to =
+      let so : behind what ≡ come_back what f.to_claim f = ap (λ (y : Filled). come_back what y.to_claim y) was in
+      let left_is : filled (unused a hand) ≡ left_by a f = left ∙ ap (left_by a) was in (
+        λ hand' e. to hand' (e ∙ so),
+        λ came e.
+            (let came_is : filled came ≡ come_back what f.to_claim (given_by a f) =
+            e ∙ ap (come_back what (is_some hand.to_claim)) given ∙ ap (λ (y : Filled). come_back what y.to_claim (given_by a y)) was
+            in (
+              are_apart came (unused a hand) (come_back what f.to_claim (given_by a f)) (left_by a f) came_is left_is m,
+              joined_is came (unused a hand) ∙ ap (λ (y : Filled). join y (filled (unused a hand))) came_is ∙ ap (join (come_back what f.to_claim (given_by a f))) left_is ∙ j ∙ sym so,
+            )),
       )
 
   -- Each place
@@ -148,77 +156,76 @@ module _ {T Q : Type 0} (procs : ℕ) (fresh : Bool) (turns : ℕ) (hand came : 
   with_proc : IsFilled true false false false false hand → filled hand ≡ record none { processor = true }
   with_proc f = shape hand true false false false false f
 
-  at_look : (b : Bool) (what : Told) → SuitsPlace place.Look hand → MayCome (if b then act.Clock None else act.Pop) what → Came (if b then act.Clock None else act.Pop) what
-      → Can (if b then act.Clock None else act.Pop) place.Look what
-  at_look true (told.Moment now) f m e = at (act.Clock None) place.Look (told.Moment now) _ (with_proc f) refl refl e refl (λ h is. is_filled h _ is)
-  at_look true _ f m e = absurd m
-  at_look false told.Got f m e = at act.Pop place.Look told.Got _ (with_proc f) refl refl e refl (λ h is. is_filled h _ is)
-  at_look false told.Empty f m e = at act.Pop place.Look told.Empty _ (with_proc f) refl refl e refl (λ h is. is_filled h _ is)
-  at_look false _ f m e = absurd m
+  at_look : (b : Bool) (what : Told) → SuitsPlace place.Look hand → MayCome (if b then act.Clock None else act.Pop) what → Can (if b then act.Clock None else act.Pop) place.Look what
+  at_look true (told.Moment now) f m = at (act.Clock None) place.Look (told.Moment now) _ (with_proc f) refl refl refl refl (λ h is. is_filled h _ is)
+  at_look true _ f m = absurd m
+  at_look false told.Got f m = at act.Pop place.Look told.Got _ (with_proc f) refl refl refl refl (λ h is. is_filled h _ is)
+  at_look false told.Empty f m = at act.Pop place.Look told.Empty _ (with_proc f) refl refl refl refl (λ h is. is_filled h _ is)
+  at_look false _ f m = absurd m
 
-  at_hunt : (word : ℕ) (how : Tried) → SuitsPlace (place.Hunt None) hand → Came act.Hunt (told.Drew word how) → Can act.Hunt (place.Hunt None) (told.Drew word how)
-  at_hunt word (tried.Got hint) f e = at act.Hunt (place.Hunt None) (told.Drew word (tried.Got hint)) _ (with_proc f) refl refl e refl (λ h is. gone_on _ _ h (is_filled h _ is))
-  at_hunt word tried.Empty f e = at act.Hunt (place.Hunt None) (told.Drew word tried.Empty) _ (with_proc f) refl refl e refl (λ h is. hunts_on _ _ h (is_filled h _ is))
-  at_hunt word tried.Unsure f e = at act.Hunt (place.Hunt None) (told.Drew word tried.Unsure) _ (with_proc f) refl refl e refl (λ h is. is_filled h _ is)
+  at_hunt : (word : ℕ) (how : Tried) → SuitsPlace (place.Hunt None) hand → Can act.Hunt (place.Hunt None) (told.Drew word how)
+  at_hunt word (tried.Got hint) f = at act.Hunt (place.Hunt None) (told.Drew word (tried.Got hint)) _ (with_proc f) refl refl refl refl (λ h is. gone_on _ _ h (is_filled h _ is))
+  at_hunt word tried.Empty f = at act.Hunt (place.Hunt None) (told.Drew word tried.Empty) _ (with_proc f) refl refl refl refl (λ h is. hunts_on _ _ h (is_filled h _ is))
+  at_hunt word tried.Unsure f = at act.Hunt (place.Hunt None) (told.Drew word tried.Unsure) _ (with_proc f) refl refl refl refl (λ h is. is_filled h _ is)
 
-  at_victim : (r : Round) (v : PNo) (how : Tried) → SuitsPlace (place.Hunt (Some r)) hand → Came (act.Steal v) (told.Tried how) → Can (act.Steal v) (place.Hunt (Some r)) (told.Tried how)
-  at_victim r v (tried.Got hint) f e = at (act.Steal v) (place.Hunt (Some r)) (told.Tried (tried.Got hint)) _ (with_proc f) refl refl e refl (λ h is. gone_on _ _ h (is_filled h _ is))
-  at_victim r v tried.Empty f e = at (act.Steal v) (place.Hunt (Some r)) (told.Tried tried.Empty) _ (with_proc f) refl refl e refl (λ h is. hunts_on _ _ h (is_filled h _ is))
-  at_victim r v tried.Unsure f e = at (act.Steal v) (place.Hunt (Some r)) (told.Tried tried.Unsure) _ (with_proc f) refl refl e refl (λ h is. is_filled h _ is)
+  at_victim : (r : Round) (v : PNo) (how : Tried) → SuitsPlace (place.Hunt (Some r)) hand → Can (act.Steal v) (place.Hunt (Some r)) (told.Tried how)
+  at_victim r v (tried.Got hint) f = at (act.Steal v) (place.Hunt (Some r)) (told.Tried (tried.Got hint)) _ (with_proc f) refl refl refl refl (λ h is. gone_on _ _ h (is_filled h _ is))
+  at_victim r v tried.Empty f = at (act.Steal v) (place.Hunt (Some r)) (told.Tried tried.Empty) _ (with_proc f) refl refl refl refl (λ h is. hunts_on _ _ h (is_filled h _ is))
+  at_victim r v tried.Unsure f = at (act.Steal v) (place.Hunt (Some r)) (told.Tried tried.Unsure) _ (with_proc f) refl refl refl refl (λ h is. is_filled h _ is)
 
-  at_more : (v w : PNo) (goal : ℕ) (how : Tried) → SuitsPlace (place.More v goal) hand → Came (act.Steal w) (told.Tried how) → Can (act.Steal w) (place.More v goal) (told.Tried how)
-  at_more v w goal how f e = by how e where
+  at_more : (v w : PNo) (goal : ℕ) (how : Tried) → SuitsPlace (place.More v goal) hand → Can (act.Steal w) (place.More v goal) (told.Tried how)
+  at_more v w goal how f = by how where
     was : filled hand ≡ record none { processor = true; to_claim = true }
     was = shape hand true false false true false f
 
-    by : (how : Tried) → Came (act.Steal w) (told.Tried how) → Can (act.Steal w) (place.More v goal) (told.Tried how)
-    by (tried.Got hint) e = at (act.Steal w) (place.More v goal) (told.Tried (tried.Got hint)) _ was refl refl e refl (λ h is. is_filled h _ is)
-    by tried.Empty e = at (act.Steal w) (place.More v goal) (told.Tried tried.Empty) _ was refl refl e refl (λ h is. unspun true h (is_filled h _ is))
-    by tried.Unsure e = at (act.Steal w) (place.More v goal) (told.Tried tried.Unsure) _ was refl refl e refl (λ h is. unspun true h (is_filled h _ is))
+    by : (how : Tried) → Can (act.Steal w) (place.More v goal) (told.Tried how)
+    by (tried.Got hint) = at (act.Steal w) (place.More v goal) (told.Tried (tried.Got hint)) _ was refl refl refl refl (λ h is. is_filled h _ is)
+    by tried.Empty = at (act.Steal w) (place.More v goal) (told.Tried tried.Empty) _ was refl refl refl refl (λ h is. unspun true h (is_filled h _ is))
+    by tried.Unsure = at (act.Steal w) (place.More v goal) (told.Tried tried.Unsure) _ was refl refl refl refl (λ h is. unspun true h (is_filled h _ is))
 
-  at_scan : (v w : PNo) (how : Tried) → SuitsPlace (place.Scan v) hand → Came (act.Steal w) (told.Tried how) → Can (act.Steal w) (place.Scan v) (told.Tried how)
-  at_scan v w how f e = by how e where
+  at_scan : (v w : PNo) (how : Tried) → SuitsPlace (place.Scan v) hand → Can (act.Steal w) (place.Scan v) (told.Tried how)
+  at_scan v w how f = by how where
     was : filled hand ≡ none
     was = shape hand false false false false false f
 
-    by : (how : Tried) → Came (act.Steal w) (told.Tried how) → Can (act.Steal w) (place.Scan v) (told.Tried how)
-    by (tried.Got hint) e = at (act.Steal w) (place.Scan v) (told.Tried (tried.Got hint)) _ was refl refl e refl (λ h is. is_filled h _ is)
-    by tried.Empty e = at (act.Steal w) (place.Scan v) (told.Tried tried.Empty) _ was refl refl e refl (λ h is. scans_on _ _ h (is_filled h _ is))
-    by tried.Unsure e = at (act.Steal w) (place.Scan v) (told.Tried tried.Unsure) _ was refl refl e refl (λ h is. is_filled h _ is)
+    by : (how : Tried) → Can (act.Steal w) (place.Scan v) (told.Tried how)
+    by (tried.Got hint) = at (act.Steal w) (place.Scan v) (told.Tried (tried.Got hint)) _ was refl refl refl refl (λ h is. is_filled h _ is)
+    by tried.Empty = at (act.Steal w) (place.Scan v) (told.Tried tried.Empty) _ was refl refl refl refl (λ h is. scans_on _ _ h (is_filled h _ is))
+    by tried.Unsure = at (act.Steal w) (place.Scan v) (told.Tried tried.Unsure) _ was refl refl refl refl (λ h is. is_filled h _ is)
 
-  pub at_place : (here : Place) (what : Told) → SuitsPlace here hand → MayCome (act_at (seen_of procs fresh turns hand) here) what → Came (act_at (seen_of procs fresh turns hand) here) what
+  pub at_place : (here : Place) (what : Told) → SuitsPlace here hand → MayCome (act_at (seen_of procs fresh turns hand) here) what
       → Can (act_at (seen_of procs fresh turns hand) here) here what
-  at_place place.Look what f m e = at_look (nat_le 16 turns) what f m e
-  at_place place.Drain told.Drained f m e = at act.Drain place.Drain told.Drained _ (with_proc f) refl refl e refl (λ h is. is_filled h _ is)
-  at_place place.Drain told.Empty f m e = at act.Drain place.Drain told.Empty _ (with_proc f) refl refl e refl (λ h is. is_filled h _ is)
-  at_place place.Drain _ f m e = absurd m
-  at_place place.PutDrain what f m e = absurd (no_put hand.to_store what m)
-  at_place (place.Hunt None) (told.Drew word how) f m e = at_hunt word how f e
-  at_place (place.Hunt None) _ f m e = absurd m
-  at_place (place.Hunt (Some r)) (told.Tried how) f m e = at_victim r (victim_of procs r) how f e
-  at_place (place.Hunt (Some r)) _ f m e = absurd m
-  at_place (place.More v goal) (told.Tried how) f m e = at_more v v goal how f e
-  at_place (place.More v goal) _ f m e = absurd m
-  at_place (place.StoreMore v goal) told.Pushed f m e = at act.Push (place.StoreMore v goal) told.Pushed _ (shape hand true false false true true f) refl refl e refl (λ h is. gone_on v goal h (is_filled h _ is))
-  at_place (place.StoreMore v goal) told.PushRefused f m e = at act.Push (place.StoreMore v goal) told.PushRefused _ (shape hand true false false true true f) refl refl e refl (λ h is. is_filled h _ is)
-  at_place (place.StoreMore v goal) _ f m e = absurd m
-  at_place (place.PutMore v goal) what f m e = absurd (no_put hand.to_store what m)
-  at_place place.Claim what f m e = absurd (no_claim fresh hand.to_claim what m)
-  at_place place.Run (told.Asked asked) f m e = at act.Resume place.Run (told.Asked asked) _ (shape hand true true false false false f) refl refl e refl (λ h is. is_filled h _ is)
-  at_place place.Run _ f m e = absurd m
-  at_place place.Store told.Pushed f m e = at act.Push place.Store told.Pushed _ (shape hand true true false false true f) refl refl e refl (λ h is. is_filled h _ is)
-  at_place place.Store told.PushRefused f m e = at act.Push place.Store told.PushRefused _ (shape hand true true false false true f) refl refl e refl (λ h is. is_filled h _ is)
-  at_place place.Store _ f m e = absurd m
-  at_place place.PutStore what f m e = absurd (no_put hand.to_store what m)
-  at_place place.Block (told.Number number) f m e = at act.Block place.Block (told.Number number) _ (shape hand false false true false false f) refl refl e refl (λ h is. is_filled h _ is)
-  at_place place.Block _ f m e = absurd m
-  at_place (place.Scan v) (told.Tried how) f m e = at_scan v v how f e
-  at_place (place.Scan v) _ f m e = absurd m
-  at_place place.PutHave what f m e = absurd (no_put hand.to_claim what m)
-  at_place (place.Mind deadline) (told.Moment now) f m e = at (act.Clock (Some deadline)) (place.Mind deadline) (told.Moment now) _ (shape hand false false false false false f) refl refl e refl (λ h is. is_filled h _ is)
-  at_place (place.Mind deadline) _ f m e = absurd m
+  at_place place.Look what f m = at_look (nat_le 16 turns) what f m
+  at_place place.Drain told.Drained f m = at act.Drain place.Drain told.Drained _ (with_proc f) refl refl refl refl (λ h is. is_filled h _ is)
+  at_place place.Drain told.Empty f m = at act.Drain place.Drain told.Empty _ (with_proc f) refl refl refl refl (λ h is. is_filled h _ is)
+  at_place place.Drain _ f m = absurd m
+  at_place place.PutDrain what f m = absurd (no_put hand.to_store what m)
+  at_place (place.Hunt None) (told.Drew word how) f m = at_hunt word how f
+  at_place (place.Hunt None) _ f m = absurd m
+  at_place (place.Hunt (Some r)) (told.Tried how) f m = at_victim r (victim_of procs r) how f
+  at_place (place.Hunt (Some r)) _ f m = absurd m
+  at_place (place.More v goal) (told.Tried how) f m = at_more v v goal how f
+  at_place (place.More v goal) _ f m = absurd m
+  at_place (place.StoreMore v goal) told.Pushed f m = at act.Push (place.StoreMore v goal) told.Pushed _ (shape hand true false false true true f) refl refl refl refl (λ h is. gone_on v goal h (is_filled h _ is))
+  at_place (place.StoreMore v goal) told.PushRefused f m = at act.Push (place.StoreMore v goal) told.PushRefused _ (shape hand true false false true true f) refl refl refl refl (λ h is. is_filled h _ is)
+  at_place (place.StoreMore v goal) _ f m = absurd m
+  at_place (place.PutMore v goal) what f m = absurd (no_put hand.to_store what m)
+  at_place place.Claim what f m = absurd (no_claim fresh hand.to_claim what m)
+  at_place place.Run (told.Asked asked) f m = at act.Resume place.Run (told.Asked asked) _ (shape hand true true false false false f) refl refl refl refl (λ h is. is_filled h _ is)
+  at_place place.Run _ f m = absurd m
+  at_place place.Store told.Pushed f m = at act.Push place.Store told.Pushed _ (shape hand true true false false true f) refl refl refl refl (λ h is. is_filled h _ is)
+  at_place place.Store told.PushRefused f m = at act.Push place.Store told.PushRefused _ (shape hand true true false false true f) refl refl refl refl (λ h is. is_filled h _ is)
+  at_place place.Store _ f m = absurd m
+  at_place place.PutStore what f m = absurd (no_put hand.to_store what m)
+  at_place place.Block (told.Number number) f m = at act.Block place.Block (told.Number number) _ (shape hand false false true false false f) refl refl refl refl (λ h is. is_filled h _ is)
+  at_place place.Block _ f m = absurd m
+  at_place (place.Scan v) (told.Tried how) f m = at_scan v v how f
+  at_place (place.Scan v) _ f m = absurd m
+  at_place place.PutHave what f m = absurd (no_put hand.to_claim what m)
+  at_place (place.Mind deadline) (told.Moment now) f m = at (act.Clock (Some deadline)) (place.Mind deadline) (told.Moment now) _ (shape hand false false false false false f) refl refl refl refl (λ h is. is_filled h _ is)
+  at_place (place.Mind deadline) _ f m = absurd m
   -- each other place has a call, a surrender, or no act
-  at_place _ what f m e = absurd m
+  at_place _ what f m = absurd m
 
 mapped : {X Y : Type 0} (f : X → Y) (o : Option X) → is_some (option_map f o) ≡ is_some o
 mapped f None = refl
@@ -241,7 +248,14 @@ loaded run pass hand =
     )
     refl
 
+-- what came of such an act can be told where the machine holds this, and the next place suits it
+pub suits_then : {T Q : Type 0} (x : Machine T Q) (what : Told) (hand : Registers T Q) → SuitsPlace x.place x.hand → MayCome (next_act x) what
+    → filled hand ≡ come_back what (is_some x.hand.to_claim) (filled x.hand) → SuitsPlace (after (record x { hand = hand }) what).place hand
+suits_then x what hand f m e = (at_place x.procs x.fresh x.turns x.hand x.place what f m).0 hand e
+
 pub can_be_told : {T Q : Type 0} (x : Machine T Q) (what : Told) (came : Registers T Q) → SuitsPlace x.place x.hand → MayCome (next_act x) what
     → filled came ≡ come_back what (is_some x.hand.to_claim) (filled (used (next_act x) x.hand))
     → AreFilledOnce (unused (next_act x) x.hand) came × SuitsPlace (after (record x { hand = joined came (unused (next_act x) x.hand) }) what).place (joined came (unused (next_act x) x.hand))
-can_be_told x what came f m e = at_place x.procs x.fresh x.turns x.hand came x.place what f m e
+can_be_told x what came f m e =
+    let w = (at_place x.procs x.fresh x.turns x.hand x.place what f m).1 came e in
+    (w.0, suits_then x what (joined came (unused (next_act x) x.hand)) f m w.1)

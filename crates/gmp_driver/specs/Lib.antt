@@ -8,3 +8,4 @@ pub mod Fits
 pub mod Uses
 pub mod Local
 pub mod Bodies
+pub mod Own

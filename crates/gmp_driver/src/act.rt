@@ -82,3 +82,18 @@ pub enum Told {
     /// There was nothing to give back, or to do.
     Nothing,
 }
+
+/// What came of an act at a local queue.
+#[derive(Clone, Copy)]
+pub enum QueueTold {
+    /// The own queue had a ticket, which is one to store, or else to claim.
+    Popped(bool),
+    /// It had none.
+    Empty,
+    /// The word, where one was drawn, and what came of the steal.
+    Stole(Option<u64>, Tried),
+    /// The own queue took the ticket.
+    Pushed,
+    /// It refused the ticket.
+    PushRefused,
+}

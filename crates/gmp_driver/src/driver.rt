@@ -3,6 +3,8 @@ ghost use Rattle.std.specs.Prelude.{◌≡◌, ◌≤◌, None, Some, IsNone, Is
 ghost use Rattle.std.specs.Borrow.{sem};
 ghost use Rattle.std.specs.Option.{option_copied_mut, option_map};
 
+mod own_queue;
+
 use crate::act::{Act, Told};
 use crate::hunt::victim_of;
 use crate::load::Load;

@@ -24,7 +24,7 @@ pub fn nothing_is_lost<T, Q>()
 {}
 
 /// What came of a pop, a push, a steal, a resumed body, a blocking call or a reading of the clock can be told: it fills no register twice, and the machine holds then what its next place says.
-/// Bodies and owners may have changed meanwhile.
+/// Bodies and owners may have changed meanwhile. `holds` is the same of an act that is made in place.
 pub fn acts_lead_on<T, Q>()
     ensures apart { (x : Machine T Q) (what : Told) (came : Registers T Q) → SuitsPlace x.place x.hand → MayCome (next_act x) what
         → filled came ≡ come_back what (is_some x.hand.to_claim) (filled (used (next_act x) x.hand))
@@ -32,4 +32,6 @@ pub fn acts_lead_on<T, Q>()
     ensures fits { (x : Machine T Q) (what : Told) (came : Registers T Q) → SuitsPlace x.place x.hand → MayCome (next_act x) what
         → filled came ≡ come_back what (is_some x.hand.to_claim) (filled (used (next_act x) x.hand))
         → SuitsPlace (after (record x { hand = joined came (unused (next_act x) x.hand) }) what).place (joined came (unused (next_act x) x.hand)) }
+    ensures holds { (x : Machine T Q) (what : Told) (hand : Registers T Q) → SuitsPlace x.place x.hand → MayCome (next_act x) what
+        → filled hand ≡ come_back what (is_some x.hand.to_claim) (filled x.hand) → SuitsPlace (after (record x { hand = hand }) what).place hand }
 {}

@@ -5,6 +5,7 @@
 #![tactic(auto)]
 
 mod act;
+mod at_queue;
 mod driver;
 mod hunt;
 pub mod laws;
@@ -14,7 +15,7 @@ mod registers;
 mod seen;
 mod table;
 
-pub use act::{Act, Told, Tried, Value};
+pub use act::{Act, QueueTold, Told, Tried, Value};
 pub use driver::Driver;
 pub use hunt::steal_goal;
 pub use load::Load;

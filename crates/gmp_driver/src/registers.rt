@@ -67,6 +67,7 @@ pub(crate) fn fill_if<X>(register: &mut Option<X>, value: Option<X>)
 
 impl<T, Q> Registers<T, Q> {
     ghost use Rattle.gmp_driver.specs.Bodies.{body_at, lends_at};
+    ghost use Rattle.gmp_driver.specs.Own.{lends_owner_held, owner_held, with_found};
 
     pub(crate) fn empty() -> Self
         ensures { result ≡ nothing }
@@ -149,6 +150,30 @@ impl<T, Q> Registers<T, Q> {
                 None => None,
             },
             _ => None,
+        }
+    }
+
+    /// Lends the owner of the processor that is in hand.
+    #[inline(always)]
+    pub(crate) fn owner(&mut self) -> Option<&mut Q>
+        ensures* lends { sem 𝓛 (lends_owner_held T.row Q.row self.entry result) }
+        ensures owner { option_copied_mut result ≡ owner_held self.old }
+    {
+        match &mut self.processor {
+            Some(parts) => Some(&mut parts.owner),
+            None => None,
+        }
+    }
+
+    /// Holds this ticket, to claim or to store.
+    #[inline(always)]
+    pub(crate) fn hold(&mut self, r: Readiness, is_to_store: bool)
+        ensures { self.new ≡ with_found r is_to_store self.old }
+    {
+        if is_to_store {
+            self.to_store = Some(r);
+        } else {
+            self.to_claim = Some(r);
         }
     }
 }

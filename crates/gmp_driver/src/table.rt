@@ -5,7 +5,8 @@ ghost use Rattle.gmp_driver.specs.declared.act.Told.TheVariants as Told;
 ghost use Rattle.gmp_driver.specs.declared.place.Place.TheVariants as Place;
 ghost use Rattle.gmp_driver.specs.Table as table;
 
-use crate::act::{Act, Told, Tried};
+use crate::act::{Act, QueueTold, Told};
+use crate::at_queue::go_on_at_queue;
 use crate::hunt::{more, victim_of};
 use crate::place::Place;
 use crate::seen::Seen;
@@ -135,7 +136,7 @@ fn go_on_asked(here: &mut Place, reply: &Reply)
 }
 
 /// The next queue to look into, after the last one Park.
-fn scanned(procs: u8, v: PNo) -> Place
+pub(crate) fn scanned(procs: u8, v: PNo) -> Place
     ensures { result ≡ table.scanned procs v }
 {
     if v.0 < procs && v.0 + 1 < procs {
@@ -202,28 +203,21 @@ pub(crate) fn go_on(here: &mut Place, seen: Seen, told: Told)
     let there = match (&*here, told) {
         (_, Told::Refused(Refusal::Over)) => Place::Over,
         (_, Told::Replied(reply)) => return go_on_by(here, seen, &reply),
+        (_, Told::Got) => return go_on_at_queue(here, seen, QueueTold::Popped(false)),
+        (_, Told::Drained) => return go_on_at_queue(here, seen, QueueTold::Popped(true)),
+        (_, Told::Empty) => return go_on_at_queue(here, seen, QueueTold::Empty),
+        (_, Told::Drew(word, tried)) => {
+            return go_on_at_queue(here, seen, QueueTold::Stole(Some(word), tried));
+        }
+        (_, Told::Tried(tried)) => {
+            return go_on_at_queue(here, seen, QueueTold::Stole(None, tried));
+        }
+        (_, Told::Pushed) => return go_on_at_queue(here, seen, QueueTold::Pushed),
+        (_, Told::PushRefused) => return go_on_at_queue(here, seen, QueueTold::PushRefused),
         (Place::Look, Told::Moment(now)) => Place::Ticking(now),
-        (Place::Look, Told::Got) => Place::Claim,
-        (Place::Look, Told::Empty) => Place::Global,
-        (Place::Drain, Told::Drained) => Place::PutDrain,
-        (Place::Drain, Told::Empty) => Place::Drop,
-        (Place::Hunt(None), Told::Drew(word, tried)) => seen.hunted(seen.begin(word), tried),
-        (Place::Hunt(Some(round)), Told::Tried(tried)) => seen.hunted(*round, tried),
-        (Place::More(v, goal), Told::Tried(Tried::Got(_))) => Place::StoreMore(
-            *v,
-            goal.saturating_sub(1),
-        ),
-        (Place::More(_, _), Told::Tried(_)) => Place::Unspin,
-        (Place::StoreMore(v, goal), Told::Pushed) => more(*v, *goal),
-        (Place::StoreMore(v, goal), Told::PushRefused) => Place::PutMore(*v, *goal),
         (Place::Run, Told::Asked(ask)) => Place::Do(ask),
         (Place::Do(Ask::Make(_)), Told::Refused(Refusal::OutOfMemory)) => Place::Run,
-        (Place::Store, Told::Pushed) => Place::Poke,
-        (Place::Store, Told::PushRefused) => Place::PutStore,
         (Place::Block, Told::Number(number)) => Place::Leave(number),
-        (Place::Scan(_), Told::Tried(Tried::Got(_))) => Place::Have,
-        (Place::Scan(v), Told::Tried(Tried::Empty)) => scanned(seen.procs, *v),
-        (Place::Scan(v), Told::Tried(Tried::Unsure)) => Place::Scan(*v),
         (Place::Mind(_), Told::Moment(now)) => Place::MindTick(now),
         (Place::Over, Told::Surrendered) => Place::Over,
         (Place::Over, Told::Nothing) => Place::Done,

@@ -1,2 +1,2 @@
-mod Tries
-mod Turned
+pub mod Tries
+pub mod Turned

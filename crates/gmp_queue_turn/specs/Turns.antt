@@ -1,6 +1,5 @@
 -- One act of a machine at the local queues: what it is told, and what it holds then.
 use Rattle.std.specs.Prelude.{◌≡◌, ◌⊎◌, ℕ, Bool, true, false, is_some, List, [], ◌∷◌, Option, Some, None, slice_get, slice_set}
-use Rattle.std.specs.Option.{option_map}
 use Rattle.gmp_base.specs.declared.number.PNo.{PNo}
 use Rattle.gmp_base.specs.declared.number.Readiness.{Readiness}
 use Rattle.gmp_driver.specs.declared.act.Act.{Act}
@@ -9,10 +8,11 @@ use Rattle.gmp_driver.specs.declared.act.Told.{Told}
 use Rattle.gmp_driver.specs.declared.act.Told.TheVariants as told
 use Rattle.gmp_driver.specs.declared.act.Tried.{Tried}
 use Rattle.gmp_driver.specs.declared.act.Tried.TheVariants as tried
-use Rattle.gmp_driver.specs.declared.registers.ProcParts.{ProcParts}
 use Rattle.gmp_driver.specs.declared.registers.Registers.{Registers}
 use Rattle.gmp_driver.specs.Hunt.{begun, victim_of}
+use Rattle.gmp_driver.specs.Local.{tells}
 use Rattle.gmp_driver.specs.Machine.{Machine}
+use Rattle.gmp_driver.specs.Own.{owner_held, with_owner, with_found}
 use Rattle.gmp_driver.specs.Seen.{seen}
 use Rattle.gmp_driver.specs.Table.{after, next_act}
 use Rattle.gmp_queue.specs.declared.ends.Owner.{Owner}
@@ -39,13 +39,6 @@ drawn_for what g = (0, g)
 
 -- The own queue
 
--- its end, which is in hand with the processor
-abbrev pub owner_held : {T : Type 0} → Registers T Owner → Option Owner
-owner_held hand = option_map (λ (x : ProcParts Owner). x.owner) hand.processor
-
-abbrev pub with_own_queue : {T : Type 0} → Owner → Registers T Owner → Registers T Owner
-with_own_queue o hand = record hand { processor = option_map (λ (x : ProcParts Owner). record x { owner = o }) hand.processor }
-
 -- The own end before and behind, of the same queue and with the same parts: this step was made.
 pub record UsesOwn {T : Type 0} (hand : Registers T Owner) (Step : Owner → Owner → Type 0) : Type 0 where
   pub before : Owner
@@ -58,27 +51,37 @@ pub record UsesOwn {T : Type 0} (hand : Registers T Owner) (Step : Owner → Own
 abbrev pub Pushes : {T : Type 0} → ℕ → Registers T Owner → Told → Registers T Owner → Type 0
 Pushes run hand told.Pushed hand' =
     (r : Readiness) × (hand.to_store ≡ Some r)
-    × UsesOwn hand (λ o p. (owner_run o ≡ run) × PutLast (owner_view o) (r ∷ []) (owner_view p) × (hand' ≡ record (with_own_queue p hand) { to_store = None }))
-Pushes run hand told.PushRefused hand' = UsesOwn hand (λ o p. (owner_view p ≡ owner_view o) × (hand' ≡ with_own_queue p hand))
+    × UsesOwn hand (λ o p. (owner_run o ≡ run) × PutLast (owner_view o) (r ∷ []) (owner_view p) × (hand' ≡ record (with_owner p hand) { to_store = None }))
+Pushes run hand told.PushRefused hand' = UsesOwn hand (λ o p. (owner_view p ≡ owner_view o) × (hand' ≡ with_owner p hand))
 Pushes run hand _ hand' = ⊥
 
--- Got: the first ticket was taken, and is in hand, to claim. Empty: none was taken; in a queue of another run there is none for the machine.
-abbrev pub PopsOwn : {T : Type 0} → ℕ → Registers T Owner → Told → Registers T Owner → Type 0
-PopsOwn run hand told.Got hand' =
+-- The first ticket was taken, and is in hand: to claim, or to store.
+abbrev pub TakesOwn : {T : Type 0} → Bool → ℕ → Registers T Owner → Registers T Owner → Type 0
+TakesOwn is_to_store run hand hand' =
     (r : Readiness)
-    × UsesOwn hand (λ o p. (owner_run o ≡ run) × PoppedFirst (owner_view o) (r ∷ []) (owner_view p) × (hand' ≡ record (with_own_queue p hand) { to_claim = Some r }))
-PopsOwn run hand told.Empty hand' =
-    UsesOwn hand (λ o p. (owner_view p ≡ owner_view o) × (owner_run o ≡ run → FoundNone (owner_view o)) × (hand' ≡ with_own_queue p hand))
+    × UsesOwn hand (λ o p. (owner_run o ≡ run) × PoppedFirst (owner_view o) (r ∷ []) (owner_view p) × (hand' ≡ with_found r is_to_store (with_owner p hand)))
+
+-- None was taken; in a queue of another run there is none for the machine.
+abbrev pub FindsOwnEmpty : {T : Type 0} → ℕ → Registers T Owner → Registers T Owner → Type 0
+FindsOwnEmpty run hand hand' =
+    UsesOwn hand (λ o p. (owner_view p ≡ owner_view o) × (owner_run o ≡ run → FoundNone (owner_view o)) × (hand' ≡ with_owner p hand))
+
+-- Got: a ticket to claim was taken. Empty: none was.
+abbrev pub PopsOwn : {T : Type 0} → ℕ → Registers T Owner → Told → Registers T Owner → Type 0
+PopsOwn run hand told.Got hand' = TakesOwn false run hand hand'
+PopsOwn run hand told.Empty hand' = FindsOwnEmpty run hand hand'
 PopsOwn run hand _ hand' = ⊥
 
--- Drained: the first ticket was taken, and is in hand, to store. Empty: none was taken; in a queue of another run there is none for the machine.
+-- Drained: a ticket to store was taken. Empty: none was.
 abbrev pub DrainsOwn : {T : Type 0} → ℕ → Registers T Owner → Told → Registers T Owner → Type 0
-DrainsOwn run hand told.Drained hand' =
-    (r : Readiness)
-    × UsesOwn hand (λ o p. (owner_run o ≡ run) × PoppedFirst (owner_view o) (r ∷ []) (owner_view p) × (hand' ≡ record (with_own_queue p hand) { to_store = Some r }))
-DrainsOwn run hand told.Empty hand' =
-    UsesOwn hand (λ o p. (owner_view p ≡ owner_view o) × (owner_run o ≡ run → FoundNone (owner_view o)) × (hand' ≡ with_own_queue p hand))
+DrainsOwn run hand told.Drained hand' = TakesOwn true run hand hand'
+DrainsOwn run hand told.Empty hand' = FindsOwnEmpty run hand hand'
 DrainsOwn run hand _ hand' = ⊥
+
+-- one of the two
+abbrev pub PopsFor : {T : Type 0} → Bool → ℕ → Registers T Owner → Told → Registers T Owner → Type 0
+PopsFor false = PopsOwn
+PopsFor true = DrainsOwn
 
 -- Others' queues
 
@@ -91,21 +94,28 @@ pub record UsesThief (v : PNo) (thieves thieves' : List Thief) (Step : Thief →
   pub same : KeepsThief before behind
   pub step : Step before behind
 
--- a ticket that is stolen is in hand, to claim, and where there is one to claim, to store
-abbrev pub with_stolen : {T : Type 0} → Readiness → Bool → Registers T Owner → Registers T Owner
-with_stolen r false hand = record hand { to_claim = Some r }
-with_stolen r true hand = record hand { to_store = Some r }
-
--- Got: the first ticket of queue v was taken. Empty: none was taken; in a queue of another run, or of which the machine has no thief, there is none for it. Unsure: a race was lost, and none was taken.
+-- Got: the first ticket of queue v was taken, and is in hand, to claim, and where there is one to claim, to store. Empty: none was taken; in a queue of another run, or of which the machine has no thief, there is none for it. Unsure: a race was lost, and none was taken.
 abbrev pub Steals : {T : Type 0} → ℕ → PNo → List Thief → Bool → Registers T Owner → Tried → Registers T Owner → List Thief → Type 0
 Steals run v thieves has hand (tried.Got hint) hand' thieves' =
-    (r : Readiness) × UsesThief v thieves thieves' (λ t u. (thief_run t ≡ run) × StoleFirst (thief_view t) (r ∷ []) (thief_view u)) × (hand' ≡ with_stolen r has hand)
+    (r : Readiness) × UsesThief v thieves thieves' (λ t u. (thief_run t ≡ run) × StoleFirst (thief_view t) (r ∷ []) (thief_view u)) × (hand' ≡ with_found r has hand)
 Steals run v thieves has hand tried.Empty hand' thieves' =
     (UsesThief v thieves thieves' (λ t u. thief_view u ≡ thief_view t) ⊎ (slice_get thieves v.0 ≡ None) × (thieves' ≡ thieves)) × (hand' ≡ hand)
 Steals run v thieves has hand tried.Unsure hand' thieves' =
     UsesThief v thieves thieves' (λ t u. (thief_run t ≡ run) × (thief_view u ≡ thief_view t)) × (hand' ≡ hand)
 
 -- One act
+
+-- What is in hand then came of this step, and the machine was told what came of it.
+pub record IsToldOf {T : Type 0} (x : Machine T Owner) (Step : Told → Registers T Owner → Type 0) (x' : Machine T Owner) : Type 0 where
+  pub what : Told
+  pub hand : Registers T Owner
+  pub step : Step what hand
+  pub machine : x' ≡ after (record x { hand = hand }) what
+
+-- a steal from queue v, of which the machine is told: with the word, where it drew one
+abbrev pub StealsFrom : {T : Type 0} → Machine T Owner → Option ℕ → PNo → List Thief → List Thief → Told → Registers T Owner → Type 0
+StealsFrom x drawn v thieves thieves' what hand' =
+    (how : Tried) × (what ≡ tells drawn how) × Steals x.run v thieves (is_some x.hand.to_claim) x.hand how hand' thieves'
 
 -- by the act that is next: what is told, and what is in hand then
 abbrev pub Tries : {T : Type 0} → Act → Machine T Owner → ℕ → Registers T Owner → List Thief → Told → Registers T Owner → List Thief → Type 0

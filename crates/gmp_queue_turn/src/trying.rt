@@ -1,16 +1,29 @@
-//! One try at a queue, by what a machine hands out for it.
-ghost use Rattle.std.specs.Prelude.{◌≡◌, [], ◌∷◌, IfNone, IfSome, IsNone, IsSome};
+//! One try at a queue, made in place: what came of it changes the register that it is of, and the machine is told.
+ghost use Rattle.std.specs.Prelude.{◌≡◌, [], ◌∷◌, IfNone, IfSome, IsSome};
 ghost use Rattle.gmp_base.specs.Values.{readiness_of};
-ghost use Rattle.gmp_driver.specs.Loads.{IsOfRun, parts_of};
+ghost use Rattle.gmp_driver.specs.declared.act.Act.TheVariants as Act;
+ghost use Rattle.gmp_driver.specs.Fits.{SuitsPlace};
+ghost use Rattle.gmp_driver.specs.Local.{IsSteal, pop_for};
+ghost use Rattle.gmp_driver.specs.Table.{next_act};
 ghost use Rattle.gmp_queue.specs.Ends.{KeepsOwner, KeepsThief, MatchStole, owner_run, owner_view, thief_run, thief_view};
 ghost use Rattle.gmp_queue.specs.Queue.{FoundNone, PoppedFirst, StoleFirst};
-ghost use Rattle.gmp_queue_turn.specs.Turns.{DrainsOwn, PopsOwn, Pushes, Steals};
+ghost use Rattle.gmp_queue_turn.specs.Turns.{IsToldOf, PopsFor, Pushes, StealsFrom};
 
-use gmp_base::{PNo, Ticket};
-use gmp_driver::{Load, Told, Tried, fill};
+use gmp_base::{PNo, Readiness, Ticket};
+use gmp_driver::{Driver, QueueTold, Tried};
 use gmp_queue::{Owner, Stole, Thief};
 
+/// The readiness of a ticket, which is spent.
+#[inline(always)]
+fn spent(ticket: Ticket) -> Readiness
+    ensures { result ≡ readiness_of ticket }
+{
+    let (_, g, epoch) = ticket.open();
+    Readiness { g, epoch }
+}
+
 /// The first ticket of a queue, unless the queue is of another run.
+#[inline(always)]
 fn pop_of(owner: &mut Owner, run: u64) -> Option<Ticket>
     ensures same { KeepsOwner owner.old owner.new }
     ensures got { IfSome result (λ t. (t.run ≡ run) × (owner_run owner.old ≡ run) × PoppedFirst (owner_view owner.old) (readiness_of t ∷ []) (owner_view owner.new)) }
@@ -23,74 +36,49 @@ fn pop_of(owner: &mut Owner, run: u64) -> Option<Ticket>
     }
 }
 
-/// Pops the own queue.
-pub(crate) fn pop<T>(load: &mut Load<T, Owner>) -> Told
-    requires run { IsOfRun load.old.pass.run load.old }
-    requires own { IsSome load.old.proc }
-    requires free { IsNone load.old.to_claim }
-    ensures pops { PopsOwn load.old.pass.run (parts_of load.old) result (parts_of load.new) }
-    ensures run { IsOfRun load.old.pass.run load.new }
-    ensures pass { load.new.pass ≡ load.old.pass }
+/// Pops the own queue. The ticket is one to claim, or one to store.
+#[inline(always)]
+pub(crate) fn pop<T>(driver: &mut Driver<T, Owner>, is_to_store: bool)
+    requires next { next_act driver.old ≡ pop_for is_to_store }
+    requires fits { SuitsPlace driver.old.place driver.old.hand }
+    ensures pops { IsToldOf driver.old (PopsFor is_to_store driver.old.run driver.old.hand) driver.new }
+    ensures fits { SuitsPlace driver.new.place driver.new.hand }
 {
-    let Some(mut proc) = load.proc.take() else {
-        unreachable!()
+    let run = driver.run();
+    let popped = match driver.owner() {
+        Some(owner) => pop_of(owner, run),
+        None => unreachable!(),
     };
-    let popped = pop_of(&mut proc.owner, load.pass.run);
-    fill(&mut load.proc, proc);
     match popped {
         Some(ticket) => {
-            fill(&mut load.to_claim, ticket);
-            Told::Got
+            let told = QueueTold::Popped(is_to_store);
+            driver.tell_found(spent(ticket), is_to_store, told);
         }
-        None => Told::Empty,
-    }
-}
-
-/// Pops the own queue, and the ticket is one to store.
-pub(crate) fn drain<T>(load: &mut Load<T, Owner>) -> Told
-    requires run { IsOfRun load.old.pass.run load.old }
-    requires own { IsSome load.old.proc }
-    requires free { IsNone load.old.to_store }
-    ensures drains { DrainsOwn load.old.pass.run (parts_of load.old) result (parts_of load.new) }
-    ensures run { IsOfRun load.old.pass.run load.new }
-    ensures pass { load.new.pass ≡ load.old.pass }
-{
-    let Some(mut proc) = load.proc.take() else {
-        unreachable!()
-    };
-    let popped = pop_of(&mut proc.owner, load.pass.run);
-    fill(&mut load.proc, proc);
-    match popped {
-        Some(ticket) => {
-            fill(&mut load.to_store, ticket);
-            Told::Drained
-        }
-        None => Told::Empty,
+        None => driver.tell_queue(QueueTold::Empty),
     }
 }
 
 /// Pushes the ticket to store onto the own queue.
-pub(crate) fn push<T>(load: &mut Load<T, Owner>) -> Told
-    requires run { IsOfRun load.old.pass.run load.old }
-    requires own { IsSome load.old.proc }
-    requires ticket { IsSome load.old.to_store }
-    ensures pushes { Pushes load.old.pass.run (parts_of load.old) result (parts_of load.new) }
-    ensures run { IsOfRun load.old.pass.run load.new }
-    ensures pass { load.new.pass ≡ load.old.pass }
+#[inline(always)]
+pub(crate) fn push<T>(driver: &mut Driver<T, Owner>)
+    requires next { next_act driver.old ≡ Act.Push }
+    requires fits { SuitsPlace driver.old.place driver.old.hand }
+    ensures pushes { IsToldOf driver.old (Pushes driver.old.run driver.old.hand) driver.new }
+    ensures fits { SuitsPlace driver.new.place driver.new.hand }
 {
-    let Some(mut proc) = load.proc.take() else {
+    let run = driver.run();
+    let Some(r) = driver.to_store() else {
         unreachable!()
     };
-    let Some(ticket) = load.to_store.take() else {
-        unreachable!()
+    let pushed = match driver.owner() {
+        Some(owner) => owner.push(Ticket::by(run, r)),
+        None => unreachable!(),
     };
-    let pushed = proc.owner.push(ticket);
-    fill(&mut load.proc, proc);
     match pushed {
-        Ok(()) => Told::Pushed,
+        Ok(()) => driver.tell_stored(QueueTold::Pushed),
         Err(back) => {
-            fill(&mut load.to_store, back);
-            Told::PushRefused
+            back.open();
+            driver.tell_queue(QueueTold::PushRefused);
         }
     }
 }
@@ -108,35 +96,32 @@ fn steal_of(thief: &mut Thief, run: u64) -> (u32, Stole)
 }
 
 /// Steals from the victim's queue, whose length is read before. The ticket is one to claim, or one to store, where the machine has one to
-/// claim.
+/// claim. With the word that was drawn for it, where one was.
+#[inline(never)]
 pub(crate) fn steal<T>(
-    load: &mut Load<T, Owner>,
+    driver: &mut Driver<T, Owner>,
     thieves: &mut [Thief],
+    drawn: Option<u64>,
     victim: PNo,
-    has_to_claim: bool,
-) -> Tried
-    requires run { IsOfRun load.old.pass.run load.old }
-    requires to_claim { IsNone load.old.to_claim }
-    requires to_store { IsNone load.old.to_store }
-    ensures steals { Steals load.old.pass.run victim thieves.old has_to_claim (parts_of load.old) result (parts_of load.new) thieves.new }
-    ensures run { IsOfRun load.old.pass.run load.new }
-    ensures pass { load.new.pass ≡ load.old.pass }
+)
+    requires next { IsSteal (next_act driver.old) drawn }
+    requires fits { SuitsPlace driver.old.place driver.old.hand }
+    ensures steals { IsToldOf driver.old (StealsFrom driver.old drawn victim thieves.old thieves.new) driver.new }
+    ensures fits { SuitsPlace driver.new.place driver.new.hand }
 {
     let v = usize::from(victim.0);
     if v >= thieves.len() {
-        return Tried::Empty;
+        driver.tell_queue(QueueTold::Stole(drawn, Tried::Empty));
+        return;
     }
-    let (hint, stole) = steal_of(&mut thieves[v], load.pass.run);
+    let has_to_claim = driver.has_to_claim();
+    let (hint, stole) = steal_of(&mut thieves[v], driver.run());
     match stole {
         Stole::Got(ticket) => {
-            if has_to_claim {
-                fill(&mut load.to_store, ticket);
-            } else {
-                fill(&mut load.to_claim, ticket);
-            }
-            Tried::Got(hint)
+            let told = QueueTold::Stole(drawn, Tried::Got(hint));
+            driver.tell_found(spent(ticket), has_to_claim, told);
         }
-        Stole::Empty => Tried::Empty,
-        Stole::Unsure => Tried::Unsure,
+        Stole::Empty => driver.tell_queue(QueueTold::Stole(drawn, Tried::Empty)),
+        Stole::Unsure => driver.tell_queue(QueueTold::Stole(drawn, Tried::Unsure)),
     }
 }

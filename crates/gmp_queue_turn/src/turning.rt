@@ -1,11 +1,12 @@
 //! One act of a machine at the local queues.
 ghost use Rattle.std.specs.Prelude.{◌≡◌, IsSome};
+ghost use Rattle.gmp_driver.specs.declared.act.Act.TheVariants as Act;
 ghost use Rattle.gmp_driver.specs.Fits.{SuitsPlace};
 ghost use Rattle.gmp_driver.specs.Table.{next_act};
 ghost use Rattle.gmp_queue_turn.specs.Turns.{IsQueueAct, TurnsOnQueue, drawn_for};
 
-use crate::trying::{drain, pop, push, steal};
-use gmp_driver::{Act, Driver, Told};
+use crate::trying::{pop, push, steal};
+use gmp_driver::{Act, Driver};
 use gmp_queue::{Owner, Thief};
 use rand_core::utils::next_u64_via_u32;
 use rand_pcg::Lcg64Xsh32;
@@ -23,40 +24,26 @@ pub fn queue_turn<T>(driver: &mut Driver<T, Owner>, thieves: &mut [Thief], rando
     ensures pass { driver.new.pass ≡ driver.old.pass }
     ensures run { driver.new.run ≡ driver.old.run }
 {
-    let word = draw_for(&driver.next(), random);
-    turn_by(driver, thieves, word);
-}
-
-/// The word that an act draws, the low half first; 0 where it draws none.
-fn draw_for(act: &Act, random: &mut Lcg64Xsh32) -> u64
-    ensures word { (result, random.new) ≡ drawn_for act.now random.old }
-{
-    match act {
-        Act::Hunt => next_u64_via_u32(random),
-        _ => 0,
+    match driver.next() {
+        Act::Pop => pop(driver, false),
+        Act::Drain => pop(driver, true),
+        Act::Push => push(driver),
+        Act::Hunt => hunt(driver, thieves, random),
+        Act::Steal(victim) => steal(driver, thieves, None, victim),
+        _ => unreachable!(),
     }
 }
 
-/// The turn, in which a hunt begins by `word`; no other act looks at it.
-fn turn_by<T>(driver: &mut Driver<T, Owner>, thieves: &mut [Thief], word: u64)
-    requires act { IsQueueAct (next_act driver.old) }
-    requires pass { IsSome driver.old.pass }
-    ensures turns { TurnsOnQueue driver.old thieves.old word driver.new thieves.new }
+/// Draws a word, the low half first, and steals from the first victim of the hunt that begins by it.
+#[inline(never)]
+fn hunt<T>(driver: &mut Driver<T, Owner>, thieves: &mut [Thief], random: &mut Lcg64Xsh32)
+    requires next { next_act driver.old ≡ Act.Hunt }
+    requires fits { SuitsPlace driver.old.place driver.old.hand }
+    ensures turns { TurnsOnQueue driver.old thieves.old (drawn_for Act.Hunt random.old).0 driver.new thieves.new }
+    ensures random { random.new ≡ (drawn_for Act.Hunt random.old).1 }
     ensures fits { SuitsPlace driver.new.place driver.new.hand }
-    ensures pass { driver.new.pass ≡ driver.old.pass }
-    ensures run { driver.new.run ≡ driver.old.run }
 {
-    let act = driver.next();
+    let word = next_u64_via_u32(random);
     let first = driver.first_victim(word);
-    let has_to_claim = driver.has_to_claim();
-    let mut load = driver.give();
-    let told = match act {
-        Act::Pop => pop(&mut load),
-        Act::Drain => drain(&mut load),
-        Act::Push => push(&mut load),
-        Act::Hunt => Told::Drew(word, steal(&mut load, thieves, first, has_to_claim)),
-        Act::Steal(victim) => Told::Tried(steal(&mut load, thieves, victim, has_to_claim)),
-        _ => unreachable!(),
-    };
-    driver.got(load, told);
+    steal(driver, thieves, Some(word), first);
 }

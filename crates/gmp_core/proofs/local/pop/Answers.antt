@@ -1,78 +1,56 @@
-use Rattle.std.proofs.Common.{◌≡◌, false}
+use Rattle.std.proofs.Common.{◌≡◌, refl, sym, ◌∙◌}
 use Rattle.gmp_driver.specs.declared.act.Told.TheVariants as told
-use Rattle.gmp_driver.specs.Registers.{used}
-use Rattle.gmp_driver.specs.Table.{after, next_act}
-use Rattle.gmp_core.proofs.Landing.{fits_now, got_apart, got_fits, got_told, keeps_now, parts_are, parts_with, pass_with, taken_now, with_taken}
-use Rattle.gmp_core.proofs.Owning.{empty_lands, got_lands, popped_own, was_empty, was_got}
+use Rattle.gmp_driver.specs.Local.{popped_for}
+use Rattle.gmp_driver.specs.Own.{with_found}
+use Rattle.gmp_driver.specs.Table.{after}
+use Rattle.gmp_driver.proofs.OwnQueue.{pop_found, pop_none, ticket_filled}
+use Rattle.gmp_core.proofs.Landing.{fits_now, found_now, keeps_now}
+use Rattle.gmp_core.proofs.Owning.{pop_owns, was_empty, was_got}
 use Rattle.gmp_core.proofs.local.pop.Given.{Over}
 use Rattle.gmp_core.proofs.local.pop.Goals as goal
 
+pub unreachable-requires : goal.unreachable-requires
+unreachable-requires g c = pop_owns c.args.driver.now c.args.is_to_store c.requires.next c.requires.fits (sym c.processor.ensures ∙ c.in_default.is)
+
 -- The queue is empty
 
-pub got-requires-in-None-clause-apart : goal.got-requires-in-None-clause-apart
-got-requires-in-None-clause-apart g c =
+pub tell_queue-requires : goal.tell_queue-requires
+tell_queue-requires g c =
     let x = c.args.driver.now in
-    got_apart x c.give-load.new.self told.Empty c.give-load.result (used (next_act x) x.hand) x.hand (empty_lands x c.requires.fits c.requires.next) (parts_are x c.give-load.result c.give-load.ensures.used) c.give-load.ensures.left
-
-pub got-requires-in-None-clause-fits : goal.got-requires-in-None-clause-fits
-got-requires-in-None-clause-fits g c =
-    let x = c.args.driver.now in
-    got_fits x c.give-load.new.self told.Empty c.give-load.result (used (next_act x) x.hand) x.hand (empty_lands x c.requires.fits c.requires.next) (parts_are x c.give-load.result c.give-load.ensures.used) c.give-load.ensures.left
-
-empty_now : (g : Over) (c : goal.After-got-in-None g) → c.got-in-None.new.self ≡ after c.args.driver.now told.Empty
-empty_now g c =
-    let x = c.args.driver.now in
-    got_told x c.give-load.new.self told.Empty c.give-load.result (used (next_act x) x.hand) x.hand (empty_lands x c.requires.fits c.requires.next) (parts_are x c.give-load.result c.give-load.ensures.used) c.give-load.ensures.left
-    c.got-in-None.new.self c.give-load.ensures.pass c.got-in-None.ensures
+    pop_none x c.requires.fits c.args.is_to_store x.hand c.requires.next refl
 
 pub returns-in-None-clause-acts : goal.returns-in-None-clause-acts
 returns-in-None-clause-acts g c =
-    let x = c.args.driver.now in
-    was_empty x c.got-in-None.new.self c.args.queues.now.queues c.pop.new.self.queues c.own.result (popped_own x c.give-load.result c.give-load.ensures.used c.requires.fits c.own.result c.requires.next c.own.ensures)
-    c.in-None.ensures.pops (empty_now g c)
+    was_empty c.args.driver.now c.tell_queue.new.self c.args.queues.now.queues c.pop.new.self.queues c.in-Some.p (sym c.processor.ensures ∙ c.in-Some.is) c.args.is_to_store c.in-None.ensures.pops c.tell_queue.ensures
 
 pub returns-in-None-clause-hand : goal.returns-in-None-clause-hand
-returns-in-None-clause-hand g c = keeps_now c.args.driver.now c.got-in-None.new.self told.Empty (empty_now g c)
+returns-in-None-clause-hand g c = keeps_now c.args.driver.now c.tell_queue.new.self told.Empty c.tell_queue.ensures
 
 pub returns-in-None-clause-fits : goal.returns-in-None-clause-fits
 returns-in-None-clause-fits g c =
     let x = c.args.driver.now in
-    fits_now x told.Empty (used (next_act x) x.hand) x.hand (empty_lands x c.requires.fits c.requires.next) c.got-in-None.new.self (empty_now g c)
+    fits_now x c.tell_queue.new.self told.Empty x.hand (pop_none x c.requires.fits c.args.is_to_store x.hand c.requires.next refl) c.tell_queue.ensures
 
 -- A ticket is found
 
-pub got-requires-clause-apart : goal.got-requires-clause-apart
-got-requires-clause-apart g c =
+pub tell_found-requires : goal.tell_found-requires
+tell_found-requires g c =
     let x = c.args.driver.now in
-    let r = c.in-Some.r in
-    got_apart x c.give-load.new.self told.Got c.add.new.load (with_taken r false (used (next_act x) x.hand)) (with_taken r false x.hand) (got_lands x c.requires.fits c.requires.next r)
-    (parts_with x c.give-load.result c.give-load.ensures.used r false c.add.new.load c.add.ensures) c.give-load.ensures.left
+    pop_found x c.requires.fits c.args.is_to_store (with_found c.in-Some-pop.r c.args.is_to_store x.hand) c.requires.next (ticket_filled c.in-Some-pop.r c.args.is_to_store x.hand)
 
-pub got-requires-clause-fits : goal.got-requires-clause-fits
-got-requires-clause-fits g c =
+got_now : (g : Over) (c : goal.After-tell_found g)
+    → c.tell_found.new.self ≡ after (record c.args.driver.now { hand = with_found c.in-Some-pop.r c.args.is_to_store c.args.driver.now.hand }) (popped_for c.args.is_to_store)
+got_now g c = c.tell_found.ensures
+
+pub returns-in-Some-pop-clause-acts : goal.returns-in-Some-pop-clause-acts
+returns-in-Some-pop-clause-acts g c =
+    was_got c.args.driver.now c.tell_found.new.self c.args.queues.now.queues c.pop.new.self.queues c.in-Some.p (sym c.processor.ensures ∙ c.in-Some.is) c.args.is_to_store c.in-Some-pop.r c.in-Some-pop.ensures.pops (got_now g c)
+
+pub returns-in-Some-pop-clause-hand : goal.returns-in-Some-pop-clause-hand
+returns-in-Some-pop-clause-hand g c = found_now c.args.driver.now c.tell_found.new.self (popped_for c.args.is_to_store) c.in-Some-pop.r c.args.is_to_store (got_now g c)
+
+pub returns-in-Some-pop-clause-fits : goal.returns-in-Some-pop-clause-fits
+returns-in-Some-pop-clause-fits g c =
     let x = c.args.driver.now in
-    let r = c.in-Some.r in
-    got_fits x c.give-load.new.self told.Got c.add.new.load (with_taken r false (used (next_act x) x.hand)) (with_taken r false x.hand) (got_lands x c.requires.fits c.requires.next r)
-    (parts_with x c.give-load.result c.give-load.ensures.used r false c.add.new.load c.add.ensures) c.give-load.ensures.left
-
-found_now : (g : Over) (c : goal.After-got g) → c.got.new.self ≡ after (record c.args.driver.now { hand = with_taken c.in-Some.r false c.args.driver.now.hand }) told.Got
-found_now g c =
-    let x = c.args.driver.now in
-    let r = c.in-Some.r in
-    got_told x c.give-load.new.self told.Got c.add.new.load (with_taken r false (used (next_act x) x.hand)) (with_taken r false x.hand) (got_lands x c.requires.fits c.requires.next r)
-    (parts_with x c.give-load.result c.give-load.ensures.used r false c.add.new.load c.add.ensures) c.give-load.ensures.left c.got.new.self
-    (pass_with x c.give-load.result c.give-load.ensures.used r false c.add.new.load c.add.ensures c.give-load.ensures.pass) c.got.ensures
-
-pub returns-in-Some-clause-acts : goal.returns-in-Some-clause-acts
-returns-in-Some-clause-acts g c =
-    let x = c.args.driver.now in
-    was_got x c.got.new.self c.args.queues.now.queues c.pop.new.self.queues c.own.result (popped_own x c.give-load.result c.give-load.ensures.used c.requires.fits c.own.result c.requires.next c.own.ensures)
-    c.in-Some.r c.in-Some.ensures.pops (found_now g c)
-
-pub returns-in-Some-clause-hand : goal.returns-in-Some-clause-hand
-returns-in-Some-clause-hand g c = taken_now c.args.driver.now c.got.new.self told.Got c.in-Some.r false (found_now g c)
-
-pub returns-in-Some-clause-fits : goal.returns-in-Some-clause-fits
-returns-in-Some-clause-fits g c =
-    let x = c.args.driver.now in
-    fits_now x told.Got (with_taken c.in-Some.r false (used (next_act x) x.hand)) (with_taken c.in-Some.r false x.hand) (got_lands x c.requires.fits c.requires.next c.in-Some.r) c.got.new.self (found_now g c)
+    fits_now x c.tell_found.new.self (popped_for c.args.is_to_store) (with_found c.in-Some-pop.r c.args.is_to_store x.hand)
+    (pop_found x c.requires.fits c.args.is_to_store (with_found c.in-Some-pop.r c.args.is_to_store x.hand) c.requires.next (ticket_filled c.in-Some-pop.r c.args.is_to_store x.hand)) (got_now g c)

@@ -1,0 +1,77 @@
+//! The rows of the table that say where an act at a local queue leads.
+ghost use Rattle.std.specs.Prelude.{◌≡◌, ◌≤◌};
+ghost use Rattle.gmp_driver.specs.Hunt as hunt;
+ghost use Rattle.gmp_driver.specs.Local.{told_of};
+ghost use Rattle.gmp_driver.specs.Table as table;
+
+use crate::act::{QueueTold, Tried};
+use crate::hunt::more;
+use crate::place::{Place, Round};
+use crate::seen::Seen;
+use crate::table::scanned;
+use gmp_base::PNo;
+
+// Not inlined, here and below: each makes a whole place, and whoever is told of a pop or a push pays for none.
+#[inline(never)]
+fn hunt_on(here: &mut Place, seen: Seen, round: Round, tried: Tried)
+    requires { 1 ≤ seen.procs }
+    ensures { here.new ≡ hunt.hunted seen round tried }
+{
+    *here = seen.hunted(round, tried);
+}
+
+#[inline(never)]
+fn steal_on(here: &mut Place, v: PNo, goal: u8)
+    ensures { here.new ≡ hunt.more v goal }
+{
+    *here = more(v, goal);
+}
+
+#[inline(never)]
+fn scan_on(here: &mut Place, seen: Seen, v: PNo)
+    ensures { here.new ≡ table.scanned seen.procs v }
+{
+    *here = scanned(seen.procs, v);
+}
+
+/// Goes where what came of an act at a local queue leads.
+#[inline(always)]
+pub(crate) fn go_on_at_queue(here: &mut Place, seen: Seen, told: QueueTold)
+    requires { 1 ≤ seen.procs }
+    ensures { here.new ≡ table.next_place seen here.old (told_of told) }
+{
+    match (&*here, told) {
+        (Place::Look, QueueTold::Popped(false)) => *here = Place::Claim,
+        (Place::Look, QueueTold::Empty) => *here = Place::Global,
+        (Place::Drain, QueueTold::Popped(true)) => *here = Place::PutDrain,
+        (Place::Drain, QueueTold::Empty) => *here = Place::Drop,
+        (Place::Hunt(None), QueueTold::Stole(Some(word), tried)) => {
+            hunt_on(here, seen, seen.begin(word), tried);
+        }
+        (Place::Hunt(Some(round)), QueueTold::Stole(None, tried)) => {
+            let round = *round;
+            hunt_on(here, seen, round, tried);
+        }
+        (Place::More(v, goal), QueueTold::Stole(None, Tried::Got(_))) => {
+            let (v, goal) = (*v, *goal);
+            *here = Place::StoreMore(v, goal.saturating_sub(1));
+        }
+        (Place::More(_, _), QueueTold::Stole(None, _)) => *here = Place::Unspin,
+        (Place::StoreMore(v, goal), QueueTold::Pushed) => {
+            let (v, goal) = (*v, *goal);
+            steal_on(here, v, goal);
+        }
+        (Place::StoreMore(v, goal), QueueTold::PushRefused) => {
+            let (v, goal) = (*v, *goal);
+            *here = Place::PutMore(v, goal);
+        }
+        (Place::Store, QueueTold::Pushed) => *here = Place::Poke,
+        (Place::Store, QueueTold::PushRefused) => *here = Place::PutStore,
+        (Place::Scan(_), QueueTold::Stole(None, Tried::Got(_))) => *here = Place::Have,
+        (Place::Scan(v), QueueTold::Stole(None, Tried::Empty)) => {
+            let v = *v;
+            scan_on(here, seen, v);
+        }
+        (_, _) => {}
+    }
+}
