@@ -36,9 +36,9 @@ module _ (es : List Entry) (e : Entry) where
       let p : Entry → Bool = λ (x : Entry). x.m.0 == m in
       ap (λ (l : List Entry). length l) (filter-append p es (e ∷ [])) ∙ length-append (filter p es) (filter p (e ∷ []))
       ∙ ap (λ (c : Bool). entries_of es m + length (if c then e ∷ [] else [])) own ∙ counts b where
-    counts : (b : Bool) → entries_of es m + length (if b then e ∷ [] else []) ≡ entries_of es m + (if b then 1 else 0)
-    counts true = refl
-    counts false = refl
+        counts : (b : Bool) → entries_of es m + length (if b then e ∷ [] else []) ≡ entries_of es m + (if b then 1 else 0)
+        counts true = refl
+        counts false = refl
 
   pub counted_own : (k : ℕ) (t : Tally) → e.m.0 ≡ k → t ≡ tally_of es [] k → record t { found = t.found + 1 } ≡ tally_of (es ++ e ∷ []) [] k
   counted_own k t own was =
