@@ -1,5 +1,5 @@
 -- An act at a machine's desk, for the core as a whole.
-use Rattle.std.proofs.Common.{rules, All, ◌≡◌, ◌≢◌, ◌⊎◌, ◌<◌, true, [], length, get_or, refl, sym, ap, ◌∙◌, arith, Option, Some, None, IfSome, IsSome, is_some, Result, Ok, ℕ, List, subst, ◌+◌, ◌++◌, ◌∷◌, Err}
+use Rattle.std.proofs.Common.{rules, All, ◌≡◌, ◌≢◌, ◌⊎◌, ◌<◌, true, [], length, get_or, refl, sym, ap, ◌∙◌, arith, Option, Some, None, IsSome, is_some, Result, Ok, ℕ, List, subst, ◌+◌, ◌++◌, ◌∷◌, Err}
 use Rattle.std.proofs.lemmas.List.{append_cancel_left, length_push}
 use Rattle.std.proofs.lemmas.Option.{slice_get-get_or}
 use Rattle.std.specs.List.{slice_get}

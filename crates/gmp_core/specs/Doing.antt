@@ -1,8 +1,7 @@
 -- One act of one machine, with the book and the queues, in full: which values move, and not only their numbers.
-use Rattle.std.specs.Prelude.{◌≡◌, Option, None, Some, List, [], ◌∷◌, ◌++◌, Result, Ok, Err}
+use Rattle.std.specs.Prelude.{◌≡◌, None, Some, Result}
 use Rattle.gmp_base.specs.declared.number.MNo.{MNo}
 use Rattle.gmp_base.specs.declared.refusal.Refusal.{Refusal}
-use Rattle.gmp_seq.specs.declared.call.Call.{Call}
 use Rattle.gmp_seq.specs.declared.call.Reply.{Reply}
 use Rattle.gmp_book.specs.Book.{BookContents}
 use Rattle.gmp_driver.specs.declared.act.Act.{Act}
@@ -13,7 +12,6 @@ use Rattle.gmp_driver.specs.Machine.{Machine}
 use Rattle.gmp_driver.specs.Seen.{seen}
 use Rattle.gmp_driver.specs.Table.{after}
 use Rattle.gmp_acts.specs.declared.choice.Choice.{Choice}
-use Rattle.gmp_acts.specs.declared.made.Made.{Made}
 use Rattle.gmp_acts.specs.Acts.{WithQueues, drained, popped, pushed, stolen}
 use Rattle.gmp_acts.specs.Hands.{plain_machine}
 use Rattle.gmp_turn.specs.Surrenders.{Surrenders}

@@ -1,4 +1,4 @@
-use Rattle.std.proofs.Common.{◌≡◌, ◌<◌, ◌==◌, ◌∙◌, [], get_or, refl, subst, sym, arith}
+use Rattle.std.proofs.Common.{◌<◌, ◌==◌, ◌∙◌, [], get_or, refl, subst, sym, arith}
 use Rattle.std.proofs.lemmas.Iterator.Consumers.{YieldsList-at, YieldsList-end, YieldsList-from_first, YieldsList-turn}
 use Rattle.std.proofs.lemmas.List.{length-set, map-id}
 use Rattle.std.proofs.lemmas.List.Sums.{count_by-le-length}

@@ -1,4 +1,4 @@
-use Rattle.std.proofs.Common.{ap, vec_capacity}
+use Rattle.std.proofs.Common.{ap}
 use Rattle.gmp_core.specs.Whole.{Whole}
 use Rattle.gmp_core.proofs.Stock.{found}
 use Rattle.gmp_core.proofs.Together.{held_at_is}

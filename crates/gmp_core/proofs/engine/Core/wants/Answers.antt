@@ -1,4 +1,4 @@
-use Rattle.std.proofs.Common.{ap, sym, vec_capacity}
+use Rattle.std.proofs.Common.{ap, sym}
 use Rattle.gmp_core.specs.Whole.{Whole, wanted_by}
 use Rattle.gmp_core.proofs.Stock.{found}
 use Rattle.gmp_core.proofs.Together.{has_pass, next_is}
