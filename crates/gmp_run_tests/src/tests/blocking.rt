@@ -110,8 +110,9 @@ fn is_ended(rt: &impl Abort, report: &Report<Boxed>) {
     assert!(rt; report.outcome == Outcome::MainEnded);
     let counts = (report.started, report.bodies.len(), report.history.len());
     assert_eq!(rt; counts, (2, 2, 12));
-    for (at, entry) in report.history.iter().enumerate() {
-        assert_eq!(rt; entry.m, MNo(if at < 8 { 0 } else { 1 }), "{at}");
+    for at in 0..12usize {
+        let m = report.history.get(at).map(|entry| entry.m);
+        assert_eq!(rt; m, Some(MNo(if at < 8 { 0 } else { 1 })), "{at}");
     }
     assert_eq!(rt; audit(&report.history, &report.logs), Ok(()));
 }

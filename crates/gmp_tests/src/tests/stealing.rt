@@ -69,11 +69,11 @@ fn steals(rt: &impl Abort, history: &History) {
         Reply::Nothing,
         Reply::Held,
     ];
-    let mut at = 0;
+    let mut at = 0usize;
     for entry in history.iter() {
         if entry.m == MNo(1) {
             assert_eq!(rt; replies.get(at).copied(), Some(entry.reply));
-            at += 1;
+            at = at.wrapping_add(1);
         }
         match &entry.call {
             Call::Put(r) => assert_eq!(rt; *r, first_of(2)),
