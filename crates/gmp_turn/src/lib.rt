@@ -2,6 +2,7 @@
 #![tactic(auto)]
 
 mod calling;
+mod hot;
 mod in_place;
 pub mod laws;
 mod passing;
