@@ -1,6 +1,5 @@
 -- What brief calls and replies stand for, with what lies beside them.
 use Rattle.std.specs.Prelude.{ℕ, ◌<◌, Option, None, Some, List, [], ◌∷◌, map, slice_get}
-use Rattle.gmp_base.specs.declared.number.MNo.{MNo}
 use Rattle.gmp_seq.specs.declared.call.Call.{Call}
 use Rattle.gmp_seq.specs.declared.call.Call.TheVariants as call
 use Rattle.gmp_seq.specs.declared.call.Entry.{Entry}
@@ -19,14 +18,6 @@ use Rattle.gmp_history.specs.declared.brief.Row.{Row}
 pub record HistoryContents : Type 0 where
   pub list : List Entry
   pub room : ℕ
-
--- the machine of an entry, and what it was answered
-abbrev pub answered : Entry → MNo × Reply
-answered e = (e.m, e.reply)
-
--- the call of an entry
-abbrev pub called : Entry → Call
-called e = e.call
 
 -- the select of this choosing, where there is one
 abbrev pub select_of : Option Choosing → Call

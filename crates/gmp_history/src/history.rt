@@ -1,8 +1,6 @@
 //! The history.
 ghost use Rattle.std.specs.Prelude.{◌≡◌, ◌<◌, ◌≤◌, ◌-◌, ◌^◌, ◌↔◌, IsTrue, [], ◌∷◌, ◌++◌, length, slice_get, IfOk, OnOk};
-ghost use Rattle.std.specs.Option.{option_map};
 ghost use Rattle.gmp_seq.specs.Fits.{Fits};
-ghost use Rattle.gmp_history.specs.Brief.{answered, called};
 
 use crate::brief::{Choosing, Row};
 use crate::entries::Entries;
@@ -135,30 +133,7 @@ impl History {
         }
     }
 
-    /// The machine of the last entry and what it was answered, if there is one.
-    #[inline(always)]
-    pub fn last_answer(&self) -> Option<(MNo, Reply)>
-        ensures { result ≡ option_map answered (slice_get self.now.list (length self.now.list - 1)) }
-    {
-        match self.last() {
-            Some(entry) => Some((entry.m, entry.reply)),
-            None => None,
-        }
-    }
-
-    /// The call of the last entry, if there is one.
-    #[inline(always)]
-    pub fn last_call(&self) -> Option<Call>
-        ensures { result ≡ option_map called (slice_get self.now.list (length self.now.list - 1)) }
-    {
-        match self.last() {
-            Some(entry) => Some(entry.call),
-            None => None,
-        }
-    }
-
     /// The last entry, if there is one.
-    #[inline(always)]
     pub fn last(&self) -> Option<Entry>
         ensures { result ≡ slice_get self.now.list (length self.now.list - 1) }
     {

@@ -36,7 +36,7 @@ use crate::processors::Processors;
 use crate::set::Set;
 use gmp_base::{GNo, MNo};
 use gmp_history::History;
-use gmp_seq::{Call, Reply};
+use gmp_seq::{Call, Entry, Reply};
 use std::alloc::{AllocError, Global};
 
 /// What a machine at Mind does.
@@ -66,17 +66,6 @@ fn deadline_in(call: &Call) -> Option<u64> {
         Call::Select(_, _, until) => *until,
         _ => None,
     }
-}
-
-// Apart, here and in `note_call`, since a call is wide: whoever notes an entry whose reply says all makes none.
-#[inline(never)]
-fn is_acquire(history: &History) -> bool {
-    matches!(history.last_call(), Some(Call::Acquire))
-}
-
-#[inline(never)]
-fn is_take(history: &History) -> bool {
-    matches!(history.last_call(), Some(Call::Take))
 }
 
 #[derive(Drop)]
@@ -197,34 +186,28 @@ impl Watch {
     }
 
     /// Notes the last entry, unless it is noted.
-    #[inline(always)]
     pub fn note_last(&mut self, history: &History) {
         if history.len() > self.noted {
             self.noted = history.len();
-            if let Some((m, reply)) = history.last_answer() {
-                self.note(m, reply, history);
+            if let Some(entry) = history.last() {
+                self.note(&entry);
             }
         }
     }
 
-    /// Notes the last entry, of m and answered so: where machines stand, and which processors are held. One that is told to look again looks
-    /// as before. The call is looked at only where the reply leaves something open.
-    #[inline(always)]
-    fn note(&mut self, m: MNo, reply: Reply, history: &History) {
+    /// Notes an entry: where machines stand, and which processors are held. One that is told to look again looks as before.
+    fn note(&mut self, entry: &Entry) {
+        let m = entry.m;
         if self.owes.has(m) {
             self.owes = self.owes.without(m);
             self.more_ready(1);
         }
-        match reply {
+        match entry.reply {
             Reply::Proc(p) => {
                 self.look(m);
                 self.processors.hold(p);
             }
-            Reply::Nothing => {
-                if is_acquire(history) {
-                    self.look(m);
-                }
-            }
+            Reply::Nothing if matches!(entry.call, Call::Acquire) => self.look(m),
             Reply::Runs(p) => {
                 self.run(m);
                 self.processors.hold(p);
@@ -244,52 +227,37 @@ impl Watch {
                 self.waits = self.waits.with(m);
                 self.least = Some(until);
             }
-            _ => self.note_goroutines(m, reply, history),
+            _ => self.note_goroutines(entry),
         }
     }
 
-    /// Notes the last entry: which goroutines are ready, which run, and what they wait for, and how many processors are active. A ticket that is
+    /// Notes an entry: which goroutines are ready, which run, and what they wait for, and how many processors are active. A ticket that is
     /// put onto the shelf was ready before.
-    #[inline(always)]
-    fn note_goroutines(&mut self, m: MNo, reply: Reply, history: &History) {
-        match reply {
-            Reply::Shelved(_) => {
+    fn note_goroutines(&mut self, entry: &Entry) {
+        let m = entry.m;
+        match (entry.reply, &entry.call) {
+            (Reply::Held, Call::Claim(ticket)) => self.claim(m, ticket.g),
+            (Reply::Ticket(_), Call::Take) => {}
+            (Reply::Closed(count), _) => self.more_ready(count),
+            (Reply::Woke(count), Call::Tick(moment)) => {
+                self.more_ready(count);
+                self.ticked(*moment);
+            }
+            (Reply::Shelved(_), _) => {
                 self.look(m);
                 self.more_ready(1);
             }
-            Reply::Closed(count) => self.more_ready(count),
-            Reply::Dead => self.look(m),
-            Reply::Held | Reply::Woke(_) | Reply::Waits | Reply::Number(_) => {
-                self.note_call(m, reply, history);
+            (Reply::Waits, call) => {
+                self.look(m);
+                self.sleeps(m, deadline_in(call));
             }
-            Reply::Ticket(_) => {
-                if !is_take(history) {
-                    self.owes = self.owes.with(m);
-                }
-            }
-            reply => {
+            (Reply::Dead, _) => self.look(m),
+            (Reply::Number(_), Call::Procs(active)) => self.processors.set_active(*active),
+            (reply, _) => {
                 if reply.ticket().is_some() {
                     self.owes = self.owes.with(m);
                 }
             }
-        }
-    }
-
-    /// The same of an entry whose call says more than its reply.
-    #[inline(never)]
-    fn note_call(&mut self, m: MNo, reply: Reply, history: &History) {
-        match (reply, history.last_call()) {
-            (Reply::Held, Some(Call::Claim(ticket))) => self.claim(m, ticket.g),
-            (Reply::Woke(count), Some(Call::Tick(moment))) => {
-                self.more_ready(count);
-                self.ticked(moment);
-            }
-            (Reply::Waits, Some(call)) => {
-                self.look(m);
-                self.sleeps(m, deadline_in(&call));
-            }
-            (Reply::Number(_), Some(Call::Procs(active))) => self.processors.set_active(active),
-            _ => {}
         }
     }
 

@@ -6,7 +6,6 @@ use crate::call::{Relay, Reply, Taken};
 use gmp_base::{Fault, Readiness, Woke};
 
 /// The sender that a receive served.
-#[inline(always)]
 fn sender_in(from: Option<Relay>) -> Option<Readiness>
     ensures { result ≡ sender_in from }
 {
@@ -15,7 +14,6 @@ fn sender_in(from: Option<Relay>) -> Option<Readiness>
 
 impl Taken {
     /// The ticket that a communication of a select gave out.
-    #[inline(always)]
     fn ticket(self) -> Option<Readiness>
         ensures { result ≡ ticket_of self }
     {
@@ -40,7 +38,6 @@ impl Taken {
 
 impl Reply {
     /// The ticket that the call gave out.
-    #[inline(always)]
     pub fn ticket(self) -> Option<Readiness>
         ensures { result ≡ ticket_in self }
     {

@@ -6,7 +6,6 @@ ghost use Rattle.gmp_driver.specs.Table.{next_act};
 ghost use Rattle.gmp_ledger.specs.Grants.{NeedsMemory};
 ghost use Rattle.gmp_turn.specs.Turns.{HasMemory, Turns, woken_in};
 
-use crate::hot::{poke, recv, send, take, yields};
 use crate::in_place::{alone_turn, claim_turn, own_turn, put_turn};
 use crate::passing::{is_to_claim, load_back, opened, told_to_driver};
 use gmp_base::{MNo, Refusal};
@@ -40,19 +39,19 @@ pub fn turn<T, Q>(
     match call {
         Call::Claim(r) => claim_turn(driver, book, r),
         Call::Put(r) => put_turn(driver, book, r),
-        Call::Take => take(driver, book, word),
-        Call::Poke => poke(driver, book, word),
-        Call::Yield => yields(driver, book, word),
-        Call::Send(c, v) => send(driver, book, c, v, word),
-        Call::Recv(c) => recv(driver, book, c, word),
-        Call::Spin
+        Call::Take
+        | Call::Poke
+        | Call::Spin
         | Call::Unspin
         | Call::Woken
         | Call::Keep
         | Call::Bare
         | Call::Park
         | Call::Tick(_) => alone_turn(driver, book, call, word),
-        Call::Exit
+        Call::Yield
+        | Call::Exit
+        | Call::Send(_, _)
+        | Call::Recv(_)
         | Call::Select(_, _, _)
         | Call::Go(_)
         | Call::Close(_)

@@ -81,7 +81,7 @@ pub(crate) fn alone_turn<T, Q>(
 }
 
 /// A put: the ticket to store goes onto the shelf, or where there is none the one to claim.
-#[inline(never)]
+#[inline(always)]
 pub(crate) fn put_turn<T, Q>(
     driver: &mut Driver<T, Q>,
     book: &mut Book<T, Q>,
@@ -111,7 +111,7 @@ pub(crate) fn put_turn<T, Q>(
 }
 
 /// A claim: the body goes from its place in the book into the register.
-#[inline(never)]
+#[inline(always)]
 pub(crate) fn claim_turn<T, Q>(
     driver: &mut Driver<T, Q>,
     book: &mut Book<T, Q>,

@@ -2,7 +2,6 @@
 #![tactic(auto)]
 
 mod calling;
-mod hot;
 mod in_place;
 pub mod laws;
 mod passing;
