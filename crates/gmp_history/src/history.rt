@@ -1,5 +1,5 @@
 //! The history.
-ghost use Rattle.std.specs.Prelude.{◌≡◌, ◌<◌, ◌≤◌, ◌-◌, ◌^◌, ◌↔◌, IsTrue, [], ◌∷◌, ◌++◌, length, slice_get, IfOk, OnOk};
+ghost use Rattle.std.specs.Prelude.{◌≡◌, ◌<◌, ◌≤◌, ◌-◌, ◌^◌, ◌↔◌, IsTrue, [], ◌∷◌, ◌++◌, length, slice_get, IfOk, IsOk, OnOk};
 ghost use Rattle.gmp_seq.specs.Fits.{Fits};
 
 use crate::brief::{Choosing, Row};
@@ -81,6 +81,8 @@ impl History {
     pub fn make_room(&mut self) -> Result<(), AllocError>
         ensures list { self.new.list ≡ self.old.list }
         ensures ok { OnOk result (length self.new.list < self.new.room) }
+        // Where there is room already it is not refused.
+        ensures had { length self.old.list < self.old.room → IsOk result }
         ensures room { self.old.room ≤ self.new.room }
     {
         let len = self.rows.len();
