@@ -12,7 +12,7 @@ use std::marker::Model;
 
 /// A list of entries. A contract sees the list, and for how many there is room.
 ///
-/// Only `with_room` and `make_room` take memory. What is not written is not touched.
+/// Only `with_room`, `make_room` and `of` take memory. What is not written is not touched.
 #[derive(Debug, Drop)]
 pub struct History {
     rows: Vec<Row>,
