@@ -1,5 +1,6 @@
 -- The machine after what came of its act, from its parts.
 use Rattle.std.proofs.Common.{◌≡◌, false, true, Option, None, Some, refl, subst}
+use Rattle.gmp_base.specs.declared.ask.Ask.{Ask}
 use Rattle.gmp_base.specs.declared.pass.Pass.{Pass}
 use Rattle.gmp_driver.specs.declared.act.QueueTold.{QueueTold}
 use Rattle.gmp_driver.specs.declared.act.QueueTold.TheVariants as queue
@@ -9,6 +10,7 @@ use Rattle.gmp_driver.specs.declared.place.Place.{Place}
 use Rattle.gmp_driver.specs.declared.place.Place.TheVariants as place
 use Rattle.gmp_driver.specs.declared.registers.Registers.{Registers}
 use Rattle.gmp_driver.specs.declared.seen.Seen.{Seen}
+use Rattle.gmp_driver.specs.Fits.{SuitsPlace}
 use Rattle.gmp_driver.specs.Local.{told_of}
 use Rattle.gmp_driver.specs.Machine.{Machine}
 use Rattle.gmp_driver.specs.Registers.{joined}
@@ -60,3 +62,19 @@ holding_is to now x what hand sees here is held so place_is =
     let turns : next_turns (seen (record x { hand = hand })) x.place (told_of what) ≡ x.turns = same_turns (seen (record x { hand = hand })) x.place (told_of what) (no_reply what) in
     subst (λ (z : Machine _ _). record x { place = here; hand = hand } ≡ after (record z { hand = to z.hand }) (told_of what)) is
     (rw (place_is, so, ← held, fresh, turns) refl)
+
+-- The body asked: at Run its call comes, and what is held suits that as well.
+
+pub asked_is : {T Q : Type 0} (now x : Machine T Q) (asked : Ask) (here : Place) → x ≡ now → here ≡ next_place (seen x) x.place (told.Asked asked)
+    → record x { place = here } ≡ after now (told.Asked asked)
+asked_is now x asked here is place_is =
+    let fresh : next_fresh (seen x) x.place (told.Asked asked) ≡ x.fresh = same_fresh (seen x) x.place (told.Asked asked) tt in
+    let turns : next_turns (seen x) x.place (told.Asked asked) ≡ x.turns = same_turns (seen x) x.place (told.Asked asked) tt in
+    subst (λ (z : Machine _ _). record x { place = here } ≡ after z (told.Asked asked)) is
+    (rw (place_is, fresh, turns) refl)
+
+pub asked_fits : {T Q : Type 0} (x : Seen) (here : Place) (asked : Ask) (hand : Registers T Q) → SuitsPlace here hand → SuitsPlace (next_place x here (told.Asked asked)) hand
+asked_fits x place.Run asked hand h = h
+asked_fits x (place.Hunt None) asked hand h = h
+asked_fits x (place.Hunt (Some r)) asked hand h = h
+asked_fits x here asked hand h = h

@@ -1,6 +1,6 @@
 //! What a machine does next, and what came of it.
 
-use gmp_base::{Ask, PNo, Refusal};
+use gmp_base::{Ask, CNo, GNo, PNo, Refusal};
 use gmp_seq::{Call, Reply};
 
 /// Which of the values that a machine holds.
@@ -38,6 +38,23 @@ pub enum Act {
     Surrender(Option<Value>),
     /// There is nothing left to do.
     Nothing,
+}
+
+/// An act of those that come most often, in 16 bytes. A machine that makes one looks at no wide value.
+#[derive(Clone, Copy, Debug, PartialEq, Eq)]
+pub enum Frequent {
+    Take,
+    /// Claims the ticket of this goroutine and epoch.
+    Claim(GNo, u64),
+    Yield,
+    Poke,
+    Send(Option<CNo>, u64),
+    Recv(Option<CNo>),
+    Pop,
+    Push,
+    Resume,
+    /// Any other act.
+    Other,
 }
 
 /// What came of one try to steal.

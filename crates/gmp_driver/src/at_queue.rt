@@ -21,7 +21,7 @@ fn hunt_on(here: &mut Place, seen: Seen, round: Round, tried: Tried)
 }
 
 #[inline(never)]
-fn steal_on(here: &mut Place, v: PNo, goal: u8)
+pub(crate) fn steal_on(here: &mut Place, v: PNo, goal: u8)
     ensures { here.new ≡ hunt.more v goal }
 {
     *here = more(v, goal);

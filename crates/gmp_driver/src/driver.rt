@@ -1,18 +1,20 @@
 //! A machine's program, and what the machine holds.
-ghost use Rattle.std.specs.Prelude.{◌≡◌, ◌≤◌, None, Some, IsNone, IsSome, false, is_some};
+ghost use Rattle.std.specs.Prelude.{◌≡◌, ◌≤◌, None, Some, IfSome, IsNone, IsSome, false, is_some};
 ghost use Rattle.std.specs.Borrow.{sem};
 ghost use Rattle.std.specs.Option.{option_copied_mut, option_map};
 
 mod own_queue;
 
-use crate::act::{Act, Told};
+use crate::act::{Act, Frequent, Told};
 use crate::hunt::victim_of;
 use crate::load::Load;
 use crate::place::Place;
 use crate::registers::{HeldParts, Registers, fill, fill_if};
 use crate::seen::Seen;
-use crate::table::{act_at, fresh_by, go_on, go_on_by, next_fresh, next_turns, turns_by};
-use gmp_base::{Held, PNo, Pass, Readiness, Refusal, Woke};
+use crate::table::{
+    act_at, ask_on, frequent_at, fresh_by, go_on, go_on_by, next_fresh, next_turns, turns_by,
+};
+use gmp_base::{Ask, Held, PNo, Pass, Readiness, Refusal, Woke};
 use gmp_seq::Reply;
 use std::marker::Model;
 
@@ -44,6 +46,7 @@ impl<T, Q> Driver<T, Q> {
     ghost use Rattle.gmp_driver.specs.declared.act.Told.TheVariants as Told;
     ghost use Rattle.gmp_driver.specs.Bodies.{body_at, lends_body};
     ghost use Rattle.gmp_driver.specs.Fits.{SuitsPlace, IsDriver};
+    ghost use Rattle.gmp_driver.specs.Frequent.{act_of, frequent_of};
     ghost use Rattle.gmp_driver.specs.Hunt.{begun, victim_of};
     ghost use Rattle.gmp_driver.specs.Loads.{IsOfRun, held_of, load_of, parts_of, with_claimed, with_held, with_to_claim};
     ghost use Rattle.gmp_driver.specs.Machine.{held_at, is_done};
@@ -77,6 +80,16 @@ impl<T, Q> Driver<T, Q> {
         ensures keeps { IsDriver self.now }
     {
         act_at(&self.place, self.seen())
+    }
+
+    /// What the machine does next, in few bytes where it is one of the acts that come most often.
+    #[inline(always)]
+    pub fn frequent(&self) -> Frequent
+        ensures value { result ≡ frequent_of (next_act self.now) }
+        ensures act { IfSome (act_of result) (λ act. next_act self.now ≡ act) }
+        ensures keeps { IsDriver self.now }
+    {
+        frequent_at(&self.place, self.fresh, self.turns, self.hand.to_claim)
     }
 
     /// The first victim of a hunt that begins by this word.
@@ -136,6 +149,14 @@ impl<T, Q> Driver<T, Q> {
         self.fresh = next_fresh(&self.place, seen, &told);
         self.turns = next_turns(&self.place, seen, &told);
         go_on(&mut self.place, seen, told);
+    }
+
+    /// Is told what the body asks, and goes on to the call that stands for it. At another place than Run nothing changes.
+    #[inline(always)]
+    pub fn tell_asked(&mut self, ask: Ask)
+        ensures { self.new ≡ after self.old (Told.Asked ask) }
+    {
+        ask_on(&mut self.place, ask);
     }
 
     /// Hands out the pass alone: what the machine holds stays in its registers.
@@ -223,7 +244,8 @@ impl<T, Q> Driver<T, Q> {
     }
 
     /// Takes the pass back, is told why the call was refused, and goes on to the next place, where it must hold what that place says.
-    #[inline(always)]
+    // Not inlined: a machine whose call is made pays for no refusal.
+    #[inline(never)]
     pub fn got_refusal(&mut self, pass: Pass, why: Refusal)
         requires out { IsNone self.old.pass }
         requires run { pass.run ≡ self.old.run }

@@ -15,7 +15,7 @@ mod registers;
 mod seen;
 mod table;
 
-pub use act::{Act, QueueTold, Told, Tried, Value};
+pub use act::{Act, Frequent, QueueTold, Told, Tried, Value};
 pub use driver::Driver;
 pub use hunt::steal_goal;
 pub use load::Load;

@@ -3,11 +3,13 @@ ghost use Rattle.std.specs.Prelude.{◌≡◌, ◌≤◌};
 ghost use Rattle.gmp_base.specs.declared.ask.Ask.{Ask};
 ghost use Rattle.gmp_driver.specs.declared.act.Told.TheVariants as Told;
 ghost use Rattle.gmp_driver.specs.declared.place.Place.TheVariants as Place;
+ghost use Rattle.gmp_driver.specs.declared.seen.Seen.{Seen};
+ghost use Rattle.gmp_driver.specs.Frequent.{frequent_of};
 ghost use Rattle.gmp_driver.specs.Table as table;
 
-use crate::act::{Act, QueueTold, Told};
-use crate::at_queue::go_on_at_queue;
-use crate::hunt::{more, victim_of};
+use crate::act::{Act, Frequent, QueueTold, Told};
+use crate::at_queue::{go_on_at_queue, steal_on};
+use crate::hunt::victim_of;
 use crate::place::Place;
 use crate::seen::Seen;
 use gmp_base::{Ask, PNo, Readiness, Refusal};
@@ -108,6 +110,52 @@ pub(crate) fn act_at(here: &Place, seen: Seen) -> Act
     }
 }
 
+/// The act at each place, in few bytes where it is one of those that come most often.
+#[inline(always)]
+pub(crate) fn frequent_at(
+    here: &Place,
+    fresh: bool,
+    turns: u8,
+    to_claim: Option<Readiness>,
+) -> Frequent
+    ensures { (x : Seen) → x.fresh ≡ fresh → x.turns ≡ turns → x.to_claim ≡ to_claim → result ≡ frequent_of (table.act_at x here.now) }
+{
+    match here {
+        Place::Look if turns >= 16 => Frequent::Other,
+        Place::Look => Frequent::Pop,
+        Place::Global => Frequent::Take,
+        Place::Claim if fresh => Frequent::Poke,
+        Place::Claim => match to_claim {
+            Some(r) => Frequent::Claim(r.g, r.epoch),
+            None => Frequent::Other,
+        },
+        Place::Run => Frequent::Resume,
+        Place::Do(Ask::Yield) => Frequent::Yield,
+        Place::Do(Ask::Send(c, v)) => Frequent::Send(*c, *v),
+        Place::Do(Ask::Recv(c)) => Frequent::Recv(*c),
+        Place::Store | Place::StoreMore(_, _) => Frequent::Push,
+        Place::Poke => Frequent::Poke,
+        _ => Frequent::Other,
+    }
+}
+
+/// Goes where an ask of the body leads.
+// A narrow ask is written in place: a wide one alone is copied.
+#[inline(always)]
+pub(crate) fn ask_on(here: &mut Place, ask: Ask)
+    ensures { (x : Seen) → here.new ≡ table.next_place x here.old (Told.Asked ask) }
+{
+    if !matches!(here, Place::Run) {
+        return;
+    }
+    match ask {
+        Ask::Yield => *here = Place::Do(Ask::Yield),
+        Ask::Send(c, v) => *here = Place::Do(Ask::Send(c, v)),
+        Ask::Recv(c) => *here = Place::Do(Ask::Recv(c)),
+        ask => *here = Place::Do(ask),
+    }
+}
+
 /// Whether more processors are active than before.
 fn raised(before: u64, ask: &Ask) -> bool
     ensures { result ≡ table.raised before ask.now }
@@ -165,8 +213,8 @@ pub(crate) fn go_on_by(here: &mut Place, seen: Seen, reply: &Reply)
         (Place::Spin, Reply::Answer(true)) => *here = Place::Hunt(None),
         (Place::Spin, Reply::Answer(false)) => *here = Place::Drop,
         (Place::PutMore(v, goal), Reply::Shelf) => {
-            let there = more(*v, *goal);
-            *here = there;
+            let (v, goal) = (*v, *goal);
+            steal_on(here, v, goal);
         }
         (Place::Unspin, Reply::Done) if seen.to_claim.is_some() => *here = Place::Claim,
         (Place::Unspin, Reply::Done) => *here = Place::Drop,

@@ -165,14 +165,15 @@ impl Goroutines {
     }
 
     /// Gives out the ticket of the goroutine that is on the shelf for longest.
-    pub fn take(&mut self) -> Reply
-        ensures takes { Takes result self.old.table self.new.table }
-        ensures shelf { Shelves Call.Take result self.old.table self.new.table self.old.shelf self.new.shelf }
+    #[inline(always)]
+    pub fn take(&mut self, out: &mut Reply)
+        ensures takes { Takes out.new self.old.table self.new.table }
+        ensures shelf { Shelves Call.Take out.new self.old.table self.new.table self.old.shelf self.new.shelf }
         ensures rest { self.new ≡ record self.old { table = self.new.table; shelf = self.new.shelf } }
     {
         match self.table.unshelve() {
-            Some(r) => Reply::Ticket(r),
-            None => Reply::Nothing,
+            Some(r) => *out = Reply::Ticket(r),
+            None => *out = Reply::Nothing,
         }
     }
 

@@ -1,7 +1,7 @@
 -- What a history's rows stand for stays, whatever is added beside them.
-use Rattle.std.proofs.Common.{◌≡◌, ℕ, zero, suc, ◌+◌, ◌^◌, ◌<◌, ◌≤◌, List, [], ◌∷◌, ◌++◌, length, get_or, slice_get, Option, None, Some, refl, ap, ◌∙◌, arith, length-append}
+use Rattle.std.proofs.Common.{◌≡◌, ℕ, zero, suc, ◌+◌, ◌-◌, ◌^◌, ◌<◌, ◌≤◌, List, [], ◌∷◌, ◌++◌, length, get_or, slice_get, Option, None, Some, refl, ap, ◌∙◌, arith, length-append}
 use Rattle.std.specs.Prelude.{All}
-use Rattle.std.proofs.lemmas.List.{map-append}
+use Rattle.std.proofs.lemmas.List.{length-map, map-append}
 use Rattle.std.proofs.lemmas.List.Elements.{All-append}
 use Rattle.std.proofs.lemmas.Option.{slice_get-map}
 use Rattle.gmp_seq.specs.declared.call.Call.{Call}
@@ -111,3 +111,7 @@ got s r rows i row call reply at ecall ereply = rw (slice_get-map (entry_of s r)
 
 pub got_none : (s : List Choosing) (r : List Relay) (rows : List Row) (i : ℕ) → slice_get rows i ≡ None → None ≡ slice_get (entries_of s r rows) i
 got_none s r rows i at = rw (slice_get-map (entry_of s r) rows i, at) refl
+
+pub got_last : (s : List Choosing) (r : List Relay) (rows : List Row) (row : Row) → slice_get rows (length rows - 1) ≡ Some row
+    → slice_get (entries_of s r rows) (length (entries_of s r rows) - 1) ≡ Some (entry_of s r row)
+got_last s r rows row at = rw (length-map rows (entry_of s r), slice_get-map (entry_of s r) rows (length rows - 1), at) refl

@@ -12,7 +12,7 @@ pub(crate) struct Choosing {
 
 /// A call. Each variant has 16 bytes at most: a readiness is a number and an epoch, side by side.
 #[derive(Clone, Copy, Debug, PartialEq, Eq)]
-pub(crate) enum BriefCall {
+pub enum BriefCall {
     Acquire,
     Take,
     Put(GNo, u64),
@@ -47,7 +47,7 @@ pub(crate) enum BriefCall {
 
 /// A reply. A sender that a receive served has a number of its own.
 #[derive(Clone, Copy, Debug, PartialEq, Eq)]
-pub(crate) enum BriefReply {
+pub enum BriefReply {
     Proc(PNo),
     Nothing,
     Ticket(GNo, u64),

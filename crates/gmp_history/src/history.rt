@@ -1,8 +1,10 @@
 //! The history.
-ghost use Rattle.std.specs.Prelude.{◌≡◌, ◌<◌, ◌≤◌, ◌-◌, ◌^◌, ◌↔◌, IsTrue, [], ◌∷◌, ◌++◌, length, slice_get, IfOk, IsOk, OnOk};
+ghost use Rattle.std.specs.Prelude.{◌≡◌, ◌<◌, ◌≤◌, ◌-◌, ◌^◌, ◌↔◌, IsTrue, [], ◌∷◌, ◌++◌, length, slice_get, true, false, Some, IfNone, IfOk, IfSome, IsOk, OnOk};
+ghost use Rattle.gmp_seq.specs.declared.call.Entry.{Entry};
 ghost use Rattle.gmp_seq.specs.Fits.{Fits};
+ghost use Rattle.gmp_history.specs.Brief.{IsBriefOf, is_select};
 
-use crate::brief::{Choosing, Row};
+use crate::brief::{BriefCall, BriefReply, Choosing, Row};
 use crate::entries::Entries;
 use crate::parts::{brief_call, brief_reply, whole_call, whole_reply};
 use gmp_base::MNo;
@@ -118,7 +120,18 @@ impl History {
         ensures list { self.new ≡ record self.old { list = self.old.list ++ record { m = m; k = k; call = call.now; reply = reply.now } ∷ [] } }
         ensures fits { Fits (record { m = m; k = k; call = call.now; reply = reply.now }) }
     {
-        let call = brief_call(&mut self.choosings, call);
+        self.add(m, k, call, reply, false);
+    }
+
+    /// The same. Of a call that is known to be plain, which is no select, no wide arm is compiled in.
+    #[inline(always)]
+    pub fn add(&mut self, m: MNo, k: u64, call: &Call, reply: &Reply, is_plain: bool)
+        requires room { length self.old.list < self.old.room }
+        requires plain { is_plain ≡ true → is_select call.now ≡ false }
+        ensures list { self.new ≡ record self.old { list = self.old.list ++ record { m = m; k = k; call = call.now; reply = reply.now } ∷ [] } }
+        ensures fits { Fits (record { m = m; k = k; call = call.now; reply = reply.now }) }
+    {
+        let call = brief_call(&mut self.choosings, call, is_plain);
         let reply = brief_reply(&mut self.relays, reply);
         self.rows.push_reserved(Row { m, k, call, reply });
     }
@@ -132,6 +145,18 @@ impl History {
             rows: &self.rows,
             choosings: &self.choosings,
             relays: &self.relays,
+        }
+    }
+
+    /// The machine of the last entry, its call and its reply in brief, if there is one.
+    #[inline(always)]
+    pub fn last_brief(&self) -> Option<(MNo, BriefCall, BriefReply)>
+        ensures some { IfSome result (λ b. (e : Entry) × (slice_get self.now.list (length self.now.list - 1) ≡ Some e) × IsBriefOf b e) }
+        ensures none { IfNone result (self.now.list ≡ []) }
+    {
+        match self.rows.last() {
+            Some(row) => Some((row.m, row.call, row.reply)),
+            None => None,
         }
     }
 

@@ -1,8 +1,8 @@
 //! A call and a reply made brief, and whole again.
-ghost use Rattle.std.specs.Prelude.{◌≡◌, All, IfSome, ◌<◌, ◌≤◌, ◌^◌, ◌∷◌, ◌++◌, [], length, vec_capacity};
+ghost use Rattle.std.specs.Prelude.{◌≡◌, true, false, All, IfSome, ◌<◌, ◌≤◌, ◌^◌, ◌∷◌, ◌++◌, [], length, vec_capacity};
 ghost use Rattle.gmp_base.specs.Fits.{IsChannelNumber, IsWord, FitsCase};
 ghost use Rattle.gmp_seq.specs.Fits.{FitsCall, FitsReadiness, FitsRelay, FitsReply, IsGoroutineNumber, IsMachineNumber, IsProcessorNumber};
-ghost use Rattle.gmp_history.specs.Brief.{IsCallIn, IsReplyIn, call_of, choosing_in, relay_in, reply_of};
+ghost use Rattle.gmp_history.specs.Brief.{IsCallIn, IsReplyIn, call_of, choosing_in, is_select, relay_in, reply_of};
 
 use crate::brief::{BriefCall, BriefReply, Choosing};
 use gmp_base::{CNo, Cases, GNo, MNo, PNo, Readiness};
@@ -111,9 +111,15 @@ fn chosen(
     number
 }
 
-/// The call made brief. What a select asks goes last among the choosings.
+/// The call made brief. What a select asks goes last among the choosings. Of a call that is known to be plain, which is no select, no wide
+/// arm is compiled in.
 #[inline(always)]
-pub(crate) fn brief_call(choosings: &mut Vec<Choosing>, call: &Call) -> BriefCall
+pub(crate) fn brief_call(
+    choosings: &mut Vec<Choosing>,
+    call: &Call,
+    is_plain: bool,
+) -> BriefCall
+    requires plain { is_plain ≡ true → is_select call.now ≡ false }
     requires room { length choosings.old.items < vec_capacity choosings.old }
     requires few { length choosings.old.items < 2 ^ 32 }
     ensures value { call_of choosings.new.items result ≡ call.now }
@@ -142,6 +148,7 @@ pub(crate) fn brief_call(choosings: &mut Vec<Choosing>, call: &Call) -> BriefCal
         Call::Close(c) => BriefCall::Close(channel_or_nil(*c)),
         Call::Len(c) => BriefCall::Len(channel_or_nil(*c)),
         Call::Cap(c) => BriefCall::Cap(channel_or_nil(*c)),
+        Call::Select(_, _, _) if is_plain => unreachable!(),
         Call::Select(cases, has_default, until) => BriefCall::Select(chosen(
             choosings,
             cases,

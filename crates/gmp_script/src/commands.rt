@@ -1,4 +1,5 @@
 //! What a body of a script says.
+ghost use Rattle.std.specs.Prelude.{◌≡◌};
 
 use gmp_base::{Ask, Body, CNo, Cases, GNo, Woke};
 use std::alloc::{AllocError, Global};
@@ -44,6 +45,7 @@ impl Command {
     ghost use Rattle.gmp_script.specs.Script.{ask_of};
 
     /// What the command asks. No body asks by its `Again`.
+    #[inline(always)]
     fn ask(&self) -> Ask
         ensures { result ≡ ask_of (Some self.now) }
     {
@@ -57,9 +59,7 @@ impl Command {
             Command::Len(c) => Ask::Len(*c),
             Command::Cap(c) => Ask::Cap(*c),
             Command::Procs(n) => Ask::Procs(*n),
-            Command::Select(cases, has_default, until) => {
-                Ask::Select(cases.copied(), *has_default, *until)
-            }
+            Command::Select(cases, has_default, until) => select_ask(cases, *has_default, *until),
             Command::Sleep(until) => Ask::Sleep(*until),
             Command::Park => Ask::Park,
             Command::Ready(g) => Ask::Ready(*g),
@@ -67,6 +67,14 @@ impl Command {
             Command::Exit | Command::Again => Ask::Exit,
         }
     }
+}
+
+/// The ask of a select. It has a function of its own, since it is wide: whoever asks something else makes none.
+#[inline(never)]
+fn select_ask(cases: &Cases, has_default: bool, until: Option<u64>) -> Ask
+    ensures { result ≡ Ask.Select cases.now has_default until }
+{
+    Ask::Select(cases.copied(), has_default, until)
 }
 
 impl Model for ScriptBody {

@@ -6,6 +6,7 @@ use crate::call::{Relay, Reply, Taken};
 use gmp_base::{Fault, Readiness, Woke};
 
 /// The sender that a receive served.
+#[inline(always)]
 fn sender_in(from: Option<Relay>) -> Option<Readiness>
     ensures { result ≡ sender_in from }
 {
@@ -14,6 +15,7 @@ fn sender_in(from: Option<Relay>) -> Option<Readiness>
 
 impl Taken {
     /// The ticket that a communication of a select gave out.
+    #[inline(always)]
     fn ticket(self) -> Option<Readiness>
         ensures { result ≡ ticket_of self }
     {
@@ -25,6 +27,7 @@ impl Taken {
     }
 
     /// What the goroutine is told whose select took this case.
+    #[inline(always)]
     fn woke(self, case: u8) -> Woke
         ensures { result ≡ woke_after (Reply.Chose case self) }
     {
@@ -38,6 +41,7 @@ impl Taken {
 
 impl Reply {
     /// The ticket that the call gave out.
+    #[inline(always)]
     pub fn ticket(self) -> Option<Readiness>
         ensures { result ≡ ticket_in self }
     {
@@ -51,6 +55,7 @@ impl Reply {
     }
 
     /// What the goroutine that asked is told, where it goes on.
+    #[inline(always)]
     pub fn woke(self) -> Woke
         ensures { result ≡ woke_after self }
     {
@@ -66,6 +71,7 @@ impl Reply {
     }
 
     /// How many a close woke.
+    #[inline(always)]
     pub fn closed(self) -> u64
         ensures { result ≡ closed_in self }
     {

@@ -1,6 +1,6 @@
 //! What a running goroutine does with channels. A send, a receive or a case of a select proceeds and serves who waits for it, or the
 //! goroutine waits itself: a plain one by gmp_chan, a select by gmp_select.
-ghost use Rattle.std.specs.Prelude.{◌≡◌, ◌<◌, ◌≤◌, ◌^◌, Some, None, IfNone, IfOk, IfSome, OnErr, OnOk, is_some, true, false, length, slice_get};
+ghost use Rattle.std.specs.Prelude.{◌≡◌, ◌<◌, ◌≤◌, ◌^◌, ◌∷◌, [], Some, None, IfNone, IfOk, IfSome, OnErr, OnOk, is_some, true, false, length, slice_get};
 ghost use Rattle.gmp_base.specs.declared.cases.Case.{Case};
 ghost use Rattle.gmp_base.specs.declared.number.GNo.{GNo};
 ghost use Rattle.gmp_base.specs.declared.number.MNo.{MNo};
@@ -58,6 +58,7 @@ fn serve(table: &mut StatusTable, case: Case, how: Transfer) -> Taken
 }
 
 /// What a plain send or receive is answered that came to this.
+#[inline(always)]
 fn plain_reply(taken: Taken) -> Reply
     ensures { result ≡ plain_reply taken }
 {
@@ -66,6 +67,37 @@ fn plain_reply(taken: Taken) -> Reply
         Taken::Got(v, sent, from) => Reply::Got(v, sent, from),
         Taken::Failed => Reply::Fault(Fault::SendOnClosed),
     }
+}
+
+/// The same of a plain send or receive, whose reply is written in place.
+#[inline(always)]
+fn serve_plain(table: &mut StatusTable, case: Case, how: &Transfer, out: &mut Reply)
+    requires way { IsWayOf case how.now }
+    requires off { (w : Waiter) → served how.now ≡ Some w → IsOffShelf table.old.table w.g }
+    requires young { (h : GNo) → epoch_at table.old.table h < 2 ^ 63 }
+    ensures told { out.new ≡ plain_reply (told_of table.old.table how.now) }
+    ensures table { table.new.table ≡ served_by table.old.table case how.now }
+    ensures shelf { table.new.shelf ≡ table.old.shelf }
+{
+    match how {
+        Transfer::Stored => *out = Reply::Sent(None),
+        Transfer::First(v) => *out = Reply::Got(*v, true, None),
+        Transfer::Drained => *out = Reply::Got(0, false, None),
+        how => serve_other(table, case, *how, out),
+    }
+}
+
+/// The same where somebody is served. Apart: whoever serves nobody pays for no wide value.
+#[inline(never)]
+fn serve_other(table: &mut StatusTable, case: Case, how: Transfer, out: &mut Reply)
+    requires way { IsWayOf case how }
+    requires off { (w : Waiter) → served how ≡ Some w → IsOffShelf table.old.table w.g }
+    requires young { (h : GNo) → epoch_at table.old.table h < 2 ^ 63 }
+    ensures told { out.new ≡ plain_reply (told_of table.old.table how) }
+    ensures table { table.new.table ≡ served_by table.old.table case how }
+    ensures shelf { table.new.shelf ≡ table.old.shelf }
+{
+    *out = plain_reply(serve(table, case, how));
 }
 
 impl Goroutines {
@@ -132,37 +164,54 @@ impl Goroutines {
         }
     }
 
-    /// A plain send or receive proceeds, if it can. Who is served is made ready.
-    fn proceed(&mut self, case: Case) -> Option<Taken>
+    /// A plain send or receive proceeds, if it can, and is answered. Who is served is made ready.
+    #[inline(always)]
+    fn proceed(&mut self, case: Case, out: &mut Reply) -> bool
         requires made { names_no_missing self.old.channels (channel_of case) ≡ true }
         requires young { (h : GNo) → epoch_at self.old.table h < 2 ^ 63 }
-        ensures exact { is_some result ≡ can self.old.channels (waiters self.old.table) case }
-        ensures communicates { IfSome result (λ told. Communicates case told (state_of self.old) (state_of self.new)) }
-        ensures none { IfNone result (self.new ≡ self.old) }
+        ensures exact { result ≡ can self.old.channels (waiters self.old.table) case }
+        ensures deals { result ≡ true → (g : GNo) → Deals g case out.new (state_of self.old) (state_of self.new) }
+        ensures none { result ≡ false → self.new ≡ self.old }
         ensures rest { self.new ≡ record self.old { table = self.new.table; channels = self.new.channels } }
     {
-        let how = self.channels.proceed(case)?;
-        Some(serve(&mut self.table, case, how))
+        match self.channels.proceed(case) {
+            Some(how) => {
+                serve_plain(&mut self.table, case, &how, out);
+                true
+            }
+            None => false,
+        }
     }
 
-    /// g, which runs, sends or receives, or waits until it can.
-    pub fn deal(&mut self, g: GNo, case: Case) -> Reply
+    /// g, which runs, sends or receives, or waits until it can. The reply is written in place.
+    pub fn deal(&mut self, g: GNo, case: Case, out: &mut Reply)
         requires runs { (m : MNo) × IsRunning self.old.table g m }
         requires young { (h : GNo) → epoch_at self.old.table h < 2 ^ 63 }
         requires few { self.old.table.arrivals < 2 ^ 63 }
-        ensures deals { Deals g case result (state_of self.old) (state_of self.new) }
+        ensures deals { Deals g case out.new (state_of self.old) (state_of self.new) }
         ensures rest { self.new ≡ record self.old { table = self.new.table; channels = self.new.channels } }
     {
         if !self.channels.has(channel_of(case)) {
-            return Reply::Fault(Fault::NoSuchChannel);
+            *out = Reply::Fault(Fault::NoSuchChannel);
+            return;
         }
-        match self.proceed(case) {
-            Some(taken) => plain_reply(taken),
-            None => {
-                self.wait(g, Kind::Plain, Offers::of(&[case]), None);
-                Reply::Waits
-            }
+        if !self.proceed(case, out) {
+            self.begin(g, case);
+            *out = Reply::Waits;
         }
+    }
+
+    /// g, which runs, begins to wait until it can send or receive.
+    // Apart: whoever goes on pays for no offers.
+    #[inline(never)]
+    fn begin(&mut self, g: GNo, case: Case)
+        requires runs { (m : MNo) × IsRunning self.old.table g m }
+        requires few { self.old.table.arrivals < 2 ^ 63 }
+        requires made { names_no_missing self.old.channels (channel_of case) ≡ true }
+        ensures table { self.new.table ≡ made_wait self.old.table g Kind.Plain (offers_of (case ∷ [])) None }
+        ensures rest { self.new ≡ record self.old { table = self.new.table } }
+    {
+        self.wait(g, Kind::Plain, Offers::of(&[case]), None);
     }
 
     /// Which case is taken: of the r that can proceed, in order, number `word mod r`.
