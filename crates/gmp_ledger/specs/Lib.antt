@@ -8,3 +8,4 @@ pub mod LedgerView
 pub mod Known
 pub mod Done
 pub mod Laws
+pub mod Frequent

@@ -32,6 +32,7 @@ impl Counts {
     }
 
     /// How many m made.
+    #[inline(always)]
     pub(crate) fn of(&self, m: MNo) -> u64
         ensures { result ≡ slice_index self.now m.0 }
     {
@@ -39,6 +40,7 @@ impl Counts {
     }
 
     /// How many there are.
+    #[inline(always)]
     pub(crate) fn all(&self) -> u64
         ensures { result ≡ sum self.now }
     {
@@ -46,6 +48,7 @@ impl Counts {
     }
 
     /// m made one more.
+    #[inline(always)]
     pub(crate) fn add_one(&mut self, m: MNo)
         requires there { m.0 < length self.old }
         requires few { sum self.old < 2 ^ 63 }

@@ -31,6 +31,7 @@ pub struct Handed {
 
 impl Handed {
     /// Whether a value names another run.
+    #[inline(always)]
     pub(crate) fn names_other(&self, run: u64) -> bool
         ensures { result ≡ names_other run self.now }
     {
@@ -41,6 +42,7 @@ impl Handed {
     }
 
     /// The goroutine that a value is of.
+    #[inline(always)]
     pub(crate) fn goroutine(&self) -> GNo
         ensures { result ≡ goroutine_in self.now }
     {
@@ -52,6 +54,7 @@ impl Handed {
     }
 
     /// The processor that a value is of.
+    #[inline(always)]
     pub(crate) fn processor(&self) -> PNo
         ensures { result ≡ processor_in self.now }
     {

@@ -1,5 +1,5 @@
 //! The run so far, and the call that goes on with it.
-ghost use Rattle.std.specs.Prelude.{◌≡◌, ◌<◌, All, List, None, false, slice_get, IfNone, IfOk, OnErr, OnOk};
+ghost use Rattle.std.specs.Prelude.{◌≡◌, ◌<◌, All, List, None, true, false, slice_get, IfNone, IfOk, OnErr, OnOk};
 ghost use Rattle.gmp_seq.specs.declared.call.Entry.{Entry};
 ghost use Rattle.gmp_seq.specs.Fits.{AreLimits, Fits};
 ghost use Rattle.gmp_seq.specs.Machines.{is_parked_mode};
@@ -9,6 +9,7 @@ ghost use Rattle.gmp_seq.specs.Table.{is_outstanding, is_shelved};
 ghost use Rattle.gmp_table.specs.Kept.{IsListing};
 ghost use Rattle.std.specs.Option.{option_map_or};
 ghost use Rattle.gmp_seq.specs.Needs.{WantsMemory};
+ghost use Rattle.gmp_ledger.specs.Frequent.{is_frequent};
 ghost use Rattle.gmp_ledger.specs.Grants.{Chooses, Grants, NeedsMemory, Suits};
 ghost use Rattle.gmp_ledger.specs.Handed.{goroutine_in, names_other, processor_in};
 ghost use Rattle.gmp_ledger.specs.Known.{known_by};
@@ -75,6 +76,7 @@ impl Ledger {
     }
 
     /// The run's number.
+    #[inline(always)]
     pub fn run(&self) -> u64
         ensures { result ≡ self.now.run }
     {
@@ -123,6 +125,7 @@ impl Ledger {
     }
 
     /// What a call has for a goroutine to be told, whatever the reply.
+    #[inline(always)]
     pub fn known(&self, call: &Call) -> Option<Woke>
         ensures { result ≡ known_by call.now self.now.state.table }
     {
@@ -146,6 +149,7 @@ impl Ledger {
     }
 
     /// Is the pass the machine's latest, of this run, and does the run last?
+    #[inline(always)]
     fn turn_refusal(&self, pass: &Pass, values: &Handed) -> Option<Refusal>
         ensures why { result ≡ first_refusal (turn_lines self.now pass.now values.now) }
         ensures current { IfNone result (IsCurrent self.now pass.now) }
@@ -168,6 +172,7 @@ impl Ledger {
         None
     }
 
+    #[inline(always)]
     fn is_foreign(&self, pass: &Pass, values: &Handed) -> bool
         ensures { result ≡ is_foreign self.now pass.now values.now }
     {
@@ -180,57 +185,63 @@ impl Ledger {
         &mut self,
         memory: Option<Global>,
         pass: &mut Pass,
-        call: Call,
+        call: &Call,
         values: &Handed,
         word: u64,
-    ) -> Result<Reply, AllocError>
-        requires suits { Suits call values.now }
-        requires memory { NeedsMemory call memory }
-        requires allowed { IsAllowed self.old pass.old call values.now }
-        ensures records { IfOk result (λ reply. Records self.old pass.old call reply self.new pass.new) }
-        ensures choice { IfOk result (λ reply. Chooses call word reply self.old.state self.old.shelf) }
-        ensures grants { Grants pass.old.m (goroutine_in values.now) (processor_in values.now) call self.old.state }
+        frequent: bool,
+        out: &mut Reply,
+    ) -> Result<(), AllocError>
+        requires often { frequent ≡ true → is_frequent call.now ≡ true }
+        requires suits { Suits call.now values.now }
+        requires memory { NeedsMemory call.now memory }
+        requires allowed { IsAllowed self.old pass.old call.now values.now }
+        ensures records { OnOk result (Records self.old pass.old call.now out.new self.new pass.new) }
+        ensures choice { OnOk result (Chooses call.now word out.new self.old.state self.old.shelf) }
+        ensures grants { Grants pass.old.m (goroutine_in values.now) (processor_in values.now) call.now self.old.state }
         ensures ours { names_other self.old.run values.now ≡ false }
         ensures order { OnOk result (IsInOrder self.old.limits self.old.state) }
         ensures err { OnErr result ((self.new ≡ self.old) × (pass.new ≡ pass.old)) }
-        ensures wanted { OnErr result (WantsMemory self.old.limits call self.old.state) }
+        ensures wanted { OnErr result (WantsMemory self.old.limits call.now self.old.state) }
     {
         let (m, k) = (pass.m, pass.calls);
         let (g, p) = (values.goroutine(), values.processor());
-        let reply = self
-            .scheduler
-            .effect(memory, self.limits, m, g, p, &call, word)?;
-        self.scheduler.count_one(self.limits, m, reply);
-        self.entries.push(m, k, &call, &reply);
+        self.scheduler
+            .effect(memory, self.limits, m, g, p, call, word, frequent, out)?;
+        self.scheduler.count_one(self.limits, m, *out);
+        self.entries.add(m, k, call, out, frequent);
         pass.advance(self.scheduler.counts.all());
-        Ok(reply)
+        Ok(())
     }
 
-    /// The machine of the pass makes the call, with these values, or it is refused. `word` chooses among the cases of a select.
+    /// The machine of the pass makes the call, with these values, and the reply is written in place; or it is refused. `word` chooses among
+    /// the cases of a select. Whoever says that the call is a frequent one, at compile time, has no arm of another compiled in.
     // Inlined, here and below: of a call whose kind is known its own arms alone are left.
     #[inline(always)]
     pub fn call(
         &mut self,
         memory: Option<Global>,
         pass: &mut Pass,
-        call: Call,
+        call: &Call,
         values: &Handed,
         word: u64,
-    ) -> Result<Reply, Refusal>
-        requires suits { Suits call values.now }
-        requires memory { NeedsMemory call memory }
-        ensures refused { Says (WantsMemory self.old.limits call self.old.state) (refusal_of self.old pass.old call values.now) (refusal_in result) }
+        frequent: bool,
+        out: &mut Reply,
+    ) -> Result<(), Refusal>
+        requires often { frequent ≡ true → is_frequent call.now ≡ true }
+        requires suits { Suits call.now values.now }
+        requires memory { NeedsMemory call.now memory }
+        ensures refused { Says (WantsMemory self.old.limits call.now self.old.state) (refusal_of self.old pass.old call.now values.now) (refusal_in result) }
         ensures err { OnErr result ((self.new ≡ self.old) × (pass.new ≡ pass.old)) }
-        ensures records { IfOk result (λ reply. Records self.old pass.old call reply self.new pass.new) }
-        ensures choice { IfOk result (λ reply. Chooses call word reply self.old.state self.old.shelf) }
-        ensures grants { OnOk result (Grants pass.old.m (goroutine_in values.now) (processor_in values.now) call self.old.state) }
+        ensures records { OnOk result (Records self.old pass.old call.now out.new self.new pass.new) }
+        ensures choice { OnOk result (Chooses call.now word out.new self.old.state self.old.shelf) }
+        ensures grants { OnOk result (Grants pass.old.m (goroutine_in values.now) (processor_in values.now) call.now self.old.state) }
         ensures order { OnOk result (IsInOrder self.old.limits self.old.state) }
         ensures ours { OnOk result (names_other self.old.run values.now ≡ false) }
     {
-        if let Some(why) = self.refusal(pass, &call, values) {
+        if let Some(why) = self.refusal(pass, call, values) {
             return Err(why);
         }
-        self.accept(memory, pass, call, values, word)
+        self.accept(memory, pass, call, values, word, frequent, out)
             .map_err(|_| Refusal::OutOfMemory)
     }
 

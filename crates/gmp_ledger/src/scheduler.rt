@@ -1,5 +1,5 @@
 //! Goroutines, channels and machines together: the effect of each call on them.
-ghost use Rattle.std.specs.Prelude.{◌≡◌, ℕ, [], ◌∷◌, ◌+◌, ◌<◌, ◌^◌, List, Option, Some, length, slice_get, sum, IfOk, OnErr};
+ghost use Rattle.std.specs.Prelude.{◌≡◌, ℕ, [], ◌∷◌, ◌+◌, ◌<◌, ◌^◌, List, Option, Some, true, false, length, slice_get, sum, IfOk, OnErr, OnOk};
 ghost use Rattle.gmp_seq.specs.declared.call.Call.{Call};
 ghost use Rattle.gmp_seq.specs.declared.call.Outcome.{Outcome};
 ghost use Rattle.gmp_seq.specs.declared.status.Mode.{Mode};
@@ -12,6 +12,7 @@ ghost use Rattle.gmp_seq.specs.Table.{IsCalling, IsRunning, RunsNothing, set_sta
 ghost use Rattle.gmp_goroutines.specs.Shelf.{Shelves};
 ghost use Rattle.gmp_seq.specs.Needs.{WantsMemory};
 ghost use Rattle.gmp_ledger.specs.Grants.{Chooses, Grants, NeedsMemory};
+ghost use Rattle.gmp_ledger.specs.Frequent.{is_frequent};
 ghost use Rattle.gmp_ledger.specs.Kept.{IsSized};
 ghost use Rattle.gmp_ledger.specs.Scene.{IsYoung, KeepsCounts, scheduler_state};
 
@@ -55,7 +56,8 @@ impl Scheduler {
         })
     }
 
-    /// A call of m has its effect. g and p are a goroutine and a processor of m's, where the call is by one.
+    /// A call of m has its effect, and its reply is written in place. g and p are a goroutine and a processor of m's, where the call is by one.
+    /// Of a call that is known to be frequent no arm of another is compiled in.
     #[inline(always)]
     pub(crate) fn effect(
         &mut self,
@@ -66,7 +68,58 @@ impl Scheduler {
         p: PNo,
         call: &Call,
         word: u64,
+        frequent: bool,
+        out: &mut Reply,
+    ) -> Result<(), AllocError>
+        requires often { frequent ≡ true → is_frequent call.now ≡ true }
+        requires memory { NeedsMemory call.now memory }
+        requires grants { Grants m g p call.now (scheduler_state self.old) }
+        requires young { IsYoung (scheduler_state self.old) }
+        requires there { m.0 < self.old.goroutines.machines }
+        requires limit { self.old.goroutines.limit ≡ limits.channels }
+        // It doesn't matter how the entry is counted, nor how the run stands afterwards.
+        ensures effect { OnOk result ((counts : List ℕ) (outcome : Option Outcome) → Effect limits m call.now out.new (scheduler_state self.old) (record (scheduler_state self.new) { counts = counts; outcome = outcome })) }
+        ensures shelf { OnOk result (Shelves call.now out.new self.old.goroutines.table self.new.goroutines.table self.old.goroutines.shelf self.new.goroutines.shelf) }
+        ensures choice { OnOk result (Chooses call.now word out.new (scheduler_state self.old) self.old.goroutines.shelf) }
+        ensures rest { KeepsCounts self.old self.new }
+        ensures err { OnErr result (self.new ≡ self.old) }
+        ensures wanted { OnErr result (WantsMemory limits call.now (scheduler_state self.old)) }
+    {
+        match call {
+            Call::Take => self.goroutines.take(out),
+            Call::Claim(r) => {
+                self.goroutines.claim(m, *r);
+                *out = Reply::Held;
+            }
+            Call::Yield => {
+                let r = self.goroutines.yield_to(g);
+                *out = Reply::Shelved(r);
+            }
+            Call::Send(c, v) => self.goroutines.deal(g, Case::Send(*c, *v), out),
+            Call::Recv(c) => self.goroutines.deal(g, Case::Recv(*c), out),
+            Call::Poke => match self.machines.poke(m) {
+                Some(n) => *out = Reply::Wakes(n),
+                None => *out = Reply::Nothing,
+            },
+            _ if frequent => unreachable!(),
+            _ => *out = self.other_effect(memory, limits, m, g, p, call, word)?,
+        }
+        Ok(())
+    }
+
+    /// The same of a call that is not frequent. Apart: whoever makes a frequent one pays for no local of another.
+    #[inline(never)]
+    fn other_effect(
+        &mut self,
+        memory: Option<Global>,
+        limits: Limits,
+        m: MNo,
+        g: GNo,
+        p: PNo,
+        call: &Call,
+        word: u64,
     ) -> Result<Reply, AllocError>
+        requires other { is_frequent call.now ≡ false }
         requires memory { NeedsMemory call.now memory }
         requires grants { Grants m g p call.now (scheduler_state self.old) }
         requires young { IsYoung (scheduler_state self.old) }
@@ -85,21 +138,13 @@ impl Scheduler {
                 Some(p) => Reply::Proc(p),
                 None => Reply::Nothing,
             },
-            Call::Take => self.goroutines.take(),
             Call::Put(r) => {
                 self.goroutines.put(*r);
                 Reply::Shelf
             }
-            Call::Claim(r) => {
-                self.goroutines.claim(m, *r);
-                Reply::Held
-            }
             Call::Go(body) => self.goroutines.go(*body),
-            Call::Yield => Reply::Shelved(self.goroutines.yield_to(g)),
             Call::Exit => self.exit(m, g),
             Call::Make(capacity) => self.goroutines.make(memory.unwrap(), *capacity)?,
-            Call::Send(c, v) => self.goroutines.deal(g, Case::Send(*c, *v)),
-            Call::Recv(c) => self.goroutines.deal(g, Case::Recv(*c)),
             Call::Close(c) => self.goroutines.close(*c),
             Call::Len(c) => self.goroutines.len(*c),
             Call::Cap(c) => self.goroutines.cap(*c),
@@ -128,10 +173,6 @@ impl Scheduler {
                 self.machines.unspin(m);
                 Reply::Done
             }
-            Call::Poke => match self.machines.poke(m) {
-                Some(n) => Reply::Wakes(n),
-                None => Reply::Nothing,
-            },
             Call::Declare => {
                 self.machines.declare(m, p);
                 Reply::Idle(p)
@@ -142,6 +183,12 @@ impl Scheduler {
             }
             Call::Park => self.park(m),
             Call::Tick(moment) => Reply::Woke(self.goroutines.tick(*moment)),
+            Call::Take
+            | Call::Claim(_)
+            | Call::Yield
+            | Call::Send(_, _)
+            | Call::Recv(_)
+            | Call::Poke => unreachable!(),
         })
     }
 
@@ -222,6 +269,7 @@ impl Scheduler {
     }
 
     /// m made one entry more, which was answered so.
+    #[inline(always)]
     pub(crate) fn count_one(&mut self, limits: Limits, m: MNo, reply: Reply)
         requires there { m.0 < length self.old.counts }
         requires few { sum self.old.counts < 2 ^ 63 }

@@ -32,6 +32,7 @@ impl Scheduler {
     }
 
     /// Whether m's state forbids the call.
+    #[inline(always)]
     fn is_busy(&self, m: MNo, call: &Call) -> bool
         ensures { result ≡ is_busy (scheduler_state self.now) m call.now }
     {
@@ -55,6 +56,7 @@ impl Scheduler {
         }
     }
 
+    #[inline(always)]
     fn lacks_processor(&self, m: MNo, call: &Call) -> bool
         ensures { result ≡ lacks_processor (scheduler_state self.now) m call.now }
     {
@@ -65,6 +67,7 @@ impl Scheduler {
     }
 
     /// Whether a ticket is not outstanding.
+    #[inline(always)]
     fn is_spent(&self, values: &Handed) -> bool
         ensures { result ≡ is_spent (scheduler_state self.now) values.now }
     {
@@ -74,6 +77,7 @@ impl Scheduler {
     }
 
     /// Whether a value, no ticket, is not m's.
+    #[inline(always)]
     fn is_anothers(&self, m: MNo, values: &Handed) -> bool
         ensures { result ≡ is_anothers (scheduler_state self.now) m values.now }
     {
@@ -85,6 +89,7 @@ impl Scheduler {
     }
 
     /// Whether m makes the blocking call of g.
+    #[inline(always)]
     fn calls_for(&self, m: MNo, g: GNo) -> bool
         ensures { result ≡ option_map_or (is_calling_on m) (status_at self.now.goroutines.table g) false }
     {
