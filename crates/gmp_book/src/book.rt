@@ -183,9 +183,13 @@ impl<T, Q> Book<T, Q> {
         let g = claimed(&call);
         let known = self.ledger.known(&call);
         let makes = memory.is_some();
-        match self.ledger.call(memory, pass, call, &given, word) {
+        let mut reply = Reply::Done;
+        let made = self
+            .ledger
+            .call(memory, pass, &call, &given, word, false, &mut reply);
+        match made {
             Err(why) => (values.refused(makes, why), Err(why)),
-            Ok(reply) => {
+            Ok(()) => {
                 let (held, called, ticket, proc) = values.parts();
                 if let Some(ticket) = ticket {
                     ticket.open();

@@ -117,6 +117,7 @@ pub enum Way {
     OutOfCall,
 }
 
+#[inline(always)]
 pub(crate) fn way_of(reply: Reply) -> Way
     ensures { result ≡ way_of reply }
 {
@@ -140,6 +141,7 @@ pub(crate) fn claimed(call: &Call) -> GNo
 }
 
 /// What the goroutine is told that goes on by the reply.
+#[inline(always)]
 pub(crate) fn told_by(known: Option<Woke>, reply: Reply) -> Woke
     ensures { result ≡ hands.told_by known reply }
 {
@@ -170,6 +172,7 @@ pub(crate) fn handed<T, Q>(values: &Values<T, Q>) -> Handed
 }
 
 /// What the goroutine that runs is of.
+#[inline(always)]
 pub(crate) fn handed_own<T>(held: &Option<Held<T>>) -> Handed
     ensures { result ≡ own_handed held.now }
 {

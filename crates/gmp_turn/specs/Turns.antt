@@ -1,6 +1,6 @@
 -- One book call of a machine: what it hands the call, and what becomes of both.
 use Rattle.std.specs.declared.alloc.Global.{Global}
-use Rattle.std.specs.Prelude.{◌≡◌, ℕ, Bool, true, Option, Some, None, IsNone, is_some, if◌then◌else◌, Result, Ok, Err, IfOk, IfErr}
+use Rattle.std.specs.Prelude.{◌≡◌, ℕ, Bool, true, false, Option, Some, None, IsNone, is_some, if◌then◌else◌, Result, Ok, Err, IfOk, IfErr}
 use Rattle.gmp_base.specs.declared.number.MNo.{MNo}
 use Rattle.gmp_base.specs.declared.pass.Pass.{Pass}
 use Rattle.gmp_base.specs.declared.refusal.Refusal.{Refusal}
@@ -19,6 +19,8 @@ use Rattle.gmp_book.specs.Book.{BookContents}
 use Rattle.gmp_book.specs.Hands.{Hands, handed_of, values_back}
 use Rattle.gmp_driver.specs.declared.act.Act.{Act}
 use Rattle.gmp_driver.specs.declared.act.Act.TheVariants as act
+use Rattle.gmp_driver.specs.declared.act.Frequent.{Frequent}
+use Rattle.gmp_driver.specs.declared.act.Frequent.TheVariants as frequent
 use Rattle.gmp_driver.specs.declared.act.Told.{Told}
 use Rattle.gmp_driver.specs.declared.act.Told.TheVariants as told
 use Rattle.gmp_driver.specs.declared.load.Load.{Load}
@@ -81,8 +83,30 @@ pub record Turns {T Q : Type 0} (x : Machine T Q) (book : BookContents T Q) (ask
   pub done : IfOk result (λ answer. let v = handed_of (values_in (handed_out x before asked)) in IsDoneTo asked before.m (goroutine_in v) (processor_in v) answer book.log.state book'.log.state)
   pub machine : x' ≡ after (record x { pass = Some behind; hand = hand_with asked x.hand (load_back behind (is_to_claim asked (handed_out x before asked)) back) }) (told_to_driver result)
 
+-- what a call is answered whose reply is written in place
+abbrev pub replied : Reply → Result Unit Refusal → Result Reply Refusal
+replied answer (Ok done) = Ok answer
+replied answer (Err why) = Err why
+
 -- the machine that a reply names to wake
 abbrev pub woken_in : Reply → Option MNo
 woken_in (reply.Wakes m) = Some m
 woken_in (reply.Entered p woken) = woken
 woken_in _ = None
+
+-- the machine that the book's answer names to wake
+abbrev pub woken_by : Result Reply Refusal → Option MNo
+woken_by (Ok answer) = woken_in answer
+woken_by (Err why) = None
+
+-- the call, which draws no word, was made or refused, and this machine is to be woken
+abbrev pub Wakes : {T Q : Type 0} → Machine T Q → BookContents T Q → Call → Option MNo → Machine T Q → BookContents T Q → Type 0
+Wakes x book asked woken x' book' = (result : Result Reply Refusal) × Turns x book asked 0 result x' book' × (woken ≡ woken_by result)
+
+-- is it a call of the book
+abbrev pub is_call : Frequent → Bool
+is_call frequent.Pop = false
+is_call frequent.Push = false
+is_call frequent.Resume = false
+is_call frequent.Other = false
+is_call _ = true

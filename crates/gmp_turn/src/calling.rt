@@ -4,6 +4,7 @@ ghost use Rattle.gmp_driver.specs.declared.act.Act.TheVariants as act;
 ghost use Rattle.gmp_driver.specs.Fits.{SuitsPlace};
 ghost use Rattle.gmp_driver.specs.Table.{next_act};
 ghost use Rattle.gmp_ledger.specs.Grants.{NeedsMemory};
+ghost use Rattle.gmp_turn.specs.Turns as turns;
 ghost use Rattle.gmp_turn.specs.Turns.{HasMemory, Turns, woken_in};
 
 use crate::in_place::{alone_turn, claim_turn, own_turn, put_turn};
@@ -18,6 +19,8 @@ use std::alloc::Global;
 /// Makes the call that the driver's machine names next, with the pass and the values that it hands out, and tells the driver the reply, or
 /// why the book refused it. A make is handed memory, and `word` chooses among the cases of a select. The driver holds what its new place
 /// says.
+// Not inlined: whoever makes a frequent call pays for no local of another.
+#[inline(never)]
 pub fn turn<T, Q>(
     memory: Option<Global>,
     driver: &mut Driver<T, Q>,
@@ -37,8 +40,12 @@ pub fn turn<T, Q>(
     ensures run { driver.new.run ≡ book.new.log.run }
 {
     match call {
-        Call::Claim(r) => claim_turn(driver, book, r),
-        Call::Put(r) => put_turn(driver, book, r),
+        Call::Claim(r) => replied(Reply::Held, claim_turn(driver, book, r)),
+        Call::Put(r) => {
+            let mut reply = Reply::Done;
+            let made = put_turn(driver, book, r, &mut reply);
+            replied(reply, made)
+        }
         Call::Take
         | Call::Poke
         | Call::Spin
@@ -47,7 +54,11 @@ pub fn turn<T, Q>(
         | Call::Keep
         | Call::Bare
         | Call::Park
-        | Call::Tick(_) => alone_turn(driver, book, call, word),
+        | Call::Tick(_) => {
+            let mut reply = Reply::Done;
+            let made = alone_turn(driver, book, &call, word, false, &mut reply);
+            replied(reply, made)
+        }
         Call::Yield
         | Call::Exit
         | Call::Send(_, _)
@@ -60,8 +71,23 @@ pub fn turn<T, Q>(
         | Call::Sleep(_)
         | Call::Procs(_)
         | Call::Gopark
-        | Call::Ready(_) => own_turn(driver, book, call, word),
+        | Call::Ready(_) => {
+            let mut reply = Reply::Done;
+            let made = own_turn(driver, book, &call, word, false, &mut reply);
+            replied(reply, made)
+        }
         _ => turn_by_values(memory, driver, book, call, word),
+    }
+}
+
+/// What a call is answered whose reply is written in place.
+#[inline(always)]
+fn replied(reply: Reply, made: Result<(), Refusal>) -> Result<Reply, Refusal>
+    ensures { result ≡ turns.replied reply made }
+{
+    match made {
+        Ok(()) => Ok(reply),
+        Err(why) => Err(why),
     }
 }
 
@@ -106,6 +132,7 @@ pub fn memory_at(act: &Act, alloc: Global) -> Option<Global>
 }
 
 /// The machine that a reply names to wake.
+#[inline(always)]
 pub fn woken(reply: Reply) -> Option<MNo>
     ensures { result ≡ woken_in reply }
 {

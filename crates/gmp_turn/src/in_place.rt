@@ -1,4 +1,5 @@
-//! Turns that leave values where they are.
+//! Turns that leave values where they are, and whose replies are written in place. Of a call that is known to be frequent no arm of another
+//! is compiled in.
 ghost use Rattle.std.specs.Prelude.{◌≡◌, ℕ, None, IsSome, true};
 ghost use Rattle.gmp_driver.specs.declared.act.Act.TheVariants as act;
 ghost use Rattle.gmp_driver.specs.Fits.{SuitsPlace};
@@ -6,7 +7,8 @@ ghost use Rattle.gmp_driver.specs.Table.{next_act};
 ghost use Rattle.gmp_ledger.specs.Grants.{NeedsMemory};
 ghost use Rattle.gmp_book.specs.InPlace.{is_alone};
 ghost use Rattle.gmp_book.specs.Kinds.{is_own};
-ghost use Rattle.gmp_turn.specs.Turns.{Turns};
+ghost use Rattle.gmp_ledger.specs.Frequent.{is_frequent};
+ghost use Rattle.gmp_turn.specs.Turns.{Turns, replied};
 
 use gmp_base::{Readiness, Refusal};
 use gmp_book::Book;
@@ -18,27 +20,30 @@ use gmp_seq::{Call, Reply};
 pub(crate) fn own_turn<T, Q>(
     driver: &mut Driver<T, Q>,
     book: &mut Book<T, Q>,
-    call: Call,
+    call: &Call,
     word: u64,
-) -> Result<Reply, Refusal>
-    requires own { is_own call ≡ true }
-    requires plain { NeedsMemory call None }
-    requires act { next_act driver.old ≡ act.Call call }
+    frequent: bool,
+    out: &mut Reply,
+) -> Result<(), Refusal>
+    requires often { frequent ≡ true → is_frequent call.now ≡ true }
+    requires own { is_own call.now ≡ true }
+    requires plain { NeedsMemory call.now None }
+    requires act { next_act driver.old ≡ act.Call call.now }
     requires pass { IsSome driver.old.pass }
     requires run { driver.old.run ≡ book.old.log.run }
     requires keeps { SuitsPlace driver.old.place driver.old.hand }
-    ensures turns { Turns driver.old book.old call word result driver.new book.new }
+    ensures turns { Turns driver.old book.old call.now word (replied out.new result) driver.new book.new }
     ensures fits { SuitsPlace driver.new.place driver.new.hand }
     ensures pass { IsSome driver.new.pass }
     ensures run { driver.new.run ≡ book.new.log.run }
 {
     let mut pass = driver.give_pass();
     let mut held = driver.give_held();
-    match book.call_own(&mut pass, call, &mut held, word) {
-        Ok(reply) => {
-            driver.got_held(held, reply.ticket());
-            driver.got_reply(pass, &reply);
-            Ok(reply)
+    match book.call_own(&mut pass, call, &mut held, word, frequent, out) {
+        Ok(()) => {
+            driver.got_held(held, out.ticket());
+            driver.got_reply(pass, out);
+            Ok(())
         }
         Err(why) => {
             driver.got_held(held, None);
@@ -53,25 +58,28 @@ pub(crate) fn own_turn<T, Q>(
 pub(crate) fn alone_turn<T, Q>(
     driver: &mut Driver<T, Q>,
     book: &mut Book<T, Q>,
-    call: Call,
+    call: &Call,
     word: u64,
-) -> Result<Reply, Refusal>
-    requires alone { is_alone call ≡ true }
-    requires act { next_act driver.old ≡ act.Call call }
+    frequent: bool,
+    out: &mut Reply,
+) -> Result<(), Refusal>
+    requires often { frequent ≡ true → is_frequent call.now ≡ true }
+    requires alone { is_alone call.now ≡ true }
+    requires act { next_act driver.old ≡ act.Call call.now }
     requires pass { IsSome driver.old.pass }
     requires run { driver.old.run ≡ book.old.log.run }
     requires keeps { SuitsPlace driver.old.place driver.old.hand }
-    ensures turns { Turns driver.old book.old call word result driver.new book.new }
+    ensures turns { Turns driver.old book.old call.now word (replied out.new result) driver.new book.new }
     ensures fits { SuitsPlace driver.new.place driver.new.hand }
     ensures pass { IsSome driver.new.pass }
     ensures run { driver.new.run ≡ book.new.log.run }
 {
     let mut pass = driver.give_pass();
-    match book.call_alone(&mut pass, call, word) {
-        Ok(reply) => {
-            driver.got_ticket(reply.ticket());
-            driver.got_reply(pass, &reply);
-            Ok(reply)
+    match book.call_alone(&mut pass, call, word, frequent, out) {
+        Ok(()) => {
+            driver.got_ticket(out.ticket());
+            driver.got_reply(pass, out);
+            Ok(())
         }
         Err(why) => {
             driver.got_refusal(pass, why);
@@ -86,22 +94,23 @@ pub(crate) fn put_turn<T, Q>(
     driver: &mut Driver<T, Q>,
     book: &mut Book<T, Q>,
     r: Readiness,
-) -> Result<Reply, Refusal>
+    out: &mut Reply,
+) -> Result<(), Refusal>
     requires act { next_act driver.old ≡ act.Call (Call.Put r) }
     requires pass { IsSome driver.old.pass }
     requires run { driver.old.run ≡ book.old.log.run }
     requires keeps { SuitsPlace driver.old.place driver.old.hand }
-    ensures turns { (word : ℕ) → Turns driver.old book.old (Call.Put r) word result driver.new book.new }
+    ensures turns { (word : ℕ) → Turns driver.old book.old (Call.Put r) word (replied out.new result) driver.new book.new }
     ensures fits { SuitsPlace driver.new.place driver.new.hand }
     ensures pass { IsSome driver.new.pass }
     ensures run { driver.new.run ≡ book.new.log.run }
 {
     let mut pass = driver.give_pass();
-    match book.put_in(&mut pass, r) {
-        Ok(reply) => {
+    match book.put_in(&mut pass, r, out) {
+        Ok(()) => {
             driver.put_ticket();
-            driver.got_reply(pass, &reply);
-            Ok(reply)
+            driver.got_reply(pass, out);
+            Ok(())
         }
         Err(why) => {
             driver.got_refusal(pass, why);
@@ -116,12 +125,12 @@ pub(crate) fn claim_turn<T, Q>(
     driver: &mut Driver<T, Q>,
     book: &mut Book<T, Q>,
     r: Readiness,
-) -> Result<Reply, Refusal>
+) -> Result<(), Refusal>
     requires act { next_act driver.old ≡ act.Call (Call.Claim r) }
     requires pass { IsSome driver.old.pass }
     requires run { driver.old.run ≡ book.old.log.run }
     requires keeps { SuitsPlace driver.old.place driver.old.hand }
-    ensures turns { (word : ℕ) → Turns driver.old book.old (Call.Claim r) word result driver.new book.new }
+    ensures turns { (word : ℕ) → Turns driver.old book.old (Call.Claim r) word (replied Reply.Held result) driver.new book.new }
     ensures fits { SuitsPlace driver.new.place driver.new.hand }
     ensures pass { IsSome driver.new.pass }
     ensures run { driver.new.run ≡ book.new.log.run }
@@ -131,7 +140,7 @@ pub(crate) fn claim_turn<T, Q>(
         Ok(held) => {
             driver.got_claimed(held);
             driver.got_reply(pass, &Reply::Held);
-            Ok(Reply::Held)
+            Ok(())
         }
         Err(why) => {
             driver.got_refusal(pass, why);

@@ -2,10 +2,12 @@
 #![tactic(auto)]
 
 mod calling;
+mod frequent;
 mod in_place;
 pub mod laws;
 mod passing;
 mod surrendering;
 
 pub use calling::{memory_at, turn, woken};
+pub use frequent::frequent_turn;
 pub use surrendering::surrender;

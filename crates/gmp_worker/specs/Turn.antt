@@ -10,7 +10,7 @@ use Rattle.gmp_driver.specs.declared.act.Act.{Act}
 use Rattle.gmp_driver.specs.declared.act.Act.TheVariants as act
 use Rattle.gmp_driver.specs.Machine.{Machine}
 use Rattle.gmp_turn.specs.Surrenders.{Surrenders}
-use Rattle.gmp_turn.specs.Turns.{Turns, woken_in}
+use Rattle.gmp_turn.specs.Turns.{Turns, woken_by}
 use Rattle.rand_core.specs.Steps.{u64_via_u32}
 use Rattle.rand_pcg.specs.Lcg.{Lcg}
 use Rattle.rand_pcg.specs.Pcg.{pcg32}
@@ -29,11 +29,6 @@ next_word g = u64_via_u32 pcg32 g
 abbrev pub drawn : Call → Lcg → ℕ × Lcg
 drawn (call.Select cases has_default until) g = next_word g
 drawn asked g = (0, g)
-
--- the machine that the book's answer names to wake
-abbrev pub woken_by : Result Reply Refusal → Option MNo
-woken_by (Ok answer) = woken_in answer
-woken_by (Err why) = None
 
 -- The one call that the act names is made, with the word that it draws, or the one value is given back, which draws none and wakes nobody.
 abbrev pub TakesTurn : {T Q : Type 0} → Act → Machine T Q → BookContents T Q → Lcg → Option MNo → Machine T Q → BookContents T Q → Lcg → Type 0

@@ -1,8 +1,10 @@
 //! Calls that leave values where they are: those that are handed nothing, those of the goroutine that runs, a put and a claim. What each
-//! does is what `call` does with these values.
-ghost use Rattle.std.specs.Prelude.{◌≡◌, true, None, Some, IfOk, OnErr};
+//! does is what `call` does with these values. Replies are written in place; of a call that is known to be frequent no arm of another is
+//! compiled in.
+ghost use Rattle.std.specs.Prelude.{◌≡◌, true, None, Some, IfOk, OnErr, OnOk};
 ghost use Rattle.gmp_seq.specs.Needs.{WantsMemory};
 ghost use Rattle.gmp_ledger.specs.Done.{IsDoneTo};
+ghost use Rattle.gmp_ledger.specs.Frequent.{is_frequent};
 ghost use Rattle.gmp_ledger.specs.Grants.{Chooses, NeedsMemory, Suits};
 ghost use Rattle.gmp_ledger.specs.Handed.{goroutine_in, nothing_handed, processor_in, ticket_handed};
 ghost use Rattle.gmp_ledger.specs.Log.{Records};
@@ -22,16 +24,24 @@ impl<T, Q> Book<T, Q> {
 
     /// A call that is handed nothing, and by which no body and no owner moves. A ticket that it gives out is that of the reply.
     #[inline(always)]
-    pub fn call_alone(&mut self, pass: &mut Pass, call: Call, word: u64) -> Result<Reply, Refusal>
-        requires still { moves_nothing call ≡ true }
-        requires suits { Suits call nothing_handed }
-        requires plain { NeedsMemory call None }
-        ensures refused { Says (WantsMemory self.old.log.limits call self.old.log.state) (refusal_of self.old.log pass.old call nothing_handed) (refusal_in result) }
+    pub fn call_alone(
+        &mut self,
+        pass: &mut Pass,
+        call: &Call,
+        word: u64,
+        frequent: bool,
+        out: &mut Reply,
+    ) -> Result<(), Refusal>
+        requires often { frequent ≡ true → is_frequent call.now ≡ true }
+        requires still { moves_nothing call.now ≡ true }
+        requires suits { Suits call.now nothing_handed }
+        requires plain { NeedsMemory call.now None }
+        ensures refused { Says (WantsMemory self.old.log.limits call.now self.old.log.state) (refusal_of self.old.log pass.old call.now nothing_handed) (refusal_in result) }
         ensures err { OnErr result ((self.new ≡ self.old) × (pass.new ≡ pass.old)) }
-        ensures records { IfOk result (λ reply. Records self.old.log pass.old call reply self.new.log pass.new) }
-        ensures choice { IfOk result (λ reply. Chooses call word reply self.old.log.state self.old.log.shelf) }
-        ensures hands { IfOk result (λ reply. Hands call reply no_values (own_back self.old.log.run None reply) self.old self.new) }
-        ensures done { IfOk result (λ reply. IsDoneTo call pass.old.m (goroutine_in nothing_handed) (processor_in nothing_handed) reply self.old.log.state self.new.log.state) }
+        ensures records { OnOk result (Records self.old.log pass.old call.now out.new self.new.log pass.new) }
+        ensures choice { OnOk result (Chooses call.now word out.new self.old.log.state self.old.log.shelf) }
+        ensures hands { OnOk result (Hands call.now out.new no_values (own_back self.old.log.run None out.new) self.old self.new) }
+        ensures done { OnOk result (IsDoneTo call.now pass.old.m (goroutine_in nothing_handed) (processor_in nothing_handed) out.new self.old.log.state self.new.log.state) }
     {
         let given = Handed {
             ticket: None,
@@ -39,8 +49,9 @@ impl<T, Q> Book<T, Q> {
             called: None,
             proc: None,
         };
-        let reply = self.ledger.call(None, pass, call, &given, word)?;
-        Ok(reply)
+        self.ledger
+            .call(None, pass, call, &given, word, frequent, out)?;
+        Ok(())
     }
 
     /// A call of the goroutine that runs, which is told what the reply says where it goes on; else its body goes into its place.
@@ -48,34 +59,43 @@ impl<T, Q> Book<T, Q> {
     pub fn call_own(
         &mut self,
         pass: &mut Pass,
-        call: Call,
+        call: &Call,
         held: &mut Option<Held<T>>,
         word: u64,
-    ) -> Result<Reply, Refusal>
-        requires own { is_own call ≡ true }
-        requires suits { Suits call (own_handed held.old) }
-        requires plain { NeedsMemory call None }
-        ensures refused { Says (WantsMemory self.old.log.limits call self.old.log.state) (refusal_of self.old.log pass.old call (own_handed held.old)) (refusal_in result) }
+        frequent: bool,
+        out: &mut Reply,
+    ) -> Result<(), Refusal>
+        requires often { frequent ≡ true → is_frequent call.now ≡ true }
+        requires own { is_own call.now ≡ true }
+        requires suits { Suits call.now (own_handed held.old) }
+        requires plain { NeedsMemory call.now None }
+        ensures refused { Says (WantsMemory self.old.log.limits call.now self.old.log.state) (refusal_of self.old.log pass.old call.now (own_handed held.old)) (refusal_in result) }
         ensures err { OnErr result ((self.new ≡ self.old) × (pass.new ≡ pass.old) × (held.new ≡ held.old)) }
-        ensures records { IfOk result (λ reply. Records self.old.log pass.old call reply self.new.log pass.new) }
-        ensures choice { IfOk result (λ reply. Chooses call word reply self.old.log.state self.old.log.shelf) }
-        ensures hands { IfOk result (λ reply. Hands call reply (held_values held.old) (own_back self.old.log.run held.new reply) self.old self.new) }
-        ensures done { IfOk result (λ reply. let v = own_handed held.old in IsDoneTo call pass.old.m (goroutine_in v) (processor_in v) reply self.old.log.state self.new.log.state) }
+        ensures records { OnOk result (Records self.old.log pass.old call.now out.new self.new.log pass.new) }
+        ensures choice { OnOk result (Chooses call.now word out.new self.old.log.state self.old.log.shelf) }
+        ensures hands { OnOk result (Hands call.now out.new (held_values held.old) (own_back self.old.log.run held.new out.new) self.old self.new) }
+        ensures done { OnOk result (let v = own_handed held.old in IsDoneTo call.now pass.old.m (goroutine_in v) (processor_in v) out.new self.old.log.state self.new.log.state) }
     {
         let given = handed_own(held);
-        let reply = self.ledger.call(None, pass, call, &given, word)?;
-        settle_own(&mut self.bodies, way_of(reply), reply.woke(), held);
-        Ok(reply)
+        self.ledger
+            .call(None, pass, call, &given, word, frequent, out)?;
+        settle_own(&mut self.bodies, way_of(*out), out.woke(), held);
+        Ok(())
     }
 
     /// Puts a ticket of the run onto the shelf, last.
     #[inline(always)]
-    pub fn put_in(&mut self, pass: &mut Pass, r: Readiness) -> Result<Reply, Refusal>
+    pub fn put_in(
+        &mut self,
+        pass: &mut Pass,
+        r: Readiness,
+        out: &mut Reply,
+    ) -> Result<(), Refusal>
         ensures refused { Says (WantsMemory self.old.log.limits (Call.Put r) self.old.log.state) (refusal_of self.old.log pass.old (Call.Put r) (ticket_handed self.old.log.run r)) (refusal_in result) }
         ensures err { OnErr result ((self.new ≡ self.old) × (pass.new ≡ pass.old)) }
-        ensures records { IfOk result (λ reply. Records self.old.log pass.old (Call.Put r) reply self.new.log pass.new) }
-        ensures hands { IfOk result (λ reply. Hands (Call.Put r) reply (ticket_values self.old.log.run r) (own_back self.old.log.run None reply) self.old self.new) }
-        ensures done { IfOk result (λ reply. let v = ticket_handed self.old.log.run r in IsDoneTo (Call.Put r) pass.old.m (goroutine_in v) (processor_in v) reply self.old.log.state self.new.log.state) }
+        ensures records { OnOk result (Records self.old.log pass.old (Call.Put r) out.new self.new.log pass.new) }
+        ensures hands { OnOk result (Hands (Call.Put r) out.new (ticket_values self.old.log.run r) (own_back self.old.log.run None out.new) self.old self.new) }
+        ensures done { OnOk result (let v = ticket_handed self.old.log.run r in IsDoneTo (Call.Put r) pass.old.m (goroutine_in v) (processor_in v) out.new self.old.log.state self.new.log.state) }
     {
         let run = self.ledger.run();
         let given = Handed {
@@ -84,8 +104,9 @@ impl<T, Q> Book<T, Q> {
             called: None,
             proc: None,
         };
-        let reply = self.ledger.call(None, pass, Call::Put(r), &given, 0)?;
-        Ok(reply)
+        self.ledger
+            .call(None, pass, &Call::Put(r), &given, 0, false, out)?;
+        Ok(())
     }
 
     /// Spends a ticket of the run: the machine runs its goroutine, which is to be told what was stored for it.
@@ -106,7 +127,9 @@ impl<T, Q> Book<T, Q> {
         };
         let call = Call::Claim(r);
         let known = self.ledger.known(&call);
-        let reply = self.ledger.call(None, pass, call, &given, 0)?;
+        let mut reply = Reply::Held;
+        self.ledger
+            .call(None, pass, &call, &given, 0, true, &mut reply)?;
         let told = told_by(known, reply);
         let body = self.bodies.take(r.g.0 as usize);
         Ok(Held::of(run, r.g, told, body))

@@ -7,35 +7,35 @@ use Rattle.gmp_turn.proofs.in_place.own_turn.Goals as goal
 
 pub got_reply-requires-clause-fits : goal.got_reply-requires-clause-fits
 got_reply-requires-clause-fits g c =
-    own_fits c.args.driver.now c.give_pass-pass.new.self c.give_held-held.new.self c.args.call c.give_pass-pass.result c.call_own.new.pass c.args.book.now c.call_own.new.self c.give_held-held.result c.call_own.new.held
+    own_fits c.args.driver.now c.give_pass-pass.new.self c.give_held-held.new.self c.args.call.now c.give_pass-pass.result c.call_own.new.pass c.args.book.now c.call_own.new.self c.give_held-held.result c.call_own.new.held
     c.requires.own c.requires.act c.give_pass-pass.ensures.pass c.requires.run c.requires.keeps c.give_pass-pass.ensures.run c.give_pass-pass.ensures.left c.give_held-held.ensures.held c.give_held-held.ensures.left
-    c.got_held.new.self c.in-Ok.reply c.ticket.result c.ticket.ensures c.got_held.ensures c.in-Ok.ensures.records c.in-Ok.ensures.hands
+    c.got_held.new.self c.call_own.new.out c.ticket.result c.ticket.ensures c.got_held.ensures c.in-Ok.ensures.records c.in-Ok.ensures.hands
 
 pub returns-in-Ok-clause-turns : goal.returns-in-Ok-clause-turns
 returns-in-Ok-clause-turns g c =
-    own_turned c.args.driver.now c.give_pass-pass.new.self c.give_held-held.new.self c.args.call c.give_pass-pass.result c.call_own.new.pass c.args.book.now c.call_own.new.self c.give_held-held.result c.call_own.new.held
+    own_turned c.args.driver.now c.give_pass-pass.new.self c.give_held-held.new.self c.args.call.now c.give_pass-pass.result c.call_own.new.pass c.args.book.now c.call_own.new.self c.give_held-held.result c.call_own.new.held
     c.requires.own c.requires.act c.give_pass-pass.ensures.pass c.requires.run c.requires.keeps c.give_pass-pass.ensures.run c.give_pass-pass.ensures.left c.give_held-held.ensures.held c.give_held-held.ensures.left
-    c.got_held.new.self c.in-Ok.reply c.ticket.result c.ticket.ensures c.got_held.ensures c.in-Ok.ensures.records c.in-Ok.ensures.hands
+    c.got_held.new.self c.call_own.new.out c.ticket.result c.ticket.ensures c.got_held.ensures c.in-Ok.ensures.records c.in-Ok.ensures.hands
     c.args.word c.got_reply.new.self c.in-Ok.ensures.refused c.in-Ok.ensures.choice c.in-Ok.ensures.done c.got_reply.ensures
 
 pub returns-in-Ok-clause-fits : goal.returns-in-Ok-clause-fits
 returns-in-Ok-clause-fits g c =
-    told_fits c.got_held.new.self c.got_reply.new.self (told.Replied c.in-Ok.reply) (Some c.call_own.new.pass) c.got_reply.ensures
-    (own_fits c.args.driver.now c.give_pass-pass.new.self c.give_held-held.new.self c.args.call c.give_pass-pass.result c.call_own.new.pass c.args.book.now c.call_own.new.self c.give_held-held.result c.call_own.new.held
+    told_fits c.got_held.new.self c.got_reply.new.self (told.Replied c.call_own.new.out) (Some c.call_own.new.pass) c.got_reply.ensures
+    (own_fits c.args.driver.now c.give_pass-pass.new.self c.give_held-held.new.self c.args.call.now c.give_pass-pass.result c.call_own.new.pass c.args.book.now c.call_own.new.self c.give_held-held.result c.call_own.new.held
     c.requires.own c.requires.act c.give_pass-pass.ensures.pass c.requires.run c.requires.keeps c.give_pass-pass.ensures.run c.give_pass-pass.ensures.left c.give_held-held.ensures.held c.give_held-held.ensures.left
-    c.got_held.new.self c.in-Ok.reply c.ticket.result c.ticket.ensures c.got_held.ensures c.in-Ok.ensures.records c.in-Ok.ensures.hands)
+    c.got_held.new.self c.call_own.new.out c.ticket.result c.ticket.ensures c.got_held.ensures c.in-Ok.ensures.records c.in-Ok.ensures.hands)
 
 -- Refused
 
 pub got_refusal-requires-clause-fits : goal.got_refusal-requires-clause-fits
 got_refusal-requires-clause-fits g c =
-    own_refused_fits c.args.driver.now c.give_pass-pass.new.self c.give_held-held.new.self c.args.call c.give_pass-pass.result c.call_own.new.pass c.args.book.now c.call_own.new.self c.give_held-held.result c.call_own.new.held
+    own_refused_fits c.args.driver.now c.give_pass-pass.new.self c.give_held-held.new.self c.args.call.now c.give_pass-pass.result c.call_own.new.pass c.args.book.now c.call_own.new.self c.give_held-held.result c.call_own.new.held
     c.requires.own c.requires.act c.give_pass-pass.ensures.pass c.requires.run c.requires.keeps c.give_pass-pass.ensures.run c.give_pass-pass.ensures.left c.give_held-held.ensures.held c.give_held-held.ensures.left
     c.got_held-in-Err.new.self c.in-Err.why c.got_held-in-Err.ensures c.requires.plain c.in-Err.ensures.err
 
 pub returns-in-Err-clause-turns : goal.returns-in-Err-clause-turns
 returns-in-Err-clause-turns g c =
-    own_refused c.args.driver.now c.give_pass-pass.new.self c.give_held-held.new.self c.args.call c.give_pass-pass.result c.call_own.new.pass c.args.book.now c.call_own.new.self c.give_held-held.result c.call_own.new.held
+    own_refused c.args.driver.now c.give_pass-pass.new.self c.give_held-held.new.self c.args.call.now c.give_pass-pass.result c.call_own.new.pass c.args.book.now c.call_own.new.self c.give_held-held.result c.call_own.new.held
     c.requires.own c.requires.act c.give_pass-pass.ensures.pass c.requires.run c.requires.keeps c.give_pass-pass.ensures.run c.give_pass-pass.ensures.left c.give_held-held.ensures.held c.give_held-held.ensures.left
     c.got_held-in-Err.new.self c.in-Err.why c.got_held-in-Err.ensures c.requires.plain c.in-Err.ensures.err
     c.args.word c.got_refusal.new.self c.in-Err.ensures.refused c.got_refusal.ensures
@@ -43,6 +43,6 @@ returns-in-Err-clause-turns g c =
 pub returns-in-Err-clause-fits : goal.returns-in-Err-clause-fits
 returns-in-Err-clause-fits g c =
     told_fits c.got_held-in-Err.new.self c.got_refusal.new.self (told.Refused c.in-Err.why) (Some c.call_own.new.pass) c.got_refusal.ensures
-    (own_refused_fits c.args.driver.now c.give_pass-pass.new.self c.give_held-held.new.self c.args.call c.give_pass-pass.result c.call_own.new.pass c.args.book.now c.call_own.new.self c.give_held-held.result c.call_own.new.held
+    (own_refused_fits c.args.driver.now c.give_pass-pass.new.self c.give_held-held.new.self c.args.call.now c.give_pass-pass.result c.call_own.new.pass c.args.book.now c.call_own.new.self c.give_held-held.result c.call_own.new.held
     c.requires.own c.requires.act c.give_pass-pass.ensures.pass c.requires.run c.requires.keeps c.give_pass-pass.ensures.run c.give_pass-pass.ensures.left c.give_held-held.ensures.held c.give_held-held.ensures.left
     c.got_held-in-Err.new.self c.in-Err.why c.got_held-in-Err.ensures c.requires.plain c.in-Err.ensures.err)

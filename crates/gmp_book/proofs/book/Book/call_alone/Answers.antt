@@ -14,35 +14,35 @@ use Rattle.gmp_book.proofs.book.Book.call_alone.Goals as goal
 pub invariant_of-self-2 : goal.invariant_of-self-2
 invariant_of-self-2 g c =
     let i = c.self.inside in
-    let k = c.in_ok-reply in
+    let k = c.in_ok-call in
     let a = c.args in
-    let moved = moves i.ledger.limits a.pass.now.m a.call k.reply i.ledger.state c.call.new.self.state k.ensures.records.step.1 in
-    let told = told_by (known_by a.call i.ledger.state.table) k.reply in
-    settled i.ledger c.call.new.self i.bodies i.owners c.self.invariant k.ensures.order a.pass.now c.call.new.pass no_values a.call k.reply c.requires.suits k.ensures.grants k.ensures.records
+    let moved = moves i.ledger.limits a.pass.now.m a.call.now c.call.new.out i.ledger.state c.call.new.self.state k.ensures.records.step.1 in
+    let told = told_by (known_by a.call.now i.ledger.state.table) c.call.new.out in
+    settled i.ledger c.call.new.self i.bodies i.owners c.self.invariant k.ensures.order a.pass.now c.call.new.pass no_values a.call.now c.call.new.out c.requires.suits k.ensures.grants k.ensures.records
     i.ledger.run told None None None i.bodies i.owners
-    (body_none (way_of k.reply) a.call a.pass.now.m i.ledger.state.table c.call.new.self.state.table i.ledger.run (claimed a.call) told i.bodies c.requires.still moved.0)
-    (owner_still k.reply a.call a.pass.now.m i.ledger.state.machines c.call.new.self.state.machines i.ledger.run i.owners c.requires.still moved.1)
+    (body_none (way_of c.call.new.out) a.call.now a.pass.now.m i.ledger.state.table c.call.new.self.state.table i.ledger.run (claimed a.call.now) told i.bodies c.requires.still moved.0)
+    (owner_still c.call.new.out a.call.now a.pass.now.m i.ledger.state.machines c.call.new.self.state.machines i.ledger.run i.owners c.requires.still moved.1)
 
 pub returns-clause-hands : goal.returns-clause-hands
 returns-clause-hands g c =
     let i = c.self.inside in
-    let k = c.in_ok-reply in
+    let k = c.in_ok-call in
     let a = c.args in
-    let moved = moves i.ledger.limits a.pass.now.m a.call k.reply i.ledger.state c.call.new.self.state k.ensures.records.step.1 in
-    let told = told_by (known_by a.call i.ledger.state.table) k.reply in
-    subst (λ (b : BookContents _ _). Hands a.call k.reply no_values (own_back b.log.run None k.reply) b (record { log = c.call.new.self; bodies = i.bodies; owners = i.owners })) c.self.view_is
+    let moved = moves i.ledger.limits a.pass.now.m a.call.now c.call.new.out i.ledger.state c.call.new.self.state k.ensures.records.step.1 in
+    let told = told_by (known_by a.call.now i.ledger.state.table) c.call.new.out in
+    subst (λ (b : BookContents _ _). Hands a.call.now c.call.new.out no_values (own_back b.log.run None c.call.new.out) b (record { log = c.call.new.self; bodies = i.bodies; owners = i.owners })) c.self.view_is
     (record {
       ticket = refl;
-      body = body_none (way_of k.reply) a.call a.pass.now.m i.ledger.state.table c.call.new.self.state.table i.ledger.run (claimed a.call) told i.bodies c.requires.still moved.0;
-      owner = owner_still k.reply a.call a.pass.now.m i.ledger.state.machines c.call.new.self.state.machines i.ledger.run i.owners c.requires.still moved.1;
+      body = body_none (way_of c.call.new.out) a.call.now a.pass.now.m i.ledger.state.table c.call.new.self.state.table i.ledger.run (claimed a.call.now) told i.bodies c.requires.still moved.0;
+      owner = owner_still c.call.new.out a.call.now a.pass.now.m i.ledger.state.machines c.call.new.self.state.machines i.ledger.run i.owners c.requires.still moved.1;
     })
 
 pub returns-clause-done : goal.returns-clause-done
 returns-clause-done g c =
     let i = c.self.inside in
-    let k = c.in_ok-reply in
+    let k = c.in_ok-call in
     let a = c.args in
     let g = goroutine_in nothing_handed in
     let p = processor_in nothing_handed in
-    subst (λ (b : BookContents _ _). IsDoneTo a.call a.pass.now.m g p k.reply b.log.state c.call.new.self.state) c.self.view_is
-    (done a.call i.ledger.limits a.pass.now.m g p k.reply i.ledger.state c.call.new.self.state k.ensures.order k.ensures.grants k.ensures.records.step)
+    subst (λ (b : BookContents _ _). IsDoneTo a.call.now a.pass.now.m g p c.call.new.out b.log.state c.call.new.self.state) c.self.view_is
+    (done a.call.now i.ledger.limits a.pass.now.m g p c.call.new.out i.ledger.state c.call.new.self.state k.ensures.order k.ensures.grants k.ensures.records.step)
