@@ -1,10 +1,13 @@
 -- What one try at a queue came to, as the act that the machine named.
 use Rattle.std.proofs.Common.{◌≡◌, ℕ, Bool, true, false, is_some, List, Option, None, Some, refl, sym, ap, subst, ◌∙◌}
+use Rattle.std.specs.Prelude.{IfSome}
 use Rattle.gmp_base.specs.declared.number.PNo.{PNo}
 use Rattle.gmp_driver.specs.declared.act.Act.{Act}
 use Rattle.gmp_driver.specs.declared.act.Act.TheVariants as act
+use Rattle.gmp_driver.specs.declared.act.Frequent.{Frequent}
 use Rattle.gmp_driver.specs.declared.act.Told.{Told}
 use Rattle.gmp_driver.specs.declared.registers.Registers.{Registers}
+use Rattle.gmp_driver.specs.Frequent.{act_of}
 use Rattle.gmp_driver.specs.Hunt.{begun, victim_of}
 use Rattle.gmp_driver.specs.Local.{IsSteal, pop_for}
 use Rattle.gmp_driver.specs.Machine.{Machine}
@@ -14,6 +17,10 @@ use Rattle.gmp_queue.specs.declared.ends.Owner.{Owner}
 use Rattle.gmp_queue.specs.declared.ends.Thief.{Thief}
 use Rattle.gmp_queue_turn.specs.Turns.{IsToldOf, PopsFor, Pushes, Steals, StealsFrom, Tries, TurnsOnQueue, drawn_for}
 use Rattle.rand_pcg.specs.Lcg.{Lcg}
+
+-- the act that is named in few bytes comes next
+pub is_named : {T : Type 0} (x : Machine T Owner) (f which : Frequent) → f ≡ which → IfSome (act_of f) (λ (a : Act). next_act x ≡ a) → IfSome (act_of which) (λ (a : Act). next_act x ≡ a)
+is_named x f which is named = subst (λ (h : Frequent). IfSome (act_of h) (λ (a : Act). next_act x ≡ a)) is named
 
 module _ {T : Type 0} (x now : Machine T Owner) (Step : Told → Registers T Owner → Type 0) (told : IsToldOf x Step now) where
   pub told_pass : now.pass ≡ x.pass

@@ -6,7 +6,7 @@ ghost use Rattle.gmp_driver.specs.Table.{next_act};
 ghost use Rattle.gmp_queue_turn.specs.Turns.{IsQueueAct, TurnsOnQueue, drawn_for};
 
 use crate::trying::{pop, push, steal};
-use gmp_driver::{Act, Driver};
+use gmp_driver::{Act, Driver, Frequent};
 use gmp_queue::{Owner, Thief};
 use rand_core::utils::next_u64_via_u32;
 use rand_pcg::Lcg64Xsh32;
@@ -16,6 +16,28 @@ use rand_pcg::Lcg64Xsh32;
 ///
 /// The thieves are this machine's, one for each queue, in order. The first steal of a hunt draws a word, by which its victim is chosen.
 pub fn queue_turn<T>(driver: &mut Driver<T, Owner>, thieves: &mut [Thief], random: &mut Lcg64Xsh32)
+    requires act { IsQueueAct (next_act driver.old) }
+    requires pass { IsSome driver.old.pass }
+    ensures turns { TurnsOnQueue driver.old thieves.old (drawn_for (next_act driver.old) random.old).0 driver.new thieves.new }
+    ensures random { random.new ≡ (drawn_for (next_act driver.old) random.old).1 }
+    ensures fits { SuitsPlace driver.new.place driver.new.hand }
+    ensures pass { driver.new.pass ≡ driver.old.pass }
+    ensures run { driver.new.run ≡ driver.old.run }
+{
+    match driver.frequent() {
+        Frequent::Pop => pop(driver, false),
+        Frequent::Push => push(driver),
+        _ => any_queue_turn(driver, thieves, random),
+    }
+}
+
+/// The same, whichever act comes next.
+#[inline(never)]
+fn any_queue_turn<T>(
+    driver: &mut Driver<T, Owner>,
+    thieves: &mut [Thief],
+    random: &mut Lcg64Xsh32,
+)
     requires act { IsQueueAct (next_act driver.old) }
     requires pass { IsSome driver.old.pass }
     ensures turns { TurnsOnQueue driver.old thieves.old (drawn_for (next_act driver.old) random.old).0 driver.new thieves.new }

@@ -6,9 +6,9 @@ ghost use Rattle.gmp_worker.specs.Turn.{IsAtBook, TakesTurn, drawn};
 
 use gmp_base::MNo;
 use gmp_book::Book;
-use gmp_driver::{Act, Driver};
+use gmp_driver::{Act, Driver, Frequent};
 use gmp_seq::Call;
-use gmp_turn::{surrender, woken};
+use gmp_turn::{frequent_turn, surrender, woken};
 use rand_core::utils::next_u64_via_u32;
 use rand_pcg::Lcg64Xsh32;
 use std::alloc::Global;
@@ -16,6 +16,30 @@ use std::alloc::Global;
 /// Makes the call of the book or the surrender that the driver's machine names next, and answers the machine to wake. A select draws its
 /// word, and a make is handed memory.
 pub fn turn<T, Q>(
+    memory: Option<Global>,
+    driver: &mut Driver<T, Q>,
+    book: &mut Book<T, Q>,
+    random: &mut Lcg64Xsh32,
+) -> Option<MNo>
+    requires act { IsAtBook (next_act driver.old) }
+    requires memory { HasMemory (next_act driver.old) memory }
+    requires pass { IsSome driver.old.pass }
+    requires run { driver.old.run ≡ book.old.log.run }
+    ensures turn { TakesTurn (next_act driver.old) driver.old book.old random.old result driver.new book.new random.new }
+    ensures pass { IsSome driver.new.pass }
+    ensures run { driver.new.run ≡ book.new.log.run }
+{
+    match driver.frequent() {
+        Frequent::Other => any_turn(memory, driver, book, random),
+        Frequent::Pop | Frequent::Push | Frequent::Resume => unreachable!(),
+        which => frequent_turn(driver, book, which),
+    }
+}
+
+/// The same, whichever act comes next.
+// Not inlined: whoever makes a frequent call looks at no wide one.
+#[inline(never)]
+fn any_turn<T, Q>(
     memory: Option<Global>,
     driver: &mut Driver<T, Q>,
     book: &mut Book<T, Q>,

@@ -7,6 +7,7 @@ use gmp_base::{Ask, Body, Woke};
 pub type Boxed = Box<dyn Body + Send>;
 
 /// Resumes the body in the box.
+#[inline(always)]
 pub fn resume_boxed(body: &mut Boxed, woke: Woke) -> Ask
     ensures { (left : _) × (body.new ≡ record body.old { value = left }) × resumed body.old woke result left }
 {

@@ -9,11 +9,28 @@ ghost use Rattle.gmp_driver.specs.Table.{after, next_act};
 ghost use Rattle.gmp_worker.specs.Local.{CalledWhere, HeldWhere, IsOfBodyOrClock};
 
 use crate::bodies::{Boxed, block_boxed, resume_boxed};
-use gmp_driver::{Act, Driver, Told};
+use gmp_driver::{Act, Driver, Frequent, Told};
 
 /// Resumes the body of the goroutine that the driver's machine runs, or makes the blocking call of the one in it, or tells the machine this
 /// moment as the clock's reading, whichever the driver names next.
 pub fn local_turn<Q>(driver: &mut Driver<Boxed, Q>, moment: u64)
+    requires act { IsOfBodyOrClock (next_act driver.old) }
+    requires pass { IsSome driver.old.pass }
+    ensures resumes { next_act driver.old ≡ act.Resume → HeldWhere driver.old (λ h. (ask : Ask) × (left : _) × resumed h.body h.woke ask left × (driver.new ≡ after (with_body driver.old (record h.body { value = left })) (told.Asked ask))) }
+    ensures blocks { next_act driver.old ≡ act.Block → CalledWhere driver.old (λ c. (number : ℕ) × (left : _) × blocked c.body number left × (driver.new ≡ after (with_body driver.old (record c.body { value = left })) (told.Number number))) }
+    ensures reads { (minded : Option ℕ) → next_act driver.old ≡ act.Clock minded → driver.new ≡ after driver.old (told.Moment moment) }
+    ensures pass { driver.new.pass ≡ driver.old.pass }
+    ensures run { driver.new.run ≡ driver.old.run }
+{
+    match driver.frequent() {
+        Frequent::Resume => resume(driver),
+        _ => any_local_turn(driver, moment),
+    }
+}
+
+/// The same, whichever act comes next.
+#[inline(never)]
+fn any_local_turn<Q>(driver: &mut Driver<Boxed, Q>, moment: u64)
     requires act { IsOfBodyOrClock (next_act driver.old) }
     requires pass { IsSome driver.old.pass }
     ensures resumes { next_act driver.old ≡ act.Resume → HeldWhere driver.old (λ h. (ask : Ask) × (left : _) × resumed h.body h.woke ask left × (driver.new ≡ after (with_body driver.old (record h.body { value = left })) (told.Asked ask))) }
@@ -39,11 +56,14 @@ fn resume<Q>(driver: &mut Driver<Boxed, Q>)
     ensures pass { driver.new.pass ≡ driver.old.pass }
     ensures run { driver.new.run ≡ driver.old.run }
 {
-    let ask = match (driver.held(), driver.body()) {
-        (Some(woke), Some(body)) => resume_boxed(body, woke),
-        _ => unreachable!(),
+    let Some(woke) = driver.held() else {
+        unreachable!()
     };
-    driver.tell(Told::Asked(ask));
+    let Some(body) = driver.body() else {
+        unreachable!()
+    };
+    let ask = resume_boxed(body, woke);
+    driver.tell_asked(ask);
 }
 
 /// Makes the blocking call of the body in it, and tells the machine the number.

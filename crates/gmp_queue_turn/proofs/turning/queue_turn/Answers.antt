@@ -1,32 +1,22 @@
-use Rattle.std.proofs.Common.{◌∙◌, None, false, true, refl, sym, ap, subst}
-use Rattle.gmp_driver.specs.declared.act.Act.{Act}
+use Rattle.std.proofs.Common.{false, refl}
 use Rattle.gmp_driver.specs.declared.act.Act.TheVariants as act
-use Rattle.gmp_driver.specs.Machine.{Machine}
+use Rattle.gmp_driver.specs.declared.act.Frequent.TheVariants as frequent
 use Rattle.gmp_driver.specs.Table.{next_act}
-use Rattle.gmp_queue_turn.specs.Turns.{PopsFor, Pushes, StealsFrom, TurnsOnQueue, drawn_for}
-use Rattle.gmp_queue_turn.proofs.Turned.{is_steal, popped, pushed, stole, told_pass, told_run, undrawn}
+use Rattle.gmp_queue_turn.specs.Turns.{PopsFor, Pushes, drawn_for}
+use Rattle.gmp_queue_turn.proofs.Turned.{is_named, popped, pushed, told_pass, told_run, undrawn}
 use Rattle.gmp_queue_turn.proofs.turning.queue_turn.Goals as goal
 
 pub pop-requires-clause-next : goal.pop-requires-clause-next
-pop-requires-clause-next g c = sym c.next.ensures.act ∙ c.in-Pop.is
-
-pub pop-requires-in-Drain-clause-next : goal.pop-requires-in-Drain-clause-next
-pop-requires-in-Drain-clause-next g c = sym c.next.ensures.act ∙ c.in-Drain.is
+pop-requires-clause-next g c = is_named c.args.driver.now _ frequent.Pop c.in-Pop.is c.frequent.ensures.act
 
 pub push-requires-clause-next : goal.push-requires-clause-next
-push-requires-clause-next g c = sym c.next.ensures.act ∙ c.in-Push.is
-
-pub hunt-requires-clause-next : goal.hunt-requires-clause-next
-hunt-requires-clause-next g c = sym c.next.ensures.act ∙ c.in-Hunt.is
-
-pub steal-requires-clause-next : goal.steal-requires-clause-next
-steal-requires-clause-next g c = is_steal _ None (act.Steal c.in-Steal.victim) (sym c.next.ensures.act ∙ c.in-Steal.is) tt
+push-requires-clause-next g c = is_named c.args.driver.now _ frequent.Push c.in-Push.is c.frequent.ensures.act
 
 pub returns-in-Pop-clause-turns : goal.returns-in-Pop-clause-turns
-returns-in-Pop-clause-turns g c = popped c.args.driver.now c.pop.new.driver (drawn_for (next_act c.args.driver.now) c.args.random.now).0 c.args.thieves.now false (sym c.next.ensures.act ∙ c.in-Pop.is) c.pop.ensures.pops
+returns-in-Pop-clause-turns g c = popped c.args.driver.now c.pop.new.driver (drawn_for (next_act c.args.driver.now) c.args.random.now).0 c.args.thieves.now false (is_named c.args.driver.now _ frequent.Pop c.in-Pop.is c.frequent.ensures.act) c.pop.ensures.pops
 
 pub returns-in-Pop-clause-random : goal.returns-in-Pop-clause-random
-returns-in-Pop-clause-random g c = undrawn (next_act c.args.driver.now) act.Pop c.args.random.now (sym c.next.ensures.act ∙ c.in-Pop.is) refl
+returns-in-Pop-clause-random g c = undrawn (next_act c.args.driver.now) act.Pop c.args.random.now (is_named c.args.driver.now _ frequent.Pop c.in-Pop.is c.frequent.ensures.act) refl
 
 pub returns-in-Pop-clause-pass : goal.returns-in-Pop-clause-pass
 returns-in-Pop-clause-pass g c = told_pass c.args.driver.now c.pop.new.driver (PopsFor false c.args.driver.now.run c.args.driver.now.hand) c.pop.ensures.pops
@@ -34,23 +24,11 @@ returns-in-Pop-clause-pass g c = told_pass c.args.driver.now c.pop.new.driver (P
 pub returns-in-Pop-clause-run : goal.returns-in-Pop-clause-run
 returns-in-Pop-clause-run g c = told_run c.args.driver.now c.pop.new.driver (PopsFor false c.args.driver.now.run c.args.driver.now.hand) c.pop.ensures.pops
 
-pub returns-in-Drain-clause-turns : goal.returns-in-Drain-clause-turns
-returns-in-Drain-clause-turns g c = popped c.args.driver.now c.pop-in-Drain.new.driver (drawn_for (next_act c.args.driver.now) c.args.random.now).0 c.args.thieves.now true (sym c.next.ensures.act ∙ c.in-Drain.is) c.pop-in-Drain.ensures.pops
-
-pub returns-in-Drain-clause-random : goal.returns-in-Drain-clause-random
-returns-in-Drain-clause-random g c = undrawn (next_act c.args.driver.now) act.Drain c.args.random.now (sym c.next.ensures.act ∙ c.in-Drain.is) refl
-
-pub returns-in-Drain-clause-pass : goal.returns-in-Drain-clause-pass
-returns-in-Drain-clause-pass g c = told_pass c.args.driver.now c.pop-in-Drain.new.driver (PopsFor true c.args.driver.now.run c.args.driver.now.hand) c.pop-in-Drain.ensures.pops
-
-pub returns-in-Drain-clause-run : goal.returns-in-Drain-clause-run
-returns-in-Drain-clause-run g c = told_run c.args.driver.now c.pop-in-Drain.new.driver (PopsFor true c.args.driver.now.run c.args.driver.now.hand) c.pop-in-Drain.ensures.pops
-
 pub returns-in-Push-clause-turns : goal.returns-in-Push-clause-turns
-returns-in-Push-clause-turns g c = pushed c.args.driver.now c.push.new.driver (drawn_for (next_act c.args.driver.now) c.args.random.now).0 c.args.thieves.now (sym c.next.ensures.act ∙ c.in-Push.is) c.push.ensures.pushes
+returns-in-Push-clause-turns g c = pushed c.args.driver.now c.push.new.driver (drawn_for (next_act c.args.driver.now) c.args.random.now).0 c.args.thieves.now (is_named c.args.driver.now _ frequent.Push c.in-Push.is c.frequent.ensures.act) c.push.ensures.pushes
 
 pub returns-in-Push-clause-random : goal.returns-in-Push-clause-random
-returns-in-Push-clause-random g c = undrawn (next_act c.args.driver.now) act.Push c.args.random.now (sym c.next.ensures.act ∙ c.in-Push.is) refl
+returns-in-Push-clause-random g c = undrawn (next_act c.args.driver.now) act.Push c.args.random.now (is_named c.args.driver.now _ frequent.Push c.in-Push.is c.frequent.ensures.act) refl
 
 pub returns-in-Push-clause-pass : goal.returns-in-Push-clause-pass
 returns-in-Push-clause-pass g c = told_pass c.args.driver.now c.push.new.driver (Pushes c.args.driver.now.run c.args.driver.now.hand) c.push.ensures.pushes
@@ -58,26 +36,3 @@ returns-in-Push-clause-pass g c = told_pass c.args.driver.now c.push.new.driver 
 pub returns-in-Push-clause-run : goal.returns-in-Push-clause-run
 returns-in-Push-clause-run g c = told_run c.args.driver.now c.push.new.driver (Pushes c.args.driver.now.run c.args.driver.now.hand) c.push.ensures.pushes
 
-pub returns-in-Steal-clause-turns : goal.returns-in-Steal-clause-turns
-returns-in-Steal-clause-turns g c = stole c.args.driver.now c.steal.new.driver (drawn_for (next_act c.args.driver.now) c.args.random.now).0 c.args.thieves.now c.in-Steal.victim c.steal.new.thieves (sym c.next.ensures.act ∙ c.in-Steal.is) c.steal.ensures.steals
-
-pub returns-in-Steal-clause-random : goal.returns-in-Steal-clause-random
-returns-in-Steal-clause-random g c = undrawn (next_act c.args.driver.now) (act.Steal c.in-Steal.victim) c.args.random.now (sym c.next.ensures.act ∙ c.in-Steal.is) refl
-
-pub returns-in-Steal-clause-pass : goal.returns-in-Steal-clause-pass
-returns-in-Steal-clause-pass g c = told_pass c.args.driver.now c.steal.new.driver (StealsFrom c.args.driver.now None c.in-Steal.victim c.args.thieves.now c.steal.new.thieves) c.steal.ensures.steals
-
-pub returns-in-Steal-clause-run : goal.returns-in-Steal-clause-run
-returns-in-Steal-clause-run g c = told_run c.args.driver.now c.steal.new.driver (StealsFrom c.args.driver.now None c.in-Steal.victim c.args.thieves.now c.steal.new.thieves) c.steal.ensures.steals
-
-pub returns-in-Hunt-clause-turns : goal.returns-in-Hunt-clause-turns
-returns-in-Hunt-clause-turns g c = subst (λ (a : Act). TurnsOnQueue c.args.driver.now c.args.thieves.now (drawn_for a c.args.random.now).0 c.hunt.new.driver c.hunt.new.thieves) (sym c.in-Hunt.is ∙ c.next.ensures.act) c.hunt.ensures.turns
-
-pub returns-in-Hunt-clause-random : goal.returns-in-Hunt-clause-random
-returns-in-Hunt-clause-random g c = c.hunt.ensures.random ∙ ap (λ (a : Act). (drawn_for a c.args.random.now).1) (sym c.in-Hunt.is ∙ c.next.ensures.act)
-
-pub returns-in-Hunt-clause-pass : goal.returns-in-Hunt-clause-pass
-returns-in-Hunt-clause-pass g c = ap (λ (x : Machine _ _). x.pass) c.hunt.ensures.turns.machine
-
-pub returns-in-Hunt-clause-run : goal.returns-in-Hunt-clause-run
-returns-in-Hunt-clause-run g c = ap (λ (x : Machine _ _). x.run) c.hunt.ensures.turns.machine

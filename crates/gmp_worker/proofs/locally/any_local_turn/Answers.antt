@@ -1,5 +1,5 @@
 use Rattle.std.proofs.Common.{rules}
-use Rattle.gmp_worker.proofs.locally.local_turn.Goals as goal
+use Rattle.gmp_worker.proofs.locally.any_local_turn.Goals as goal
 
 pub returns-in-Resume-clause-resumes : goal.returns-in-Resume-clause-resumes
 returns-in-Resume-clause-resumes g c = search rules
