@@ -14,13 +14,43 @@ use crate::queues::Queues;
 use gmp_acts::Choice;
 use gmp_base::MNo;
 use gmp_book::Book;
-use gmp_driver::{Act, Driver, Told};
-use gmp_turn::{memory_at, surrender, turn};
+use gmp_driver::{Act, Driver, Frequent, Told};
+use gmp_turn::{frequent_turn, memory_at, surrender, turn};
 use std::alloc::Global;
 
 /// Makes the act that machine m's program names next.
 #[inline(always)]
 pub(crate) fn act<T>(
+    alloc: Global,
+    driver: &mut Driver<T, ()>,
+    book: &mut Book<T, ()>,
+    queues: &mut Queues,
+    m: MNo,
+    choice: &Choice,
+)
+    requires pass { IsSome driver.old.pass }
+    requires run { driver.old.run ≡ book.old.log.run }
+    // A ticket to store finds room.
+    requires room { (r : Readiness) → driver.old.hand.to_store ≡ Some r → (p : PNo) → own_processor driver.old.hand ≡ Some p
+        → (p.0 < length queues.old.queues) × (length (slice_index_or queues.old.queues p.0 []) < queues.old.room) }
+    ensures does { Does (next_act driver.old) m choice.now (record { machine = driver.old; book = book.old; rings = queues.old })
+        (record { machine = driver.new; book = book.new; rings = queues.new }) }
+{
+    match driver.frequent() {
+        Frequent::Pop => pop(driver, queues, false),
+        Frequent::Push => push(driver, queues, choice.push_refused),
+        Frequent::Resume => driver.tell_asked(copied_ask(&choice.ask)),
+        Frequent::Other => any_act(alloc, driver, book, queues, m, choice),
+        which => {
+            let _ = frequent_turn(driver, book, which, choice.word);
+        }
+    }
+}
+
+/// The same, whichever act comes next.
+// Not inlined: whoever makes a frequent act looks at no wide one.
+#[inline(never)]
+fn any_act<T>(
     alloc: Global,
     driver: &mut Driver<T, ()>,
     book: &mut Book<T, ()>,

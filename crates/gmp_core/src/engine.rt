@@ -1,12 +1,13 @@
 //! The core.
 ghost use Rattle.std.specs.Borrow.{sem};
-ghost use Rattle.std.specs.Prelude.{◌≡◌, All, Some, false, is_some, length, map, slice_get, IfErr, IfOk, IfSome, OnOk};
+ghost use Rattle.std.specs.Prelude.{◌≡◌, All, Some, false, is_some, length, map, slice_get, IfErr, IfOk, IfSome, IsSome, OnOk};
 ghost use Rattle.std.specs.Option.{option_map_or};
 ghost use Rattle.gmp_seq.specs.Fits.{AreLimits, Fits};
 ghost use Rattle.gmp_seq.specs.Machines.{is_parked_mode};
 ghost use Rattle.gmp_book.specs.Book.{WhyUnopened};
 ghost use Rattle.gmp_acts.specs.System.{made_of};
 ghost use Rattle.gmp_core.specs.Whole.{wanted_by};
+ghost use Rattle.gmp_driver.specs.Table.{next_act};
 
 use crate::acting::act;
 use crate::copies::has_few;
@@ -16,7 +17,7 @@ use crate::want::Want;
 use gmp_acts::Choice;
 use gmp_base::{MNo, Refusal, Refused, Woke};
 use gmp_book::{Book, Unopened};
-use gmp_driver::{Act, Driver};
+use gmp_driver::{Act, Driver, Frequent};
 use gmp_history::History;
 use gmp_seq::{Limits, Outcome};
 use std::alloc::Global;
@@ -60,13 +61,33 @@ fn wanted(act: Act) -> Want
     }
 }
 
+/// What the machine's next act reads of a choice.
+#[inline(always)]
+fn wanted_next<T>(driver: &Driver<T, ()>) -> Want
+    requires { IsSome driver.now.pass }
+    ensures { result ≡ wanted_by (next_act driver.now) }
+{
+    match driver.frequent() {
+        Frequent::Resume => Want::Ask,
+        Frequent::Other => wanted_of_any(driver),
+        _ => Want::Nothing,
+    }
+}
+
+#[inline(never)]
+fn wanted_of_any<T>(driver: &Driver<T, ()>) -> Want
+    requires { IsSome driver.now.pass }
+    ensures { result ≡ wanted_by (next_act driver.now) }
+{
+    wanted(driver.next())
+}
+
 impl<T> Core<T> {
     ghost use Rattle.gmp_acts.specs.Acts.{Acts, ActsAll};
     ghost use Rattle.gmp_acts.specs.Headline.{NoClaimIsRefused, SameOpening, opening_system};
     ghost use Rattle.gmp_acts.specs.Lookouts.{NoWorkIsAsleep};
     ghost use Rattle.gmp_acts.specs.System.{machine_at};
     ghost use Rattle.gmp_driver.specs.Machine.{held_at, is_done};
-    ghost use Rattle.gmp_driver.specs.Table.{next_act};
     ghost use Rattle.gmp_core.specs.Lending.{lends_body};
     ghost use Rattle.gmp_core.specs.Whole.{GrantsAll, HeadlineOf, IsBodyInHand, NoCallIsRefused, TakesFixed, is_of_body};
 
@@ -187,7 +208,7 @@ impl<T> Core<T> {
         ensures body { is_of_body result ≡ is_some (held_at (machine_at self.now.system m).place (machine_at self.now.system m).hand.held) }
     {
         match self.drivers.get(m.0 as usize) {
-            Some(driver) => wanted(driver.next()),
+            Some(driver) => wanted_next(driver),
             None => Want::Nothing,
         }
     }

@@ -114,11 +114,7 @@ fn chosen(
 /// The call made brief. What a select asks goes last among the choosings. Of a call that is known to be plain, which is no select, no wide
 /// arm is compiled in.
 #[inline(always)]
-pub(crate) fn brief_call(
-    choosings: &mut Vec<Choosing>,
-    call: &Call,
-    is_plain: bool,
-) -> BriefCall
+pub(crate) fn brief_call(choosings: &mut Vec<Choosing>, call: &Call, is_plain: bool) -> BriefCall
     requires plain { is_plain ≡ true → is_select call.now ≡ false }
     requires room { length choosings.old.items < vec_capacity choosings.old }
     requires few { length choosings.old.items < 2 ^ 32 }

@@ -33,11 +33,7 @@ pub fn queue_turn<T>(driver: &mut Driver<T, Owner>, thieves: &mut [Thief], rando
 
 /// The same, whichever act comes next.
 #[inline(never)]
-fn any_queue_turn<T>(
-    driver: &mut Driver<T, Owner>,
-    thieves: &mut [Thief],
-    random: &mut Lcg64Xsh32,
-)
+fn any_queue_turn<T>(driver: &mut Driver<T, Owner>, thieves: &mut [Thief], random: &mut Lcg64Xsh32)
     requires act { IsQueueAct (next_act driver.old) }
     requires pass { IsSome driver.old.pass }
     ensures turns { TurnsOnQueue driver.old thieves.old (drawn_for (next_act driver.old) random.old).0 driver.new thieves.new }

@@ -35,8 +35,8 @@
 use crate::processors::Processors;
 use crate::set::Set;
 use gmp_base::{GNo, MNo};
-use gmp_history::History;
-use gmp_seq::{Call, Entry, Reply};
+use gmp_history::{BriefCall, BriefReply, History};
+use gmp_seq::Call;
 use std::alloc::{AllocError, Global};
 
 /// What a machine at Mind does.
@@ -59,12 +59,15 @@ fn is_before(a: Option<u64>, b: Option<u64>) -> bool {
     }
 }
 
-/// Until when a goroutine waits by this call.
-fn deadline_in(call: &Call) -> Option<u64> {
-    match call {
-        Call::Sleep(until) => Some(*until),
-        Call::Select(_, _, until) => *until,
-        _ => None,
+/// Until when the goroutine of the last entry's select waits.
+#[inline(never)]
+fn select_deadline(history: &History) -> Option<u64> {
+    match history.last() {
+        Some(entry) => match entry.call {
+            Call::Select(_, _, until) => until,
+            _ => None,
+        },
+        None => None,
     }
 }
 
@@ -186,78 +189,98 @@ impl Watch {
     }
 
     /// Notes the last entry, unless it is noted.
+    #[inline(always)]
     pub fn note_last(&mut self, history: &History) {
         if history.len() > self.noted {
             self.noted = history.len();
-            if let Some(entry) = history.last() {
-                self.note(&entry);
+            if let Some((m, call, reply)) = history.last_brief() {
+                self.note(m, call, reply, history);
             }
         }
     }
 
-    /// Notes an entry: where machines stand, and which processors are held. One that is told to look again looks as before.
-    fn note(&mut self, entry: &Entry) {
-        let m = entry.m;
+    /// Notes an entry: where machines stand, and which goroutines are ready and which run. One that is told to look again looks as before. A
+    /// ticket that is put onto the shelf was ready before.
+    #[inline(always)]
+    fn note(&mut self, m: MNo, call: BriefCall, reply: BriefReply, history: &History) {
         if self.owes.has(m) {
             self.owes = self.owes.without(m);
             self.more_ready(1);
         }
-        match entry.reply {
-            Reply::Proc(p) => {
+        match (reply, call) {
+            (BriefReply::Held, BriefCall::Claim(g, _)) => self.claim(m, g),
+            (BriefReply::Ticket(_, _), BriefCall::Take) => {}
+            (BriefReply::Nothing, BriefCall::Take | BriefCall::Poke) => {}
+            (BriefReply::Sent | BriefReply::Got(_, _), _) => {}
+            (BriefReply::Shelved(_, _), _) => {
+                self.look(m);
+                self.more_ready(1);
+            }
+            (
+                BriefReply::Ticket(_, _)
+                | BriefReply::SentTo(_, _)
+                | BriefReply::GotFrom(_, _, _)
+                | BriefReply::ChoseSentTo(_, _, _)
+                | BriefReply::ChoseGotFrom(_, _, _, _),
+                _,
+            ) => self.owes = self.owes.with(m),
+            (BriefReply::Waits, BriefCall::Send(_, _) | BriefCall::Recv(_)) => {
+                self.look(m);
+                self.sleeps(m, None);
+            }
+            _ => self.note_rare(m, call, reply, history),
+        }
+    }
+
+    /// The same of what seldom comes: also which processors are held and active, and until when goroutines wait. Where a select waits, its
+    /// deadline is in the history.
+    #[inline(never)]
+    fn note_rare(&mut self, m: MNo, call: BriefCall, reply: BriefReply, history: &History) {
+        match (reply, call) {
+            (BriefReply::Proc(p), _) => {
                 self.look(m);
                 self.processors.hold(p);
             }
-            Reply::Nothing if matches!(entry.call, Call::Acquire) => self.look(m),
-            Reply::Runs(p) => {
+            (BriefReply::Nothing, BriefCall::Acquire) => self.look(m),
+            (BriefReply::Runs(p), _) => {
                 self.run(m);
                 self.processors.hold(p);
             }
-            Reply::Idle(p) => self.processors.release(p),
-            Reply::Entered(p, woken) => {
+            (BriefReply::Idle(p), _) => self.processors.release(p),
+            (BriefReply::Entered(p, woken), _) => {
                 self.goes(m);
                 self.processors.release(p);
                 if let Some(n) = woken {
                     self.look(n);
                 }
             }
-            Reply::Wakes(n) => self.look(n),
-            Reply::Parked => self.goes(m),
-            Reply::Mind(until) => {
+            (BriefReply::Wakes(n), _) => self.look(n),
+            (BriefReply::Parked, _) => self.goes(m),
+            (BriefReply::Mind(until), _) => {
                 self.goes(m);
                 self.waits = self.waits.with(m);
                 self.least = Some(until);
             }
-            _ => self.note_goroutines(entry),
-        }
-    }
-
-    /// Notes an entry: which goroutines are ready, which run, and what they wait for, and how many processors are active. A ticket that is
-    /// put onto the shelf was ready before.
-    fn note_goroutines(&mut self, entry: &Entry) {
-        let m = entry.m;
-        match (entry.reply, &entry.call) {
-            (Reply::Held, Call::Claim(ticket)) => self.claim(m, ticket.g),
-            (Reply::Ticket(_), Call::Take) => {}
-            (Reply::Closed(count), _) => self.more_ready(count),
-            (Reply::Woke(count), Call::Tick(moment)) => {
+            (BriefReply::Closed(count), _) => self.more_ready(count),
+            (BriefReply::Woke(count), BriefCall::Tick(moment)) => {
                 self.more_ready(count);
-                self.ticked(*moment);
+                self.ticked(moment);
             }
-            (Reply::Shelved(_), _) => {
+            (BriefReply::Waits, BriefCall::Sleep(until)) => {
                 self.look(m);
-                self.more_ready(1);
+                self.sleeps(m, Some(until));
             }
-            (Reply::Waits, call) => {
+            (BriefReply::Waits, BriefCall::Select(_)) => {
                 self.look(m);
-                self.sleeps(m, deadline_in(call));
+                self.sleeps(m, select_deadline(history));
             }
-            (Reply::Dead, _) => self.look(m),
-            (Reply::Number(_), Call::Procs(active)) => self.processors.set_active(*active),
-            (reply, _) => {
-                if reply.ticket().is_some() {
-                    self.owes = self.owes.with(m);
-                }
+            (BriefReply::Waits, _) => {
+                self.look(m);
+                self.sleeps(m, None);
             }
+            (BriefReply::Dead, _) => self.look(m),
+            (BriefReply::Number(_), BriefCall::Procs(active)) => self.processors.set_active(active),
+            (_, _) => {}
         }
     }
 

@@ -12,7 +12,7 @@ use crate::set::Set;
 use crate::shared::Shared;
 use crate::watch::Stay;
 use crossbeam_utils::sync::Unparker;
-use gmp_driver::Act;
+use gmp_driver::{Act, Frequent};
 use gmp_ledger::memory_for;
 use gmp_seq::Call;
 use std::alloc::Global;
@@ -68,12 +68,17 @@ impl<'a, T: Drop, C: Clock, G: Gate, L: RunLedger> Floor<'a, T, C, G, L> {
             if woken.is_some() {
                 break;
             }
-            match machine.driver.next() {
-                // At Rest a machine waits first, and no thread waits with the lock.
-                Act::Call(Call::Woken) => break,
-                Act::Call(call) => woken = bench.turn(memory_for(&call, alloc), machine),
-                Act::Pop | Act::Drain | Act::Push => machine.queue_turn(),
-                _ => break,
+            match machine.driver.frequent() {
+                Frequent::Pop | Frequent::Push => machine.queue_turn(),
+                Frequent::Resume => break,
+                Frequent::Other => match machine.driver.next() {
+                    // At Rest a machine waits first, and no thread waits with the lock.
+                    Act::Call(Call::Woken) => break,
+                    Act::Call(call) => woken = bench.turn(memory_for(&call, alloc), machine),
+                    Act::Drain => machine.queue_turn(),
+                    _ => break,
+                },
+                _ => woken = bench.turn(None, machine),
             }
         }
         let told = bench.settle(machine.m);
@@ -101,7 +106,21 @@ impl<'a, T: Drop, C: Clock, G: Gate, L: RunLedger> Floor<'a, T, C, G, L> {
 }
 
 impl<'a, T: Runs, C: Clock, G: Gate, L: RunLedger> Floor<'a, T, C, G, L> {
+    /// Makes the act that comes next, if it is one of those that come most often.
+    #[inline(always)]
+    fn make_frequent<R: Wait>(&self, rt: &R, alloc: Global, machine: &mut Machine<T, L>) -> bool {
+        match machine.driver.frequent() {
+            Frequent::Pop | Frequent::Push => machine.queue_turn(),
+            Frequent::Resume => machine.local_turn(0),
+            Frequent::Other => return false,
+            _ => self.at_book(rt, alloc, None, machine),
+        }
+        true
+    }
+
     /// Makes the act that the machine's driver names next.
+    // Not inlined: whoever makes a frequent act pays for no local of another.
+    #[inline(never)]
     fn make<R: Wait>(&self, rt: &R, alloc: Global, machine: &mut Machine<T, L>, act: Act)
         requires { act ≡ next_act machine.old.driver }
     {
@@ -155,6 +174,10 @@ pub(crate) fn worker<T: Runs, R: Wait, C: Clock, G: Gate, L: RunLedger>(
     };
     let mut over = false;
     for _ in rt.forever() {
+        // Where the gate is open it need not be told, and no wide act is made.
+        if floor.gate.is_open() && floor.make_frequent(rt, alloc, &mut machine) {
+            continue;
+        }
         let act = machine.driver.next();
         // Where the run is over, surrenders come next, and then nothing.
         if !over && matches!(act, Act::Surrender(_) | Act::Nothing) {

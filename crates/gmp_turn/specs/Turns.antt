@@ -99,9 +99,9 @@ abbrev pub woken_by : Result Reply Refusal → Option MNo
 woken_by (Ok answer) = woken_in answer
 woken_by (Err why) = None
 
--- the call, which draws no word, was made or refused, and this machine is to be woken
-abbrev pub Wakes : {T Q : Type 0} → Machine T Q → BookContents T Q → Call → Option MNo → Machine T Q → BookContents T Q → Type 0
-Wakes x book asked woken x' book' = (result : Result Reply Refusal) × Turns x book asked 0 result x' book' × (woken ≡ woken_by result)
+-- the call was made or refused, and this machine is to be woken
+abbrev pub Wakes : {T Q : Type 0} → Machine T Q → BookContents T Q → Call → ℕ → Option MNo → Machine T Q → BookContents T Q → Type 0
+Wakes x book asked word woken x' book' = (result : Result Reply Refusal) × Turns x book asked word result x' book' × (woken ≡ woken_by result)
 
 -- is it a call of the book
 abbrev pub is_call : Frequent → Bool

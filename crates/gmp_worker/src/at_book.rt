@@ -32,7 +32,7 @@ pub fn turn<T, Q>(
     match driver.frequent() {
         Frequent::Other => any_turn(memory, driver, book, random),
         Frequent::Pop | Frequent::Push | Frequent::Resume => unreachable!(),
-        which => frequent_turn(driver, book, which),
+        which => frequent_turn(driver, book, which, 0),
     }
 }
 

@@ -85,12 +85,7 @@ impl<T, Q> Book<T, Q> {
 
     /// Puts a ticket of the run onto the shelf, last.
     #[inline(always)]
-    pub fn put_in(
-        &mut self,
-        pass: &mut Pass,
-        r: Readiness,
-        out: &mut Reply,
-    ) -> Result<(), Refusal>
+    pub fn put_in(&mut self, pass: &mut Pass, r: Readiness, out: &mut Reply) -> Result<(), Refusal>
         ensures refused { Says (WantsMemory self.old.log.limits (Call.Put r) self.old.log.state) (refusal_of self.old.log pass.old (Call.Put r) (ticket_handed self.old.log.run r)) (refusal_in result) }
         ensures err { OnErr result ((self.new ≡ self.old) × (pass.new ≡ pass.old)) }
         ensures records { OnOk result (Records self.old.log pass.old (Call.Put r) out.new self.new.log pass.new) }

@@ -35,4 +35,3 @@ returns-in-Push-clause-pass g c = told_pass c.args.driver.now c.push.new.driver 
 
 pub returns-in-Push-clause-run : goal.returns-in-Push-clause-run
 returns-in-Push-clause-run g c = told_run c.args.driver.now c.push.new.driver (Pushes c.args.driver.now.run c.args.driver.now.hand) c.push.ensures.pushes
-

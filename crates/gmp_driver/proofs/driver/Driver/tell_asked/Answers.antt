@@ -10,8 +10,13 @@ invariant_of-self g c =
     let i = c.self.inside in
     let sees = seen_of i.procs i.fresh i.turns i.hand in
     let kept = c.self.invariant in
-    record { some_procs = kept.some_procs; few_procs = kept.few_procs; few_turns = kept.few_turns; pass = kept.pass;
-      fits = λ out. rw (c.ask_on.ensures sees) (asked_fits sees i.place c.args.ask i.hand (kept.fits out)) }
+    record {
+      some_procs = kept.some_procs;
+      few_procs = kept.few_procs;
+      few_turns = kept.few_turns;
+      pass = kept.pass;
+      fits = λ out. rw (c.ask_on.ensures sees) (asked_fits sees i.place c.args.ask i.hand (kept.fits out));
+    }
 
 pub returns : goal.returns
 returns g c =
