@@ -7,6 +7,7 @@ ghost use Rattle.gmp_run.specs.Counts.{calls_in};
 
 use crate::desk::RunLedger;
 use crate::outside::Clock;
+use crate::shared::Shared;
 use crossbeam_utils::Backoff;
 use crossbeam_utils::sync::Parker;
 use gmp_base::{MNo, PNo, Pass};
@@ -110,20 +111,21 @@ impl<T: Drop, L: RunLedger> Machine<T, L> {
         false
     }
 
-    /// Waits until some queue keeps what it has, at most a while. As long as it hunts, nobody is woken to hunt.
-    pub fn lie_in_wait<C: Clock>(&self, clock: &C) {
+    /// Waits until some queue keeps what it has, or a ticket is on the shelf, at most a while. As long as it hunts, nobody is woken to hunt.
+    /// Whoever calls it ends its rest.
+    pub fn lie_in_wait<C: Clock>(&self, clock: &C, shared: &Shared<T, L>) {
         let pause = Backoff::new();
         for _ in 0..MOST_SPINS {
-            if self.some_keeps() {
+            if shared.has_shelved() || self.some_keeps() {
                 return;
             }
             pause.spin();
         }
         for _ in 0..MOST_RESTS {
-            if self.some_keeps() {
+            if shared.has_shelved() || self.some_keeps() {
                 return;
             }
-            clock.rest(REST);
+            clock.wait(&self.parker, REST);
         }
     }
 

@@ -3,7 +3,7 @@
 use crate::desk::{Bench, RunLedger};
 use crossbeam_utils::CachePadded;
 use std::hint::spin_loop;
-use std::sync::atomic::{AtomicBool, Ordering};
+use std::sync::atomic::{AtomicU8, Ordering};
 use std::sync::{Mutex, MutexGuard, Wait};
 
 /// How often a thread looks for the lock before it sleeps for it. Whoever has it is mostly done within a microsecond.
@@ -14,12 +14,19 @@ const PAUSES: u32 = 4;
 
 const STAYS_FREE: u32 = 16;
 
+/// A machine makes its acts under the lock.
+const HELD: u8 = 1;
+
+/// A ticket was on the shelf when the lock was let go last.
+const SHELVED: u8 = 2;
+
 /// The bench under the lock, away from the lock's own word, which threads that wait read and write.
 #[derive(Drop)]
 pub(crate) struct Shared<T, L: RunLedger> {
     bench: Mutex<CachePadded<Bench<T, L>>>,
-    /// Whether a machine makes its acts under the lock: what those who wait look at, apart from the lock's own word. No more than a hint.
-    held: CachePadded<AtomicBool>,
+    /// What those who wait and those who hunt look at, apart from the lock's own word: `HELD` and `SHELVED`, each where it is so. No more than
+    /// a hint; whoever has the lock writes it.
+    hints: CachePadded<AtomicU8>,
 }
 
 fn pause(count: u32) {
@@ -32,7 +39,7 @@ impl<T: Drop, L: RunLedger> Shared<T, L> {
     pub fn new(bench: Bench<T, L>) -> Self {
         Shared {
             bench: Mutex::new(CachePadded::new(bench)),
-            held: CachePadded::new(AtomicBool::new(false)),
+            hints: CachePadded::new(AtomicU8::new(SHELVED)),
         }
     }
 
@@ -47,17 +54,31 @@ impl<T: Drop, L: RunLedger> Shared<T, L> {
             Some(bench) => bench,
             None => self.awaited(rt),
         };
-        self.held.store(true, Ordering::SeqCst);
+        self.hints.store(self.hints() | HELD, Ordering::SeqCst);
         bench
     }
 
     pub fn let_go(&self, bench: MutexGuard<'_, CachePadded<Bench<T, L>>>) {
-        self.held.store(false, Ordering::SeqCst);
+        let hints = if bench.watch.has_shelved() {
+            SHELVED
+        } else {
+            0
+        };
+        self.hints.store(hints, Ordering::SeqCst);
         drop(bench);
     }
 
+    /// Whether a ticket may be on the shelf.
+    pub fn has_shelved(&self) -> bool {
+        self.hints() & SHELVED != 0
+    }
+
+    fn hints(&self) -> u8 {
+        self.hints.load(Ordering::SeqCst)
+    }
+
     fn is_free(&self) -> bool {
-        !self.held.load(Ordering::SeqCst)
+        self.hints() & HELD == 0
     }
 
     fn awaited<R: Wait>(&self, rt: &R) -> MutexGuard<'_, CachePadded<Bench<T, L>>> {

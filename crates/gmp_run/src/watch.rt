@@ -79,6 +79,8 @@ pub(crate) struct Watch {
     /// How many tickets were given out, and how many were claimed. One that was stolen may be claimed before it counts as given out.
     given: u64,
     claims: u64,
+    /// How many tickets are on the shelf.
+    shelved: u64,
     /// Who is neither parked nor at Mind, and has no goroutine, since its first act.
     looks: Set,
     /// Who runs a goroutine, with a processor.
@@ -110,6 +112,7 @@ impl Watch {
             processors: Processors::idle(procs),
             given: 1,
             claims: 0,
+            shelved: 1,
             looks: Set::none(),
             runs: Set::none(),
             waits: Set::none(),
@@ -145,6 +148,17 @@ impl Watch {
 
     fn more_ready(&mut self, count: u64) {
         self.given = self.given.saturating_add(count);
+    }
+
+    /// So many more became ready, on the shelf.
+    fn more_on_shelf(&mut self, count: u64) {
+        self.more_ready(count);
+        self.shelved = self.shelved.saturating_add(count);
+    }
+
+    /// Whether a ticket is on the shelf.
+    pub fn has_shelved(&self) -> bool {
+        self.shelved > 0
     }
 
     /// The deadline of the goroutine that m claimed last.
@@ -209,12 +223,14 @@ impl Watch {
         }
         match (reply, call) {
             (BriefReply::Held, BriefCall::Claim(g, _)) => self.claim(m, g),
-            (BriefReply::Ticket(_, _), BriefCall::Take) => {}
+            (BriefReply::Ticket(_, _), BriefCall::Take) => {
+                self.shelved = self.shelved.saturating_sub(1);
+            }
             (BriefReply::Nothing, BriefCall::Take | BriefCall::Poke) => {}
             (BriefReply::Sent | BriefReply::Got(_, _), _) => {}
             (BriefReply::Shelved(_, _), _) => {
                 self.look(m);
-                self.more_ready(1);
+                self.more_on_shelf(1);
             }
             (
                 BriefReply::Ticket(_, _)
@@ -261,9 +277,10 @@ impl Watch {
                 self.waits = self.waits.with(m);
                 self.least = Some(until);
             }
-            (BriefReply::Closed(count), _) => self.more_ready(count),
+            (BriefReply::Shelf, _) => self.shelved = self.shelved.saturating_add(1),
+            (BriefReply::Closed(count), _) => self.more_on_shelf(count),
             (BriefReply::Woke(count), BriefCall::Tick(moment)) => {
-                self.more_ready(count);
+                self.more_on_shelf(count);
                 self.ticked(moment);
             }
             (BriefReply::Waits, BriefCall::Sleep(until)) => {

@@ -136,7 +136,7 @@ impl<'a, T: Runs, C: Clock, G: Gate, L: RunLedger> Floor<'a, T, C, G, L> {
             Act::Surrender(_) => self.at_book(rt, alloc, None, machine),
             Act::Pop | Act::Drain | Act::Push => machine.queue_turn(),
             Act::Hunt => {
-                machine.lie_in_wait(self.clock);
+                machine.lie_in_wait(self.clock, self.shared);
                 machine.queue_turn();
             }
             Act::Steal(victim) => {
