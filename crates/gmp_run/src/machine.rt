@@ -111,21 +111,21 @@ impl<T: Drop, L: RunLedger> Machine<T, L> {
         false
     }
 
-    /// Waits until some queue keeps what it has, or a ticket is on the shelf, at most a while. As long as it hunts, nobody is woken to hunt.
-    /// Whoever calls it ends its rest.
+    /// Waits until some queue keeps what it has, or whoever holds the lock calls it for the shelf or the run's end, at most a while. As long as
+    /// it hunts, nobody is woken to hunt.
     pub fn lie_in_wait<C: Clock>(&self, clock: &C, shared: &Shared<T, L>) {
         let pause = Backoff::new();
         for _ in 0..MOST_SPINS {
-            if shared.has_shelved() || self.some_keeps() {
+            if shared.calls_hunters() || self.some_keeps() {
                 return;
             }
             pause.spin();
         }
         for _ in 0..MOST_RESTS {
-            if shared.has_shelved() || self.some_keeps() {
+            if shared.calls_hunters() || self.some_keeps() {
                 return;
             }
-            clock.wait(&self.parker, REST);
+            clock.rest(REST);
         }
     }
 

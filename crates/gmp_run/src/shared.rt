@@ -17,14 +17,14 @@ const STAYS_FREE: u32 = 16;
 /// A machine makes its acts under the lock.
 const HELD: u8 = 1;
 
-/// A ticket was on the shelf when the lock was let go last.
-const SHELVED: u8 = 2;
+/// Whoever lies in wait for a queue is to come out.
+const CALLS: u8 = 2;
 
 /// The bench under the lock, away from the lock's own word, which threads that wait read and write.
 #[derive(Drop)]
 pub(crate) struct Shared<T, L: RunLedger> {
     bench: Mutex<CachePadded<Bench<T, L>>>,
-    /// What those who wait and those who hunt look at, apart from the lock's own word: `HELD` and `SHELVED`, each where it is so. No more than
+    /// What those who wait and those who hunt look at, apart from the lock's own word: `HELD` and `CALLS`, each where it is so. No more than
     /// a hint; whoever has the lock writes it.
     hints: CachePadded<AtomicU8>,
 }
@@ -39,7 +39,7 @@ impl<T: Drop, L: RunLedger> Shared<T, L> {
     pub fn new(bench: Bench<T, L>) -> Self {
         Shared {
             bench: Mutex::new(CachePadded::new(bench)),
-            hints: CachePadded::new(AtomicU8::new(SHELVED)),
+            hints: CachePadded::new(AtomicU8::new(CALLS)),
         }
     }
 
@@ -59,8 +59,8 @@ impl<T: Drop, L: RunLedger> Shared<T, L> {
     }
 
     pub fn let_go(&self, bench: MutexGuard<'_, CachePadded<Bench<T, L>>>) {
-        let hints = if bench.watch.has_shelved() {
-            SHELVED
+        let hints = if bench.watch.calls_hunters() {
+            CALLS
         } else {
             0
         };
@@ -68,9 +68,9 @@ impl<T: Drop, L: RunLedger> Shared<T, L> {
         drop(bench);
     }
 
-    /// Whether a ticket may be on the shelf.
-    pub fn has_shelved(&self) -> bool {
-        self.hints() & SHELVED != 0
+    /// Whether whoever lies in wait is to come out.
+    pub fn calls_hunters(&self) -> bool {
+        self.hints() & CALLS != 0
     }
 
     fn hints(&self) -> u8 {

@@ -156,9 +156,9 @@ impl Watch {
         self.shelved = self.shelved.saturating_add(count);
     }
 
-    /// Whether a ticket is on the shelf.
-    pub fn has_shelved(&self) -> bool {
-        self.shelved > 0
+    /// Whether whoever lies in wait for a queue is to come out: a ticket is on the shelf, or the run is over.
+    pub fn calls_hunters(&self) -> bool {
+        self.over || self.shelved > 0
     }
 
     /// The deadline of the goroutine that m claimed last.
