@@ -126,9 +126,18 @@ impl Watch {
         })
     }
 
+    #[inline(always)]
     fn goes(&mut self, m: MNo) {
         self.looks = self.looks.without(m);
         self.runs = self.runs.without(m);
+        if self.waits.has(m) {
+            self.comes_back(m);
+        }
+    }
+
+    /// m waits no more. The watcher is one of those who wait.
+    #[inline(never)]
+    fn comes_back(&mut self, m: MNo) {
         self.waits = self.waits.without(m);
         if self.watcher == Some(m) {
             self.watcher = None;
@@ -136,11 +145,13 @@ impl Watch {
         }
     }
 
+    #[inline(always)]
     fn look(&mut self, m: MNo) {
         self.goes(m);
         self.looks = self.looks.with(m);
     }
 
+    #[inline(always)]
     fn run(&mut self, m: MNo) {
         self.goes(m);
         self.runs = self.runs.with(m);
@@ -167,6 +178,7 @@ impl Watch {
         self.deadlines.get_mut(usize::from(g))
     }
 
+    #[inline(always)]
     fn claim(&mut self, m: MNo, g: GNo) {
         self.claims = self.claims.saturating_add(1);
         self.run(m);
@@ -244,14 +256,18 @@ impl Watch {
                 self.look(m);
                 self.sleeps(m, None);
             }
-            _ => self.note_rare(m, call, reply, history),
+            _ => self.note_rare(history),
         }
     }
 
     /// The same of what seldom comes: also which processors are held and active, and until when goroutines wait. Where a select waits, its
     /// deadline is in the history.
+    // It reads the entry again: whoever notes what comes often has it nowhere but in the history.
     #[inline(never)]
-    fn note_rare(&mut self, m: MNo, call: BriefCall, reply: BriefReply, history: &History) {
+    fn note_rare(&mut self, history: &History) {
+        let Some((m, call, reply)) = history.last_brief() else {
+            return;
+        };
         match (reply, call) {
             (BriefReply::Proc(p), _) => {
                 self.look(m);
