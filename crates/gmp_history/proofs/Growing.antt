@@ -1,9 +1,9 @@
 -- What a history's rows stand for stays, whatever is added beside them.
-use Rattle.std.proofs.Common.{◌≡◌, ℕ, zero, suc, ◌+◌, ◌-◌, ◌^◌, ◌<◌, ◌≤◌, List, [], ◌∷◌, ◌++◌, length, get_or, slice_get, Option, None, Some, refl, ap, ◌∙◌, arith, length-append}
+use Rattle.std.proofs.Common.{◌≡◌, ℕ, zero, suc, ◌+◌, ◌-◌, ◌^◌, ◌<◌, ◌≤◌, List, [], ◌∷◌, ◌++◌, length, get_or, slice_get, Option, None, Some, refl, ap, subst, ◌∙◌, arith, length-append}
 use Rattle.std.specs.Prelude.{All}
 use Rattle.std.proofs.lemmas.List.{length-map, map-append}
-use Rattle.std.proofs.lemmas.List.Elements.{All-append}
-use Rattle.std.proofs.lemmas.Option.{slice_get-map}
+use Rattle.std.proofs.lemmas.List.Elements.{All-append, All-get_or}
+use Rattle.std.proofs.lemmas.Option.{get_or_from_slice_get, slice_get-map, slice_get_within}
 use Rattle.gmp_seq.specs.declared.call.Call.{Call}
 use Rattle.gmp_seq.specs.declared.call.Call.TheVariants as call
 use Rattle.gmp_seq.specs.declared.call.Entry.{Entry}
@@ -115,3 +115,9 @@ got_none s r rows i at = rw (slice_get-map (entry_of s r) rows i, at) refl
 pub got_last : (s : List Choosing) (r : List Relay) (rows : List Row) (row : Row) → slice_get rows (length rows - 1) ≡ Some row
     → slice_get (entries_of s r rows) (length (entries_of s r rows) - 1) ≡ Some (entry_of s r row)
 got_last s r rows row at = rw (length-map rows (entry_of s r), slice_get-map (entry_of s r) rows (length rows - 1), at) refl
+
+-- what the last row names is there
+pub last_in : (s : List Choosing) (r : List Relay) (rows : List Row) (row : Row) → slice_get rows (length rows - 1) ≡ Some row → All (IsIn (length s) (length r)) rows → IsIn (length s) (length r) row
+last_in s r rows row at named =
+    subst (IsIn (length s) (length r)) (get_or_from_slice_get rows (length rows - 1) row row at)
+    (All-get_or (IsIn (length s) (length r)) rows (length rows - 1) row (slice_get_within rows (length rows - 1) row at) named)

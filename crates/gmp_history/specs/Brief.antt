@@ -1,5 +1,5 @@
 -- What brief calls and replies stand for, with what lies beside them.
-use Rattle.std.specs.Prelude.{◌≡◌, ℕ, ◌<◌, Bool, true, false, Option, None, Some, List, [], ◌∷◌, map, slice_get}
+use Rattle.std.specs.Prelude.{◌≡◌, ℕ, ◌<◌, Bool, true, false, Option, None, Some, List, [], ◌∷◌, length, map, slice_get}
 use Rattle.gmp_base.specs.declared.number.MNo.{MNo}
 use Rattle.gmp_seq.specs.declared.call.Call.{Call}
 use Rattle.gmp_seq.specs.declared.call.Call.TheVariants as call
@@ -122,11 +122,12 @@ abbrev pub is_select : Call → Bool
 is_select (call.Select cases has_default until) = true
 is_select _ = false
 
--- The machine, the call in brief and the reply in brief are those of the entry; what a select asks and whom a receive served is not among them.
+-- The machine, the call in brief and the reply in brief are those of the entry. What a select asks and whom a receive served lie elsewhere, each
+-- under a number of its own.
 pub record IsBriefOf (b : MNo × BriefCall × BriefReply) (e : Entry) : Type 0 where
   pub machine : b.0 ≡ e.m
-  pub call : (s : List Choosing) × (call_of s b.1 ≡ e.call)
-  pub reply : (r : List Relay) × (reply_of r b.2 ≡ e.reply)
+  pub call : (s : List Choosing) × IsCallIn (length s) b.1 × (call_of s b.1 ≡ e.call)
+  pub reply : (r : List Relay) × IsReplyIn (length r) b.2 × (reply_of r b.2 ≡ e.reply)
 
 -- what a call adds to the choosings
 abbrev pub choosing_in : Call → List Choosing

@@ -1,8 +1,8 @@
 //! A call and a reply made brief, and whole again.
-ghost use Rattle.std.specs.Prelude.{◌≡◌, true, false, All, IfSome, ◌<◌, ◌≤◌, ◌^◌, ◌∷◌, ◌++◌, [], length, vec_capacity};
+ghost use Rattle.std.specs.Prelude.{◌≡◌, true, false, All, IfSome, ◌<◌, ◌≤◌, ◌^◌, ◌∷◌, ◌++◌, [], length, slice_get, vec_capacity};
 ghost use Rattle.gmp_base.specs.Fits.{IsChannelNumber, IsWord, FitsCase};
 ghost use Rattle.gmp_seq.specs.Fits.{FitsCall, FitsReadiness, FitsRelay, FitsReply, IsGoroutineNumber, IsMachineNumber, IsProcessorNumber};
-ghost use Rattle.gmp_history.specs.Brief.{IsCallIn, IsReplyIn, call_of, choosing_in, is_select, relay_in, reply_of};
+ghost use Rattle.gmp_history.specs.Brief.{IsCallIn, IsReplyIn, call_of, choosing_in, is_select, relay_in, reply_of, select_of};
 
 use crate::brief::{BriefCall, BriefReply, Choosing};
 use gmp_base::{CNo, Cases, GNo, MNo, PNo, Readiness};
@@ -169,6 +169,17 @@ pub(crate) fn brief_call(choosings: &mut Vec<Choosing>, call: &Call, is_plain: b
     }
 }
 
+/// The select of this number. It has a function of its own, since its cases are wide: whoever makes another call whole pays for none.
+#[inline(never)]
+fn select_in(choosings: &[Choosing], number: u32) -> Call
+    ensures { result ≡ select_of (slice_get choosings.now number) }
+{
+    match choosings.get(number as usize) {
+        Some(x) => Call::Select(x.cases.copied(), x.has_default, x.until),
+        None => Call::Acquire,
+    }
+}
+
 /// The call that was made brief.
 #[inline(always)]
 pub(crate) fn whole_call(choosings: &[Choosing], brief: BriefCall) -> Call
@@ -188,10 +199,7 @@ pub(crate) fn whole_call(choosings: &[Choosing], brief: BriefCall) -> Call
         BriefCall::Close(c) => Call::Close(c),
         BriefCall::Len(c) => Call::Len(c),
         BriefCall::Cap(c) => Call::Cap(c),
-        BriefCall::Select(number) => match choosings.get(number as usize) {
-            Some(x) => Call::Select(x.cases.copied(), x.has_default, x.until),
-            None => Call::Acquire,
-        },
+        BriefCall::Select(number) => select_in(choosings, number),
         BriefCall::Sleep(until) => Call::Sleep(until),
         BriefCall::Procs(n) => Call::Procs(n),
         BriefCall::Gopark => Call::Gopark,

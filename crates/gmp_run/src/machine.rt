@@ -116,13 +116,13 @@ impl<T: Drop, L: RunLedger> Machine<T, L> {
     pub fn lie_in_wait<C: Clock>(&self, clock: &C, shared: &Shared<T, L>) {
         let pause = Backoff::new();
         for _ in 0..MOST_SPINS {
-            if shared.calls_hunters() || self.some_keeps() {
+            if self.some_keeps() || shared.calls_hunters() {
                 return;
             }
             pause.spin();
         }
         for _ in 0..MOST_RESTS {
-            if shared.calls_hunters() || self.some_keeps() {
+            if self.some_keeps() || shared.calls_hunters() {
                 return;
             }
             clock.rest(REST);

@@ -29,7 +29,8 @@ pub trait Clock {
 pub trait Gate {
     fn before(&self, m: MNo, act: &Act);
 
-    /// Whether it holds nobody up, whatever the act. Then acts may be made of which it isn't told, several under one hold of the lock.
+    /// Whether it holds nobody up, whatever the act, throughout the run. Then acts may be made of which it isn't told, several under one hold
+    /// of the lock.
     fn is_open(&self) -> bool {
         false
     }

@@ -106,7 +106,7 @@ impl<'a, T: Drop, C: Clock, G: Gate, L: RunLedger> Floor<'a, T, C, G, L> {
 }
 
 impl<'a, T: Runs, C: Clock, G: Gate, L: RunLedger> Floor<'a, T, C, G, L> {
-    /// Makes the act that comes next, if it is one of those that come most often.
+    /// Makes the act that comes next, if it is one of those that come most often, and tells whether it is. No wide act is made for it.
     #[inline(always)]
     fn make_frequent<R: Wait>(&self, rt: &R, alloc: Global, machine: &mut Machine<T, L>) -> bool {
         match machine.driver.frequent() {
@@ -174,7 +174,7 @@ pub(crate) fn worker<T: Runs, R: Wait, C: Clock, G: Gate, L: RunLedger>(
     };
     let mut over = false;
     for _ in rt.forever() {
-        // Where the gate is open it need not be told, and no wide act is made.
+        // Where the gate is open it need not be told.
         if floor.gate.is_open() && floor.make_frequent(rt, alloc, &mut machine) {
             continue;
         }

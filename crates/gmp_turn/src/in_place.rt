@@ -1,5 +1,5 @@
-//! Turns that leave values where they are, and whose replies are written in place. Of a call that is known to be frequent no arm of another
-//! is compiled in.
+//! Turns that leave values where they are, and whose replies are written in place, but for a claim's, which is always the same. Of a call
+//! that is known to be frequent no arm of another is compiled in.
 ghost use Rattle.std.specs.Prelude.{◌≡◌, ℕ, None, IsSome, true};
 ghost use Rattle.gmp_driver.specs.declared.act.Act.TheVariants as act;
 ghost use Rattle.gmp_driver.specs.Fits.{SuitsPlace};

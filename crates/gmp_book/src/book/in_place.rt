@@ -1,6 +1,6 @@
 //! Calls that leave values where they are: those that are handed nothing, those of the goroutine that runs, a put and a claim. What each
-//! does is what `call` does with these values. Replies are written in place; of a call that is known to be frequent no arm of another is
-//! compiled in.
+//! does is what `call` does with these values. Replies are written in place, but for a claim's, which is always the same; of a call that is known
+//! to be frequent no arm of another is compiled in.
 ghost use Rattle.std.specs.Prelude.{◌≡◌, true, None, Some, IfOk, OnErr, OnOk};
 ghost use Rattle.gmp_seq.specs.Needs.{WantsMemory};
 ghost use Rattle.gmp_ledger.specs.Done.{IsDoneTo};

@@ -69,7 +69,7 @@ fn plain_reply(taken: Taken) -> Reply
     }
 }
 
-/// The same of a plain send or receive, whose reply is written in place.
+/// Makes ready who was served by a plain send or receive, and writes its reply in place.
 #[inline(always)]
 fn serve_plain(table: &mut StatusTable, case: Case, how: &Transfer, out: &mut Reply)
     requires way { IsWayOf case how.now }
@@ -87,7 +87,7 @@ fn serve_plain(table: &mut StatusTable, case: Case, how: &Transfer, out: &mut Re
     }
 }
 
-/// The same where somebody is served. Apart: whoever serves nobody pays for no wide value.
+/// The same where somebody is served, and of a send on a closed channel. Apart: whoever goes on without pays for no wide value.
 #[inline(never)]
 fn serve_other(table: &mut StatusTable, case: Case, how: Transfer, out: &mut Reply)
     requires way { IsWayOf case how }
@@ -164,7 +164,7 @@ impl Goroutines {
         }
     }
 
-    /// A plain send or receive proceeds, if it can, and is answered. Who is served is made ready.
+    /// A plain send or receive proceeds, if it can, and is answered; it tells whether it did. Who is served is made ready.
     #[inline(always)]
     fn proceed(&mut self, case: Case, out: &mut Reply) -> bool
         requires made { names_no_missing self.old.channels (channel_of case) ≡ true }
