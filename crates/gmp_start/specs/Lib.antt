@@ -1,0 +1,4 @@
+pub mod Start
+pub mod Fit
+pub mod Forms
+pub mod Active

@@ -1,0 +1,18 @@
+//! How many entries came before.
+ghost use Rattle.std.specs.Prelude.{◌≡◌, ◌<◌, ◌^◌, sum};
+
+use crate::start::Start;
+
+impl Start {
+    /// How many entries were made before it.
+    pub fn made(&self) -> u64
+        requires { sum self.now.counts.items < 2 ^ 64 }
+        ensures { result ≡ sum self.now.counts.items }
+    {
+        let mut made = 0;
+        for count in &self.counts {
+            made += *count;
+        }
+        made
+    }
+}
