@@ -10,7 +10,8 @@ use Rattle.gmp_seq.specs.declared.call.Limits.{Limits}
 use Rattle.gmp_seq.specs.declared.status.Goroutine.{Goroutine}
 use Rattle.gmp_seq.specs.Fits.{AreLimits, Fits}
 use Rattle.gmp_seq.specs.Machines.{Machines}
-use Rattle.gmp_seq.specs.Run.{Run}
+use Rattle.gmp_seq.specs.declared.call.Entry.{Entry}
+use Rattle.gmp_seq.specs.Run.{IsLegal, Run}
 use Rattle.gmp_seq.specs.State.{opening}
 use Rattle.gmp_seq.specs.Table.{Table, is_held}
 use Rattle.gmp_slots.specs.Slots.{all_filled}
@@ -92,6 +93,10 @@ opening_book run limits capacities bodies owners = record {
   owners = map Some owners;
 }
 
+-- no segment was taken: the history begins at the opening
+abbrev pub BeginsAtOpening : Log → Type 0
+BeginsAtOpening log = log.start ≡ opening log.limits log.bodies log.capacities
+
 -- each machine's pass before its first call
 abbrev pub opening_passes : ℕ → ℕ → List Pass
 opening_passes run machines = map (λ (m : ℕ). record { run = run; m = record { 0 = m }; calls = 0; seen = 0 }) (range_with_len 0 machines)
@@ -113,7 +118,7 @@ report_lines book =
     ∷ refusal_line (not (all_filled book.bodies && all_filled book.owners)) Busy
     ∷ []
 
--- the report tells the run, whose history is a legal run from its start, and has all bodies and owners in order
+-- the report tells the run, whose history is a run from its start, to which a legal run leads, and has all bodies and owners in order
 pub record IsReport {T Q : Type 0} (book : BookContents T Q) (report : Report T Q) : Type 0 where
   pub limits : report.limits ≡ book.log.limits
   pub capacities : report.capacities.items ≡ book.log.capacities
@@ -123,6 +128,6 @@ pub record IsReport {T Q : Type 0} (book : BookContents T Q) (report : Report T 
   pub owners : map Some report.owners.items ≡ book.owners
   pub stock : length report.bodies.items ≡ book.log.bodies
   pub legal : Run book.log.limits book.log.start book.log.history book.log.state
-  pub start : book.log.start ≡ opening book.log.limits book.log.bodies book.log.capacities
+  pub before : (h : List Entry) × IsLegal book.log.limits book.log.bodies book.log.capacities h book.log.start
   pub fits : All Fits book.log.history
   pub within : AreLimits book.log.limits book.log.bodies book.log.capacities

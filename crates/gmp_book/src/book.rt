@@ -1,12 +1,12 @@
 //! The book.
-ghost use Rattle.std.specs.Prelude.{◌≡◌, ◌<◌, ◌++◌, All, false, length, slice_get, OnOk, OnErr, IfOk, IfErr, IfNone};
+ghost use Rattle.std.specs.Prelude.{◌≡◌, ◌≤◌, ◌<◌, ◌++◌, All, List, false, length, slice_get, sum, OnOk, OnErr, IfOk, IfErr, IfNone};
 ghost use Rattle.gmp_base.specs.declared.number.CNo.{CNo};
 ghost use Rattle.gmp_seq.specs.Channels.{items_at};
 ghost use Rattle.gmp_seq.specs.Fits.{AreLimits, Fits};
 ghost use Rattle.gmp_seq.specs.Machines.{is_parked_mode};
 ghost use Rattle.gmp_seq.specs.Laws.{IsInOrder, NobodyCouldProceed};
-ghost use Rattle.gmp_seq.specs.Run.{Run, sent, received};
-ghost use Rattle.gmp_seq.specs.State.{opening};
+ghost use Rattle.gmp_seq.specs.Run.{IsLegal, Run, sent, received};
+ghost use Rattle.gmp_seq.specs.declared.call.Entry.{Entry};
 ghost use Rattle.gmp_seq.specs.Table.{is_shelved};
 ghost use Rattle.gmp_table.specs.Kept.{IsListing};
 ghost use Rattle.std.specs.Option.{option_map_or};
@@ -16,6 +16,7 @@ ghost use Rattle.gmp_ledger.specs.Done.{IsDoneTo};
 ghost use Rattle.gmp_ledger.specs.Handed.{goroutine_in, names_other, processor_in};
 ghost use Rattle.gmp_ledger.specs.Log.{Records, entries_made};
 ghost use Rattle.gmp_ledger.specs.Refusals.{Says, refusal_in, refusal_of};
+ghost use Rattle.gmp_ledger.specs.Segments.{IsSegment, WhyNoSegment};
 ghost use Rattle.gmp_book.specs.Hands.{handed_of};
 
 mod asking;
@@ -30,7 +31,7 @@ use crate::settling::{settle_body, settle_owner};
 use crate::values::{Values, claimed, handed, ticket_out, told_by, way_of};
 use gmp_base::{MNo, Pass, Refusal};
 use gmp_history::History;
-use gmp_ledger::Ledger;
+use gmp_ledger::{Ledger, Segment};
 use gmp_seq::{Call, Limits, Outcome, Reply};
 use gmp_slots::Slots;
 use std::alloc::Global;
@@ -62,13 +63,13 @@ impl<T, Q> Model for Book<T, Q> {
 }
 
 impl<T, Q> Book<T, Q> {
-    ghost use Rattle.gmp_book.specs.Book.{IsBook, MayOpen, WhyUnopened, opening_book, opening_passes};
+    ghost use Rattle.gmp_book.specs.Book.{IsBook, MayOpen, SameValues, WhyUnopened, opening_book, opening_passes};
     ghost use Rattle.gmp_book.specs.Hands.{Hands, values_back};
 
     /// A book of a run that has made no call, and one pass for each machine, in order.
     ///
     /// It takes memory for the whole history, the shelf, the channels, all who may wait, and all that is counted; but for it only `make`
-    /// takes any. `capacities` are those of the channels that the run begins with. There is a body for each goroutine, and an owner for
+    /// and `segment` take any. `capacities` are those of the channels that the run begins with. There is a body for each goroutine, and an owner for
     /// each processor. Refused, it hands both back.
     pub fn open(
         alloc: Global,
@@ -122,11 +123,12 @@ impl<T, Q> Book<T, Q> {
         Ok((book, passes))
     }
 
-    /// Every accepted call with its reply, in order: a legal run from the start, which is the opening, to the present state.
+    /// Every accepted call since the last segment, with its reply, in order: a run from the start to the present state.
     pub fn history(&self) -> &History
         ensures entries { result.now.list ≡ self.now.log.history }
         ensures legal { Run self.now.log.limits self.now.log.start self.now.log.history self.now.log.state }
-        ensures start { self.now.log.start ≡ opening self.now.log.limits self.now.log.bodies self.now.log.capacities }
+        // A legal run leads to the start.
+        ensures before { (h : List Entry) × IsLegal self.now.log.limits self.now.log.bodies self.now.log.capacities h self.now.log.start }
         ensures fits { All Fits self.now.log.history }
         ensures within { AreLimits self.now.log.limits self.now.log.bodies self.now.log.capacities }
         ensures values { IsBook self.now }
@@ -137,6 +139,22 @@ impl<T, Q> Book<T, Q> {
         ensures listing { IsListing is_shelved self.now.log.state.table.goroutines self.now.log.shelf }
     {
         self.ledger.history()
+    }
+
+    /// Hands out the entries since the last segment, with the state before the first of them, and how the run ended, if it did. The start is
+    /// the present state from then on.
+    ///
+    /// It takes no pass and makes no entry. Refused, nothing has changed: `Over` where a segment was taken since the outcome, else
+    /// `OutOfMemory`. It leaves room for each entry that may still be made.
+    pub fn segment(&mut self, alloc: Global) -> Result<Segment, Refusal>
+        ensures taken { IfOk result (λ x. IsSegment self.old.log x self.new.log) }
+        // So many entries at most were made before.
+        ensures few { IfOk result (λ x. sum x.start.counts.items ≤ 1000000) }
+        ensures why { IfErr result (WhyNoSegment self.old.log) }
+        ensures values { SameValues self.old self.new }
+        ensures err { OnErr result (self.new ≡ self.old) }
+    {
+        self.ledger.segment(alloc)
     }
 
     /// How the run ended, if it did.

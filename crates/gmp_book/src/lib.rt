@@ -14,8 +14,9 @@
 //! - `park` answers from counts and the least deadline. `close` and `tick` are constant for each that is woken: who waits first on the channel,
 //!   or has the least deadline.
 //! - `outcome`, `history` and the surrenders are constant.
-//! - `open` takes memory for the limits' entries and all goroutines; `into_report` moves each body and owner once. No call but `open`
-//!   and a make takes memory.
+//! - `open` takes memory for the limits' entries and all goroutines; `into_report` moves each body and owner once.
+//! - `segment` copies the state twice, and takes memory for these copies and for the entries that may still be made. No call but `open`,
+//!   a make and a segment takes memory.
 #![tactic(auto)]
 
 mod answers;
@@ -29,6 +30,7 @@ mod went;
 
 pub use answers::{Exited, Parking};
 pub use book::Book;
+pub use gmp_ledger::Segment;
 pub use opening::Unopened;
 pub use report::Report;
 pub use returned::Returned;

@@ -1,8 +1,10 @@
 //! One channel.
 ghost use Rattle.std.specs.Prelude.{◌≡◌, ◌<◌, ◌++◌, [], ◌∷◌, length, drop, nat_lt, true, IfOk};
 ghost use Rattle.gmp_seq.specs.Channels.{new_channel};
+ghost use Rattle.gmp_start.specs.Start.{channel_of};
 
 use circular_buffer::HeapCircularBuffer;
+use gmp_start::StartChannel;
 use std::alloc::{AllocError, Global};
 use std::marker::Model;
 
@@ -14,14 +16,14 @@ pub(crate) struct Channel {
 }
 
 impl Model for Channel {
-    ghost use Rattle.std.specs.Prelude.{◌≤◌, length};
+    ghost use Rattle.std.specs.Prelude.{◌≤◌, ◌<◌, ◌^◌, length};
     ghost use Rattle.gmp_seq.specs.Channels.{Channel as PlainChannel};
 
     ghost Value = { PlainChannel };
 
     ghost view = { λ c. record { capacity = c.items.capacity; items = c.items.items; closed = c.closed } };
 
-    ghost invariant = { λ c. length c.items.items ≤ c.items.capacity };
+    ghost invariant = { λ c. (length c.items.items ≤ c.items.capacity) × (c.items.capacity < 2 ^ 32) };
 }
 
 impl Channel {
@@ -33,6 +35,17 @@ impl Channel {
         Ok(Channel {
             items,
             closed: false,
+        })
+    }
+
+    /// The same channel for a start.
+    pub(crate) fn copied(&self, alloc: Global) -> Result<StartChannel, AllocError>
+        ensures { IfOk result (λ c. channel_of c ≡ self.now) }
+    {
+        Ok(StartChannel {
+            capacity: self.items.capacity() as u32,
+            closed: self.closed,
+            items: self.items.to_vec(alloc)?,
         })
     }
 

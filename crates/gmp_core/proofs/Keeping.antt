@@ -37,7 +37,8 @@ use Rattle.gmp_acts.proofs.Whole.{headline_of}
 use Rattle.gmp_turn.specs.Surrenders.{Surrenders}
 use Rattle.gmp_turn.specs.Turns.{Turns}
 use Rattle.gmp_turn.specs.Values.{AreOut, KeepsValues, body_in, called_body, held_body, owner_in, proc_owner}
-use Rattle.gmp_book.specs.Book.{BookContents}
+use Rattle.gmp_turn.proofs.Opened.{surrender_opened, turn_opened}
+use Rattle.gmp_book.specs.Book.{BeginsAtOpening, BookContents}
 use Rattle.gmp_core.specs.Doing.{Desk, Does}
 use Rattle.gmp_core.specs.Inside.{IsCore, Parts, system_of}
 use Rattle.gmp_core.specs.Local.{KeepsHand}
@@ -157,6 +158,22 @@ module _ {T : Type 0} (c : Parts T) (m : MNo) (x : Machine T Unit) (choice : Cho
   room_same (act.Surrender which) d = ap (λ (r : Rings). r.room) d.2
   room_same act.Nothing d = ap (λ (e : Desk T). e.rings.room) d
 
+  opened_at : now.book ≡ c.book → BeginsAtOpening now.book.log
+  opened_at book = subst (λ (b : BookContents T Unit). BeginsAtOpening b.log) (sym book) core.opened
+
+  still_opened : (a : Act) → Does a m choice old now → BeginsAtOpening now.book.log
+  still_opened (act.Call asked) d = turn_opened x c.book core.opened asked choice.word d.0 now.machine now.book d.1
+  still_opened act.Pop d = opened_at d.book
+  still_opened act.Drain d = opened_at d.book
+  still_opened act.Push d = opened_at d.book
+  still_opened act.Hunt d = opened_at d.book
+  still_opened (act.Steal v) d = opened_at d.book
+  still_opened act.Resume d = opened_at (ap (λ (e : Desk T). e.book) d)
+  still_opened act.Block d = opened_at (ap (λ (e : Desk T). e.book) d)
+  still_opened (act.Clock minded) d = opened_at (ap (λ (e : Desk T). e.book) d)
+  still_opened (act.Surrender which) d = surrender_opened x c.book core.opened which d.0 now.machine now.book d.1
+  still_opened act.Nothing d = opened_at (ap (λ (e : Desk T). e.book) d)
+
   module _ (acts : Acts (system_of c) m choice (system_of c')) (d : Does (next_act x) m choice old now) where
     sound' : IsSound (system_of c')
     sound' = act_sound (system_of c) m choice (system_of c') acts core.sound
@@ -184,6 +201,7 @@ module _ {T : Type 0} (c : Parts T) (m : MNo) (x : Machine T Unit) (choice : Cho
           bodies = out_same (λ (y : Machine T Unit). body_in y.hand) c.machines m.0 x now.machine c.book.bodies now.book.bodies is kept.0 apart_bodies core.bodies;
           owners = out_same (λ (y : Machine T Unit). owner_in y.hand) c.machines m.0 x now.machine c.book.owners now.book.owners is kept.1 apart_owners core.owners;
           tickets_room = room_same (next_act x) d ∙ core.tickets_room ∙ sym opened.bodies;
+          opened = still_opened (next_act x) d;
         }
 
     stock_after : stock_of c'.machines c'.book.bodies ≡ stock_of c.machines c.book.bodies

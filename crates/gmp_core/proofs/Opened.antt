@@ -76,6 +76,7 @@ module _ {T : Type 0} (run : ℕ) (limits : Limits) (capacities : List ℕ) (bod
     bodies = nothing_out (λ (x : Machine T Unit). body_in x.hand) book.bodies (λ x i e. ap (λ h. body_in h i) e);
     owners = nothing_out (λ (x : Machine T Unit). owner_in x.hand) book.owners (λ x i e. ap (λ h. owner_in h i) e);
     tickets_room = tickets;
+    opened = refl;
   }
 
   pub opening_stock : stock_of machines book.bodies ≡ map Some bodies

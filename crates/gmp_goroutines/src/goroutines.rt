@@ -1,5 +1,5 @@
 //! The goroutines, the channels on which they wait, and who runs on each machine.
-ghost use Rattle.std.specs.Prelude.{◌≡◌, ◌<◌, ◌≤◌, ◌^◌, ◌++◌, ◌∷◌, [], true, false, Some, IfOk, option_copied, length, slice_get};
+ghost use Rattle.std.specs.Prelude.{◌≡◌, ◌<◌, ◌≤◌, ◌^◌, ◌++◌, ◌∷◌, [], true, false, Some, IfOk, map, option_copied, length, slice_get};
 ghost use Rattle.std.specs.Option.{option_map_or};
 ghost use Rattle.gmp_base.specs.declared.number.GNo.{GNo};
 ghost use Rattle.gmp_base.specs.declared.number.MNo.{MNo};
@@ -8,6 +8,7 @@ ghost use Rattle.gmp_seq.specs.declared.status.Kind.{Kind};
 ghost use Rattle.gmp_seq.specs.declared.status.Status.{Status};
 ghost use Rattle.gmp_seq.specs.Step.{Claims, Goparks, Puts, Readies, Resumes, Sleeps, Starts, Takes, Ticks, Yields};
 ghost use Rattle.gmp_seq.specs.Table.{IsCalling, IsRunning, RunsNothing, all_woken, epoch_at, how_many_woken, is_astir, is_outstanding, is_running_on, is_shelved, made_wait, minded, set_status, some_status, status_at, stored_at};
+ghost use Rattle.gmp_start.specs.Start.{channel_of};
 ghost use Rattle.gmp_seq.specs.declared.call.Call.{Call};
 ghost use Rattle.gmp_seq.specs.Waits.{waiters};
 ghost use Rattle.gmp_table.specs.declared.wake.Wake.{Wake};
@@ -24,6 +25,7 @@ use gmp_base::{Fault, GNo, MNo, Readiness, Woke};
 use gmp_chan::Channels;
 use gmp_select::withdraw_all;
 use gmp_seq::{Goroutine, Kind, Offers, Reply, Status};
+use gmp_start::StartChannel;
 use gmp_table::{Candidate, Rank, StatusTable, Wake};
 use std::alloc::{AllocError, Global};
 use std::marker::Model;
@@ -136,6 +138,34 @@ impl Goroutines {
             Some(g) => self.table.runs(m, g),
             None => false,
         }
+    }
+
+    /// All goroutines, by number.
+    pub fn rows(&self) -> &[Goroutine]
+        ensures { result.now ≡ self.now.table.goroutines }
+    {
+        self.table.rows()
+    }
+
+    /// How many waits began.
+    pub fn arrivals(&self) -> u64
+        ensures { result ≡ self.now.table.arrivals }
+    {
+        self.table.arrivals()
+    }
+
+    /// The latest moment that a tick told, in nanoseconds.
+    pub fn clock(&self) -> u64
+        ensures { result ≡ self.now.table.clock }
+    {
+        self.table.clock()
+    }
+
+    /// The channels for a start.
+    pub fn channels_copied(&self, alloc: Global) -> Result<Vec<StartChannel>, AllocError>
+        ensures { IfOk result (λ v. map channel_of v.items ≡ self.now.channels) }
+    {
+        self.channels.copied(alloc)
     }
 
     /// Whether somebody is on the shelf.

@@ -44,7 +44,7 @@ impl Model for Machines {
 }
 
 impl Machines {
-    /// No processor is held, all machines are awake, nobody spins and nobody is marked. It alone takes memory, and its cost is linear.
+    /// No processor is held, all machines are awake, nobody spins and nobody is marked. It takes memory, and its cost is linear.
     pub fn opening(alloc: Global, procs: u8, machines: u8) -> Result<Self, AllocError>
         requires some { 1 ≤ procs }
         requires procs { procs ≤ 32 }
@@ -59,6 +59,41 @@ impl Machines {
             marked: SmallSet::none(machines),
             active: procs,
         })
+    }
+
+    /// Who holds each processor.
+    pub fn holders(&self) -> &[Option<MNo>]
+        ensures { result.now ≡ self.now.holders }
+    {
+        self.processors.as_slice()
+    }
+
+    /// What each machine does.
+    pub fn modes(&self) -> &[Mode]
+        ensures { result.now ≡ self.now.modes }
+    {
+        self.modes.as_slice()
+    }
+
+    /// Which machines look for work. It takes memory, and its cost is linear.
+    pub fn spinning(&self, alloc: Global) -> Result<Vec<bool>, AllocError>
+        ensures { IfOk result (λ v. v.items ≡ self.now.spinning) }
+    {
+        self.spinning.to_vec(alloc)
+    }
+
+    /// Which machines are to look again. It takes memory, and its cost is linear.
+    pub fn marked(&self, alloc: Global) -> Result<Vec<bool>, AllocError>
+        ensures { IfOk result (λ v. v.items ≡ self.now.marked) }
+    {
+        self.marked.to_vec(alloc)
+    }
+
+    /// How many processors are active.
+    pub fn active(&self) -> u8
+        ensures { result ≡ self.now.active }
+    {
+        self.active
     }
 
     /// Whether m is neither parked nor in a blocking call.

@@ -44,6 +44,12 @@ impl Processors {
         })
     }
 
+    pub(crate) fn as_slice(&self) -> &[Option<MNo>]
+        ensures { result.now ≡ self.now }
+    {
+        &self.holders
+    }
+
     pub(crate) fn len(&self) -> usize
         ensures { result ≡ length self.now }
     {

@@ -4,3 +4,4 @@ pub mod Granted
 pub mod Needed
 pub mod Done
 pub mod Saying
+pub mod Segmented

@@ -9,3 +9,4 @@ pub mod Known
 pub mod Done
 pub mod Laws
 pub mod Frequent
+pub mod Segments

@@ -39,6 +39,13 @@ impl Counts {
         self.each.get(m.0 as usize).copied().unwrap_or(0)
     }
 
+    /// How many each machine made.
+    pub(crate) fn as_slice(&self) -> &[u64]
+        ensures { result.now ≡ self.now }
+    {
+        &self.each
+    }
+
     /// How many there are.
     #[inline(always)]
     pub(crate) fn all(&self) -> u64

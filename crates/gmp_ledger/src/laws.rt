@@ -1,14 +1,19 @@
 //! Laws of the ledger. Each is the contract of a function that does nothing.
-ghost use Rattle.std.specs.Prelude.{◌≡◌, false, None, ◌↔◌};
+ghost use Rattle.std.specs.Prelude.{◌≡◌, ◌↔◌, ℕ, List, false, None};
 ghost use Rattle.gmp_base.specs.declared.pass.Pass.{Pass};
 ghost use Rattle.gmp_seq.specs.declared.call.Call.{Call};
+ghost use Rattle.gmp_seq.specs.declared.call.Limits.{Limits};
+ghost use Rattle.gmp_seq.specs.Run.{IsLegal, Run};
+ghost use Rattle.gmp_seq.specs.State.{State, opening};
 ghost use Rattle.gmp_ledger.specs.declared.handed.Handed.{Handed};
 ghost use Rattle.gmp_ledger.specs.Done.{IsDoneTo};
 ghost use Rattle.gmp_ledger.specs.Grants.{Suits};
 ghost use Rattle.gmp_ledger.specs.Handed.{goroutine_in, names_other, processor_in};
 ghost use Rattle.gmp_ledger.specs.Laws.{StepsAre, NeedsOf};
+ghost use Rattle.gmp_ledger.specs.Kept.{IsLedger};
 ghost use Rattle.gmp_ledger.specs.Log.{Log};
 ghost use Rattle.gmp_ledger.specs.Refusals.{IsCurrent, refusal_of};
+ghost use Rattle.gmp_ledger.specs.Segments.{AreSegments, Piece, entries_of, segmented};
 
 /// A call by a pass that may call, with values of the run that suit it, is granted exactly where the scheduler's needs are met: a ticket
 /// that is out, a goroutine that the machine runs or calls for, a processor that it holds, and a machine whose state allows it. A
@@ -23,4 +28,15 @@ pub fn granted_where_needed()
 /// and it is the least deadline.
 pub fn done_to_what_is_handed()
     ensures { (asked : Call) → StepsAre asked (IsDoneTo asked) }
+{}
+
+/// Where a segment was taken, what a ledger keeps is kept, in the same room.
+pub fn segment_keeps()
+    ensures { (log : Log) (space : ℕ) → IsLedger log space → IsLedger (segmented log) space }
+{}
+
+/// Segments, each from the state at which the one before it stops, are together one run; those from the opening on are one legal run.
+pub fn segments_join()
+    ensures run { (limits : Limits) (a b : State) (pieces : List Piece) → AreSegments limits a pieces b → Run limits a (entries_of pieces) b }
+    ensures legal { (limits : Limits) (bodies : ℕ) (capacities : List ℕ) (b : State) (pieces : List Piece) → AreSegments limits (opening limits bodies capacities) pieces b → IsLegal limits bodies capacities (entries_of pieces) b }
 {}

@@ -1,11 +1,11 @@
 //! The run so far, and the call that goes on with it.
-ghost use Rattle.std.specs.Prelude.{◌≡◌, ◌<◌, All, List, None, true, false, slice_get, IfNone, IfOk, OnErr, OnOk};
+ghost use Rattle.std.specs.Prelude.{◌≡◌, ◌<◌, ◌≤◌, ◌+◌, [], All, List, None, true, false, is_some, slice_get, sum, IfErr, IfNone, IfOk, OnErr, OnOk};
 ghost use Rattle.gmp_seq.specs.declared.call.Entry.{Entry};
 ghost use Rattle.gmp_seq.specs.Fits.{AreLimits, Fits};
 ghost use Rattle.gmp_seq.specs.Machines.{is_parked_mode};
 ghost use Rattle.gmp_seq.specs.Run.{IsLegal, Run};
-ghost use Rattle.gmp_seq.specs.State.{opening};
 ghost use Rattle.gmp_seq.specs.Table.{is_outstanding, is_shelved};
+ghost use Rattle.gmp_start.specs.Start.{state_of};
 ghost use Rattle.gmp_table.specs.Kept.{IsListing};
 ghost use Rattle.std.specs.Option.{option_map_or};
 ghost use Rattle.gmp_seq.specs.Needs.{WantsMemory};
@@ -16,19 +16,23 @@ ghost use Rattle.gmp_ledger.specs.Known.{known_by};
 ghost use Rattle.gmp_seq.specs.Laws.{IsInOrder};
 ghost use Rattle.gmp_ledger.specs.Log.{Records, entries_made, opening_log};
 ghost use Rattle.gmp_ledger.specs.Refusals.{IsAllowed, IsCurrent, Says, first_refusal, is_foreign, refusal_in, refusal_of, turn_lines};
+ghost use Rattle.gmp_ledger.specs.Segments.{IsSegment, WhyNoSegment};
 
 use crate::handed::Handed;
 use crate::scheduler::Scheduler;
+use crate::segment::{Kept, Segment};
 use gmp_base::{MNo, Pass, Readiness, Refusal, Woke};
 use gmp_history::History;
 use gmp_seq::{Call, Limits, Outcome, Reply};
+use gmp_start::Start;
 use std::alloc::{AllocError, Global};
 use std::marker::Model;
+use std::mem;
 
 /// A run of the scheduler. A contract sees what it was opened with, its history, and its present state.
 ///
-/// The history is a run from a state of a legal run, the opening, to the present state, whatever is called. Only the opening and a
-/// make take memory.
+/// The history is a run from a state of a legal run to the present state, whatever is called. That is the opening, or the state at which
+/// the last segment was taken. Only the opening, a make and a segment take memory.
 #[derive(Drop)]
 pub struct Ledger {
     run: u64,
@@ -37,6 +41,7 @@ pub struct Ledger {
     capacities: Vec<u32>,
     scheduler: Scheduler,
     entries: History,
+    kept: Option<Kept>,
 }
 
 impl Model for Ledger {
@@ -72,6 +77,7 @@ impl Ledger {
             capacities,
             scheduler,
             entries,
+            kept: None,
         })
     }
 
@@ -92,14 +98,12 @@ impl Ledger {
         self.scheduler.outcome
     }
 
-    /// Every accepted call with its reply, in order: a legal run from the start.
+    /// Every accepted call since the last segment, with its reply, in order: a run from the start.
     pub fn history(&self) -> &History
         ensures entries { result.now.list ≡ self.now.history }
         ensures legal { Run self.now.limits self.now.start self.now.history self.now.state }
         // A legal run leads to the start.
         ensures before { (h : List Entry) × IsLegal self.now.limits self.now.bodies self.now.capacities h self.now.start }
-        // It is the opening.
-        ensures start { self.now.start ≡ opening self.now.limits self.now.bodies self.now.capacities }
         ensures fits { All Fits self.now.history }
         ensures within { AreLimits self.now.limits self.now.bodies self.now.capacities }
         // The shelf has each goroutine on it once, and no other.
@@ -245,13 +249,77 @@ impl Ledger {
             .map_err(|_| Refusal::OutOfMemory)
     }
 
-    /// The limits, what the channels of the opening could hold, and the history.
+    /// Whether a segment was taken since the outcome.
+    fn is_over(&self) -> bool
+        ensures { result ≡ is_some self.now.start.outcome }
+    {
+        match &self.kept {
+            Some(kept) => kept.outcome.is_some(),
+            None => false,
+        }
+    }
+
+    /// The start once more.
+    fn start(&self, alloc: Global) -> Result<Start, AllocError>
+        requires { self.now.start.outcome ≡ None }
+        ensures { IfOk result (λ s. state_of s ≡ self.now.start) }
+    {
+        match &self.kept {
+            Some(kept) => kept.start.copied(alloc),
+            None => Start::opening(alloc, self.limits, self.bodies, &self.capacities),
+        }
+    }
+
+    /// No entry, and room for as many as may still be made.
+    fn room(&self, alloc: Global) -> Result<History, AllocError>
+        ensures list { IfOk result (λ h. h.list ≡ []) }
+        ensures room { IfOk result (λ h. self.now.limits.entries ≤ h.room + entries_made self.now) }
+    {
+        let left = u64::from(self.limits.entries).saturating_sub(self.scheduler.counts.all());
+        History::with_room(alloc, left as u32)
+    }
+
+    /// Hands out the entries since the last segment, with the state before the first of them. It takes no pass and makes no entry, and the
+    /// start is the present state from then on. All memory is taken first; no later call but a make or a segment takes any.
+    pub fn segment(&mut self, alloc: Global) -> Result<Segment, Refusal>
+        ensures taken { IfOk result (λ x. IsSegment self.old x self.new) }
+        ensures few { IfOk result (λ x. sum x.start.counts.items ≤ 1000000) }
+        ensures why { IfErr result (WhyNoSegment self.old) }
+        ensures err { OnErr result (self.new ≡ self.old) }
+    {
+        if self.is_over() {
+            return Err(Refusal::Over);
+        }
+        let Ok(start) = self.start(alloc) else {
+            return Err(Refusal::OutOfMemory);
+        };
+        let Ok(next) = self.scheduler.copied(alloc) else {
+            return Err(Refusal::OutOfMemory);
+        };
+        let Ok(room) = self.room(alloc) else {
+            return Err(Refusal::OutOfMemory);
+        };
+        let end = self.scheduler.outcome;
+        self.kept = Some(Kept {
+            start: next,
+            outcome: end,
+        });
+        let entries = mem::replace(&mut self.entries, room);
+        Ok(Segment {
+            start,
+            entries,
+            end,
+        })
+    }
+
+    /// The limits, what the channels of the opening could hold, and the entries since the last segment.
     pub fn into_parts(self) -> (Limits, Vec<u32>, History)
         ensures limits { result.0 ≡ self.limits }
         ensures capacities { result.1.items ≡ self.capacities }
         ensures history { result.2.list ≡ self.history }
         ensures legal { Run self.limits self.start self.history self.state }
-        ensures start { self.start ≡ opening self.limits self.bodies self.capacities }
+        // A legal run leads to the start.
+        ensures before { (h : List Entry) × IsLegal self.limits self.bodies self.capacities h self.start }
         ensures fits { All Fits self.history }
         ensures within { AreLimits self.limits self.bodies self.capacities }
     {
@@ -262,6 +330,7 @@ impl Ledger {
             capacities,
             scheduler: _,
             entries,
+            kept: _,
         } = self;
         (limits, capacities, entries)
     }

@@ -6,6 +6,8 @@ mod handed;
 pub mod laws;
 mod ledger;
 mod scheduler;
+mod segment;
 
 pub use handed::{Handed, memory_for};
 pub use ledger::Ledger;
+pub use segment::Segment;

@@ -1,5 +1,5 @@
 //! Goroutines, channels and machines together: the effect of each call on them.
-ghost use Rattle.std.specs.Prelude.{◌≡◌, ℕ, [], ◌∷◌, ◌+◌, ◌<◌, ◌^◌, List, Option, Some, true, false, length, slice_get, sum, IfOk, OnErr, OnOk};
+ghost use Rattle.std.specs.Prelude.{◌≡◌, ℕ, [], ◌∷◌, ◌+◌, ◌<◌, ◌^◌, List, None, Option, Some, true, false, length, slice_get, sum, IfOk, OnErr, OnOk};
 ghost use Rattle.gmp_seq.specs.declared.call.Call.{Call};
 ghost use Rattle.gmp_seq.specs.declared.call.Outcome.{Outcome};
 ghost use Rattle.gmp_seq.specs.declared.status.Mode.{Mode};
@@ -10,6 +10,7 @@ ghost use Rattle.gmp_seq.specs.State.{SameChannels, main, opening};
 ghost use Rattle.gmp_seq.specs.Step.{Effect, Exits, OnTable, Parks, counted_one, LeavesBy};
 ghost use Rattle.gmp_seq.specs.Table.{IsCalling, IsRunning, RunsNothing, set_status};
 ghost use Rattle.gmp_goroutines.specs.Shelf.{Shelves};
+ghost use Rattle.gmp_start.specs.Start.{state_of};
 ghost use Rattle.gmp_seq.specs.Needs.{WantsMemory};
 ghost use Rattle.gmp_ledger.specs.Grants.{Chooses, Grants, NeedsMemory};
 ghost use Rattle.gmp_ledger.specs.Frequent.{is_frequent};
@@ -23,6 +24,7 @@ use gmp_base::{Case, Fault, GNo, MNo, PNo};
 use gmp_goroutines::Goroutines;
 use gmp_idle::Machines;
 use gmp_seq::{Call, Limits, Outcome, Reply};
+use gmp_start::{Start, copied_rows};
 use std::alloc::{AllocError, Global};
 
 /// Together the parts make a state as `gmp_seq` has it.
@@ -53,6 +55,24 @@ impl Scheduler {
             machines: Machines::opening(alloc, limits.procs, machines)?,
             counts: Counts::none(alloc, machines)?,
             outcome: None,
+        })
+    }
+
+    /// The same state as a start, but for its outcome.
+    pub(crate) fn copied(&self, alloc: Global) -> Result<Start, AllocError>
+        ensures { IfOk result (λ s. state_of s ≡ record (scheduler_state self.now) { outcome = None }) }
+    {
+        Ok(Start {
+            counts: self.counts.as_slice().to_vec(alloc)?,
+            clock: self.goroutines.clock(),
+            arrivals: self.goroutines.arrivals(),
+            holders: self.machines.holders().to_vec(alloc)?,
+            modes: self.machines.modes().to_vec(alloc)?,
+            spinning: self.machines.spinning(alloc)?,
+            marked: self.machines.marked(alloc)?,
+            active: self.machines.active(),
+            channels: self.goroutines.channels_copied(alloc)?,
+            goroutines: copied_rows(alloc, self.goroutines.rows())?,
         })
     }
 

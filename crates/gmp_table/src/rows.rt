@@ -68,6 +68,12 @@ impl Rows {
         self.bodies
     }
 
+    pub(crate) fn as_slice(&self) -> &[Goroutine]
+        ensures { result.now ≡ self.now }
+    {
+        &self.list
+    }
+
     pub(crate) fn get(&self, g: GNo) -> Option<&Goroutine>
         ensures { option_copied result ≡ slice_get self.now g.0 }
     {

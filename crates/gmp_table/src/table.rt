@@ -73,6 +73,20 @@ impl StatusTable {
         self.rows.get(g)
     }
 
+    /// All goroutines, by number.
+    pub fn rows(&self) -> &[Goroutine]
+        ensures { result.now ≡ self.now.table.goroutines }
+    {
+        self.rows.as_slice()
+    }
+
+    /// The latest moment that a tick told, in nanoseconds.
+    pub fn clock(&self) -> u64
+        ensures { result ≡ self.now.table.clock }
+    {
+        self.clock
+    }
+
     /// Whether somebody is on the shelf.
     pub fn has_shelved(&self) -> bool
         ensures some { result ≡ some_status is_shelved self.now.table }

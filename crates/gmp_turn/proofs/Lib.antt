@@ -10,3 +10,4 @@ pub mod Keeping
 pub mod Moving
 pub mod Kept
 pub mod InPlace
+pub mod Opened

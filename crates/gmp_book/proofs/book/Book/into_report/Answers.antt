@@ -1,8 +1,8 @@
-use Rattle.std.proofs.Common.{◌≡◌, ◌∙◌, All, Some, ap, length, rules, subst, sym}
+use Rattle.std.proofs.Common.{◌≡◌, ◌∙◌, All, List, Some, ap, length, rules, subst, sym}
 use Rattle.std.proofs.lemmas.List.{length-map}
 use Rattle.gmp_seq.specs.Fits.{AreLimits, Fits}
-use Rattle.gmp_seq.specs.Run.{Run}
-use Rattle.gmp_seq.specs.State.{opening}
+use Rattle.gmp_seq.specs.declared.call.Entry.{Entry}
+use Rattle.gmp_seq.specs.Run.{IsLegal, Run}
 use Rattle.gmp_ledger.specs.Log.{Log}
 use Rattle.gmp_book.proofs.book.Book.into_report.Goals as goal
 
@@ -20,7 +20,7 @@ returns-clause-report g c =
       stock = subst (λ (l : Log). length c.into_items.result.items ≡ l.bodies) same
           (sym (length-map c.into_items.result.items Some) ∙ (ap length c.into_items.ensures ∙ c.self.invariant.bodies_count));
       legal = subst (λ (l : Log). Run l.limits l.start l.history l.state) same told.legal;
-      start = subst (λ (l : Log). l.start ≡ opening l.limits l.bodies l.capacities) same told.start;
+      before = subst (λ (l : Log). (h : List Entry) × IsLegal l.limits l.bodies l.capacities h l.start) same told.before;
       fits = subst (λ (l : Log). All Fits l.history) same told.fits;
       within = subst (λ (l : Log). AreLimits l.limits l.bodies l.capacities) same told.within;
     }
