@@ -4,16 +4,12 @@ use Rattle.std.specs.List.{AllByRecursion}
 use Rattle.std.specs.Str.{bytes_eq}
 use Rattle.std.proofs.lemmas.Bool.{ltb-true, lt-ltb, not-true, and_parts}
 use Rattle.std.proofs.lemmas.List.{append-nil}
-use Rattle.gmp_trace.specs.Text.{Piece, piece_text, fields}
+use Rattle.gmp_trace.specs.Pieces.{Piece, piece_text, fields}
+pub use Rattle.gmp_trace.specs.Guess.{is_plain}
 use Rattle.gmp_trace.specs.Guess.{words_on, parted_on, parted, sides_on, sides}
 use Rattle.gmp_trace.proofs.Numbers.{IsDigit, all-weaker, decimal_digits}
 
 -- ---- words
-
--- each byte is above the space
-abbrev pub is_plain : List ℕ → Bool
-is_plain [] = true
-is_plain (b ∷ w) = ltb 32 b && is_plain w
 
 -- a word that is no arrow
 abbrev pub is_word : List ℕ → Bool

@@ -15,3 +15,17 @@ pub mod Pairs
 pub mod Parts
 pub mod OneFault
 pub mod Counting
+pub mod OfferLoop
+pub mod StartLists
+pub mod StartFlags
+pub mod StartChans
+pub mod StartRows
+pub mod StartSaid
+pub mod StartBack
+pub mod StartSame
+pub mod StartPushing
+pub mod StartSofar
+pub mod StartEnding
+pub mod StartUnique
+pub mod StartOnly
+pub mod StartFault

@@ -4,14 +4,14 @@ use Rattle.std.proofs.lemmas.List.{length-map, take_all}
 use Rattle.std.proofs.lemmas.List.Elements.{All-head, All-tail}
 use Rattle.gmp_seq.specs.declared.call.Limits.{Limits}
 use Rattle.gmp_seq.specs.Fits.{AreLimits}
-use Rattle.gmp_trace.specs.Text.{Piece, piece_text, fields, limit, limits_text, capacity_piece, capacities_text}
-use Rattle.gmp_trace.specs.Text.Piece.{Word, Number}
+use Rattle.gmp_trace.specs.Pieces.{Piece, piece_text, fields, limit, limits_text, capacity_piece, capacities_text}
+use Rattle.gmp_trace.specs.Pieces.Piece.{Word, Number}
 use Rattle.gmp_trace.specs.Guess.{words_on, limits_read, bodies_of, capacity_of}
 use Rattle.gmp_trace.specs.Reading.{FitLimits}
 use Rattle.gmp_trace.proofs.Lexing.{are_plain, words_of_line}
 use Rattle.gmp_trace.proofs.WordRows.{decimal_plain}
 use Rattle.gmp_trace.proofs.Rows.{small_again}
-use Rattle.gmp_trace.proofs.Lines.{regroup}
+use Rattle.gmp_trace.proofs.Lines.{guessed_line}
 
 -- ---- limits
 
@@ -64,11 +64,11 @@ limits_plain l bodies h =
     ) refl
 
 limits_words : (l : Limits) (bodies : ℕ) (more : List ℕ) → FitLimits l bodies
-    → take 1030 (words_on [] (limits_text l bodies ++ more)) ≡ codes "limits" ∷ map piece_text (limits_pieces l bodies)
+    → take 4110 (words_on [] (limits_text l bodies ++ more)) ≡ codes "limits" ∷ map piece_text (limits_pieces l bodies)
 limits_words l bodies more h =
-    ap (λ (t : List ℕ). take 1030 (words_on [] t)) (limits_line l bodies more)
-    ∙ ap (λ (ws : List (List ℕ)). take 1030 ws) (words_of_line (codes "limits") (limits_pieces l bodies) more refl (limits_plain l bodies h))
-    ∙ take_all 1030 (codes "limits" ∷ map piece_text (limits_pieces l bodies)) (omega arith)
+    ap (λ (t : List ℕ). take 4110 (words_on [] t)) (limits_line l bodies more)
+    ∙ ap (λ (ws : List (List ℕ)). take 4110 ws) (words_of_line (codes "limits") (limits_pieces l bodies) more refl (limits_plain l bodies h))
+    ∙ take_all 4110 (codes "limits" ∷ map piece_text (limits_pieces l bodies)) (omega arith)
 
 limits_again : (l : Limits) (bodies : ℕ) → FitLimits l bodies → limits_read (codes "limits" ∷ map piece_text (limits_pieces l bodies)) ≡ l
 unfolding limits_read
@@ -85,11 +85,11 @@ unfolding bodies_of
 bodies_again l bodies h = small_again 16 bodies h.stock (omega (arith, h.stock))
 
 pub guessed_limits : (text line : List ℕ) (words : List (List ℕ)) (guess l : Limits) (guess_bodies bodies : ℕ) (more : List ℕ)
-    → words ≡ take 1030 (words_on [] text) → guess ≡ limits_read words → guess_bodies ≡ bodies_of words → line ≡ limits_text guess guess_bodies
+    → words ≡ take 4110 (words_on [] text) → guess ≡ limits_read words → guess_bodies ≡ bodies_of words → line ≡ limits_text guess guess_bodies
     → FitLimits l bodies → text ≡ limits_text l bodies ++ more
     → (guess ≡ l) × (guess_bodies ≡ bodies) × (text ≡ line ++ more)
 guessed_limits text line words guess l guess_bodies bodies more split is_guess is_bodies written h is =
-    let all : words ≡ codes "limits" ∷ map piece_text (limits_pieces l bodies) = split ∙ ap (λ (t : List ℕ). take 1030 (words_on [] t)) is ∙ limits_words l bodies more h in
+    let all : words ≡ codes "limits" ∷ map piece_text (limits_pieces l bodies) = split ∙ ap (λ (t : List ℕ). take 4110 (words_on [] t)) is ∙ limits_words l bodies more h in
     let same : guess ≡ l = is_guess ∙ ap limits_read all ∙ limits_again l bodies h in
     let stock : guess_bodies ≡ bodies = is_bodies ∙ ap bodies_of all ∙ bodies_again l bodies h in
     (same, stock, is ∙ ap (λ (t : List ℕ). t ++ more) (sym (written ∙ ap₂ limits_text same stock)))
@@ -120,22 +120,11 @@ capacities_back (c ∷ cs) h =
     let small : IsSmall c = All-head IsSmall c cs h in
     rw (small_again 32 c small (omega (arith, small)), capacities_back cs (All-tail IsSmall c cs h)) refl
 
-capacities_line : (cs more : List ℕ) → capacities_text cs ++ more ≡ codes "caps" ++ (fields (map capacity_piece cs) ++ 10 ∷ more)
-unfolding capacities_text
-capacities_line cs more = regroup (codes "caps") (fields (map capacity_piece cs)) more
-
-capacities_words : (cs more : List ℕ) → All IsSmall cs → length cs < 1030
-    → take 1030 (words_on [] (capacities_text cs ++ more)) ≡ codes "caps" ∷ map piece_text (map capacity_piece cs)
-capacities_words cs more h few =
-    ap (λ (t : List ℕ). take 1030 (words_on [] t)) (capacities_line cs more)
-    ∙ ap (λ (ws : List (List ℕ)). take 1030 ws) (words_of_line (codes "caps") (map capacity_piece cs) more refl (capacities_plain cs h))
-    ∙ take_all 1030 (codes "caps" ∷ map piece_text (map capacity_piece cs)) (omega (arith, length-map (map capacity_piece cs) piece_text, length-map cs capacity_piece))
-
 pub guessed_capacities : (text line : List ℕ) (words : List (List ℕ)) (guess cs more : List ℕ)
-    → words ≡ take 1030 (words_on [] text) → guess ≡ map capacity_of (drop 1 words) → line ≡ capacities_text guess
+    → words ≡ take 4110 (words_on [] text) → guess ≡ map capacity_of (drop 1 words) → line ≡ capacities_text guess
     → All (λ c. c < 2 ^ 32) cs → length cs < 1030 → text ≡ capacities_text cs ++ more
     → (guess ≡ cs) × (text ≡ line ++ more)
+unfolding capacities_text
 guessed_capacities text line words guess cs more split is_guess written h few is =
-    let all : words ≡ codes "caps" ∷ map piece_text (map capacity_piece cs) = split ∙ ap (λ (t : List ℕ). take 1030 (words_on [] t)) is ∙ capacities_words cs more h few in
-    let same : guess ≡ cs = is_guess ∙ ap (λ (ws : List (List ℕ)). map capacity_of (drop 1 ws)) all ∙ capacities_back cs h in
-    (same, is ∙ ap (λ (t : List ℕ). t ++ more) (sym (written ∙ ap capacities_text same)))
+    guessed_line (codes "caps") (map capacity_piece) (λ ws. map capacity_of (drop 1 ws)) text line words guess cs more refl split is_guess written
+    (capacities_plain cs h) (omega (arith, length-map cs capacity_piece, few)) (capacities_back cs h) is

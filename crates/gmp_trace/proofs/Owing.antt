@@ -1,18 +1,27 @@
 -- What a writer is owed, and what went out.
-use Rattle.std.proofs.Common.{◌≡◌, ℕ, suc, ◌+◌, ◌<◌, List, [], ◌∷◌, ◌++◌, get_or, length, drop, Option, Some, None, Ok, Err, Result, IfErr, refl, sym, ap, ◌∙◌, append_assoc, add-one, drop-cons}
+use Rattle.std.proofs.Common.{◌≡◌, ℕ, suc, ◌+◌, ◌<◌, ◌^◌, List, [], ◌∷◌, ◌++◌, get_or, length, drop, Option, Some, None, Ok, Err, Result, IfErr, refl, sym, ap, ◌∙◌, append_assoc, add-one, drop-cons, arith}
 use Rattle.std.proofs.lemmas.List.{append-nil}
 use Rattle.std.specs.Io.KnownBytes.{Appends}
 use Rattle.gmp_seq.specs.declared.call.Entry.{Entry}
 use Rattle.gmp_trace.specs.declared.writing.WriteError.{WriteError}
 use Rattle.gmp_trace.specs.declared.writing.WriteError.TheVariants.{OutOfMemory}
-use Rattle.gmp_trace.specs.Text.{Owes, AppendsStart, entry_text, entries_text}
+use Rattle.gmp_trace.specs.Pieces.{entry_text, entries_text}
+use Rattle.gmp_trace.specs.Text.{AppendsStart, Begins, IsCounted, Owes, first_number}
+use Rattle.gmp_trace.specs.Text.Begins.{AtOpening, AtState}
 
--- the text of the entries from n on begins with that of entry n
-pub entries_text-next : (n : ℕ) (es : List Entry) (e : Entry) (out : List ℕ) → n < length es → e ≡ get_or es n e
-    → out ++ entries_text n (drop n es) ≡ (out ++ entry_text n e) ++ entries_text (n + 1) (drop (n + 1) es)
-entries_text-next n es e out below is =
-    let parts : drop n es ≡ e ∷ drop (n + 1) es = rw (add-one n) (drop-cons es n e below ∙ ap (λ (x : Entry). x ∷ drop (suc n) es) (sym is)) in
-    ap (λ (rest : List Entry). out ++ entries_text n rest) parts ∙ sym (append_assoc out (entry_text n e) (entries_text (n + 1) (drop (n + 1) es)))
+pub counted_low : (b : Begins) → IsCounted b → first_number b < 2 ^ 63
+counted_low (AtOpening capacities) h = omega arith
+counted_low (AtState s) h = h
+
+-- the text of the entries from entry i on, of which the first of all has number n, begins with that of entry i
+pub entries_text-next : (n i : ℕ) (es : List Entry) (e : Entry) (out : List ℕ) → i < length es → e ≡ get_or es i e
+    → out ++ entries_text (n + i) (drop i es) ≡ (out ++ entry_text (n + i) e) ++ entries_text (n + (i + 1)) (drop (i + 1) es)
+entries_text-next n i es e out below is =
+    let parts : drop i es ≡ e ∷ drop (i + 1) es = rw (add-one i) (drop-cons es i e below ∙ ap (λ (x : Entry). x ∷ drop (suc i) es) (sym is)) in
+    let next : n + i + 1 ≡ n + (i + 1) = omega arith in
+    ap (λ (rest : List Entry). out ++ entries_text (n + i) rest) parts
+    ∙ sym (append_assoc out (entry_text (n + i) e) (entries_text (n + i + 1) (drop (i + 1) es)))
+    ∙ ap (λ (k : ℕ). (out ++ entry_text (n + i) e) ++ entries_text k (drop (i + 1) es)) next
 
 -- nothing went out
 Appends-nothing : (old : Option (List ℕ)) → Appends old old []

@@ -23,8 +23,8 @@ use Rattle.gmp_seq.specs.declared.call.Taken.{Taken}
 use Rattle.gmp_seq.specs.declared.call.Taken.TheVariants as taken
 use Rattle.gmp_seq.specs.Fits.{FitsReadiness, FitsCall, FitsReply, FitsRelay, FitsTaken, IsMachineNumber}
 use Rattle.gmp_trace.specs.HasText.{answers}
-use Rattle.gmp_trace.specs.Text.{Piece, piece_text, channel_text, case_text, readiness, boolean, call_pieces, reply_pieces, default_pieces, until_pieces, served_pieces, moved_pieces, woken_pieces, taken_pieces}
-use Rattle.gmp_trace.specs.Text.Piece.{OfCase}
+use Rattle.gmp_trace.specs.Pieces.{Piece, piece_text, channel_text, case_text, readiness, boolean, call_pieces, reply_pieces, default_pieces, until_pieces, served_pieces, moved_pieces, woken_pieces, taken_pieces}
+use Rattle.gmp_trace.specs.Pieces.Piece.{OfCase}
 use Rattle.gmp_trace.specs.Guess.{parted, number_read, narrow, byte_at, word_at, readiness_read, channel_read, is_case, case_read, leading_cases, default_of, until_of, select_read, call_named, call_of, fault_of, served_of, relay_of, woken_of, taken_of, idle_of, shelf_of, reply_named, reply_of}
 use Rattle.gmp_trace.proofs.Numbers.{number_again, narrow_again, decimal_digits, IsDigit}
 use Rattle.gmp_trace.proofs.Lexing.{HasNo, pair_parted, parted_again, decimal_has_no}

@@ -34,10 +34,10 @@ pub words_at_end : (front t : List ℕ) (i : ℕ) → length t ≤ i → words_o
 words_at_end front t i past = rw (drop_all i t past) refl
 
 -- all words were found
-pub found_all : (words all : List (List ℕ)) → words ≡ all → length words ≤ 1030 → words ≡ take 1030 all
-found_all words all is few = is ∙ sym (take_all 1030 all (omega (arith, ap length is, few)))
+pub found_all : (words all : List (List ℕ)) → words ≡ all → length words ≤ 4110 → words ≡ take 4110 all
+found_all words all is few = is ∙ sym (take_all 4110 all (omega (arith, ap length is, few)))
 
 -- as many words were found as may be
-pub found_most : (words rest all : List (List ℕ)) → words ++ rest ≡ all → length words ≡ 1030 → words ≡ take 1030 all
+pub found_most : (words rest all : List (List ℕ)) → words ++ rest ≡ all → length words ≡ 4110 → words ≡ take 4110 all
 found_most words rest all is full =
-    sym (ap (λ (ws : List (List ℕ)). take 1030 ws) (sym is) ∙ take-append-le 1030 words rest (omega (arith, full)) ∙ take_all 1030 words (omega (arith, full)))
+    sym (ap (λ (ws : List (List ℕ)). take 4110 ws) (sym is) ∙ take-append-le 4110 words rest (omega (arith, full)) ∙ take_all 4110 words (omega (arith, full)))

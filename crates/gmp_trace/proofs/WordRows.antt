@@ -20,8 +20,8 @@ use Rattle.gmp_seq.specs.declared.call.Reply.TheVariants as reply
 use Rattle.gmp_seq.specs.declared.call.Taken.{Taken}
 use Rattle.gmp_seq.specs.declared.call.Taken.TheVariants as taken
 use Rattle.gmp_seq.specs.Fits.{FitsReadiness, FitsCall, FitsReply, FitsRelay, FitsTaken, IsMachineNumber}
-use Rattle.gmp_trace.specs.Text.{Piece, piece_text, channel_text, case_text, boolean, readiness, call_pieces, reply_pieces, default_pieces, until_pieces, served_pieces, moved_pieces, woken_pieces, fault_pieces, taken_pieces, got_pieces}
-use Rattle.gmp_trace.specs.Text.Piece.{OfCase}
+use Rattle.gmp_trace.specs.Pieces.{Piece, piece_text, channel_text, case_text, boolean, readiness, call_pieces, reply_pieces, default_pieces, until_pieces, served_pieces, moved_pieces, woken_pieces, fault_pieces, taken_pieces, got_pieces}
+use Rattle.gmp_trace.specs.Pieces.Piece.{OfCase}
 use Rattle.gmp_trace.proofs.Numbers.{decimal_digits}
 use Rattle.gmp_trace.proofs.Lexing.{is_plain, is_word, are_words, plain_digits, plain-append, no_arrow}
 

@@ -9,6 +9,7 @@ abbrev pub word_of : Why → List ℕ
 word_of why.Header = codes "header"
 word_of why.Limits = codes "limits"
 word_of why.Caps = codes "caps"
+word_of why.Start = codes "start"
 word_of why.Grammar = codes "grammar"
 word_of why.Number = codes "number"
 word_of why.End = codes "end"

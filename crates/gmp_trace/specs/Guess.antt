@@ -1,5 +1,5 @@
 -- What words are taken for before a reader compares. Nothing is refused.
-use Rattle.std.specs.Prelude.{ℕ, zero, suc, ◌||◌, ◌+◌, ◌*◌, ◌%◌, ◌^◌, ◌==◌, Bool, true, false, if◌then◌else◌, List, [], ◌∷◌, ◌++◌, map, codes, drop, slice_index_or, Option, None, Some}
+use Rattle.std.specs.Prelude.{ℕ, zero, suc, ◌||◌, ◌&&◌, ltb, ◌+◌, ◌*◌, ◌%◌, ◌^◌, ◌==◌, Bool, true, false, if◌then◌else◌, List, [], ◌∷◌, ◌++◌, map, codes, drop, slice_index_or, Option, None, Some}
 use Rattle.std.specs.Str.{bytes_eq}
 use Rattle.gmp_base.specs.declared.ask.Fault.{Fault}
 use Rattle.gmp_base.specs.declared.ask.Fault.TheVariants as fault
@@ -27,6 +27,11 @@ use Rattle.gmp_trace.specs.declared.trace.End.TheVariants.{MainEnded, AllAsleep,
 abbrev pub words_on : List ℕ → List ℕ → List (List ℕ)
 words_on front [] = front ∷ []
 words_on front (b ∷ bs) = if b == 10 then front ∷ [] else (if b == 32 then front ∷ words_on [] bs else words_on (front ++ b ∷ []) bs)
+
+-- each byte is above the space
+abbrev pub is_plain : List ℕ → Bool
+is_plain [] = true
+is_plain (b ∷ w) = ltb 32 b && is_plain w
 
 -- a text before the first such byte, and behind it
 abbrev pub parted_on : ℕ → List ℕ → List ℕ → List ℕ × List ℕ

@@ -1,5 +1,5 @@
 -- Which traces have a text.
-use Rattle.std.specs.Prelude.{◌≡◌, ℕ, ◌<◌, ◌==◌, Bool, true, false, List, [], ◌∷◌, ◌++◌, IsTrue, count_by, All}
+use Rattle.std.specs.Prelude.{◌≡◌, ℕ, ◌+◌, ◌<◌, ◌==◌, Bool, true, false, List, [], ◌∷◌, ◌++◌, IsTrue, count_by, length, slice_index, All}
 use Rattle.std.specs.List.{AllByRecursion}
 use Rattle.gmp_base.specs.declared.ask.Fault.TheVariants as fault
 use Rattle.gmp_base.specs.declared.number.MNo.{MNo}
@@ -9,7 +9,10 @@ use Rattle.gmp_seq.specs.declared.call.Entry.{Entry}
 use Rattle.gmp_seq.specs.declared.call.Reply.{Reply}
 use Rattle.gmp_seq.specs.declared.call.Reply.TheVariants as reply
 use Rattle.gmp_seq.specs.Fits.{AreLimits, Fits}
-use Rattle.gmp_trace.specs.Text.{Content}
+use Rattle.gmp_seq.specs.declared.call.Limits.{Limits}
+use Rattle.gmp_trace.specs.StartWhole.{IsStart}
+use Rattle.gmp_trace.specs.Text.{Begins, Content, first_number}
+use Rattle.gmp_trace.specs.Text.Begins.{AtOpening, AtState}
 
 -- may the call be answered so
 abbrev pub answers : Call → Reply → Bool
@@ -77,15 +80,40 @@ answers _ _ = false
 abbrev pub turns : MNo → List Entry → ℕ
 turns m es = count_by (λ (e : Entry). e.m.0 == m.0) es
 
--- behind these entries, each is of one of the machines, and its number is how many entries its machine made before
-abbrev pub AreNumbered : ℕ → List Entry → List Entry → Type 0
-AreNumbered machines before [] = Unit {0}
-AreNumbered machines before (e ∷ es) = (e.m.0 < machines) × (e.k ≡ turns e.m before) × AreNumbered machines (before ++ e ∷ []) es
+-- where the entries of a trace begin: how many machines there are, the number of the first entry, how many lines stand before it, and how many
+-- entries each machine made before
+pub record Origin : Type 0 where
+  pub machines : ℕ
+  pub number : ℕ
+  pub lines : ℕ
+  pub made : MNo → ℕ
 
--- Limits and capacities are in their ranges, the numbers of each entry within their types, the entries are numbered, and each call is answered
--- as it may be.
+-- lines 1 to 3 of version 1; of version 2 lines 1 and 2, six of the machines, a line for each channel and goroutine, and `begin`
+abbrev pub lines_before : Begins → ℕ
+lines_before (AtOpening capacities) = 3
+lines_before (AtState s) = 9 + length s.channels + length s.table.goroutines
+
+-- how many entries the machine made before the first one of the trace
+abbrev pub made_before : Begins → MNo → ℕ
+made_before (AtOpening capacities) m = 0
+made_before (AtState s) m = slice_index s.counts m.0
+
+abbrev pub origin : ℕ → Begins → Origin
+origin machines b = record { machines = machines; number = first_number b; lines = lines_before b; made = made_before b }
+
+-- a run within these limits, by so many goroutines, may begin so
+abbrev pub IsBeginning : Limits → ℕ → Begins → Type 0
+IsBeginning limits bodies (AtOpening capacities) = AreLimits limits bodies capacities
+IsBeginning limits bodies (AtState s) = AreLimits limits bodies [] × IsStart limits bodies s
+
+-- behind these entries, each is of one of the machines, and its number is how many entries its machine made before
+abbrev pub AreNumbered : Origin → List Entry → List Entry → Type 0
+AreNumbered from before [] = Unit {0}
+AreNumbered from before (e ∷ es) = (e.m.0 < from.machines) × (e.k ≡ from.made e.m + turns e.m before) × AreNumbered from (before ++ e ∷ []) es
+
+-- The run may begin so, the numbers of each entry are within their types, the entries are numbered, and each call is answered as it may be.
 pub record HasText (x : Content) : Type 0 where
-  pub limits : AreLimits x.limits x.bodies x.capacities
+  pub beginning : IsBeginning x.limits x.bodies x.begins
   pub fits : All Fits x.entries
-  pub numbered : AreNumbered x.limits.machines [] x.entries
+  pub numbered : AreNumbered (origin x.limits.machines x.begins) [] x.entries
   pub answered : AllByRecursion (λ (e : Entry). IsTrue (answers e.call e.reply)) x.entries

@@ -1,6 +1,13 @@
 pub mod Bad
 pub mod Guess
+pub mod Pieces
+pub mod StartText
+pub mod StartForms
+pub mod StartGuess
+pub mod StartNext
+pub mod StartWhole
+pub mod Text
 pub mod HasText
 pub mod Reading
+pub mod Beginning
 pub mod Summary
-pub mod Text

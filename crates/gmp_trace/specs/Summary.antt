@@ -6,8 +6,9 @@ use Rattle.gmp_seq.specs.declared.call.Call.{Call}
 use Rattle.gmp_seq.specs.declared.call.Entry.{Entry}
 use Rattle.gmp_trace.specs.declared.trace.End.{End}
 use Rattle.gmp_trace.specs.HasText.{turns}
-use Rattle.gmp_trace.specs.Text.{Content, Piece, call_pieces, end_pieces, line, number, piece_text}
-use Rattle.gmp_trace.specs.Text.Piece.{Word}
+use Rattle.gmp_trace.specs.Pieces.{Piece, call_pieces, end_pieces, line, number, piece_text}
+use Rattle.gmp_trace.specs.Text.{Content}
+use Rattle.gmp_trace.specs.Pieces.Piece.{Word}
 
 -- how the run ended
 unfoldable pub outcome_line : End → List ℕ

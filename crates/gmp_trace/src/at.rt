@@ -9,7 +9,7 @@ ghost use Rattle.gmp_seq.specs.Fits.{Fits};
 ghost use Rattle.gmp_trace.specs.declared.trace.End.{End};
 ghost use Rattle.gmp_trace.specs.Guess.{bodies_of, capacity_of, end_in, entry_of, limits_read};
 ghost use Rattle.gmp_trace.specs.Reading.{FitLimits, IsEntry};
-ghost use Rattle.gmp_trace.specs.Text.{capacities_text, end_text, entry_text, limits_text};
+ghost use Rattle.gmp_trace.specs.Pieces.{capacities_text, end_text, entry_text, limits_text};
 
 use crate::guess::guess_call;
 use crate::guess_reply::guess_reply;

@@ -12,6 +12,8 @@ pub enum Why {
     Header,
     Limits,
     Caps,
+    /// A line of version 2's start is bad, or the state doesn't fit together.
+    Start,
     Grammar,
     Number,
     End,
@@ -31,6 +33,7 @@ impl Why {
             Why::Header => "header",
             Why::Limits => "limits",
             Why::Caps => "caps",
+            Why::Start => "start",
             Why::Grammar => "grammar",
             Why::Number => "number",
             Why::End => "end",

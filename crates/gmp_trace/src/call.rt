@@ -1,8 +1,8 @@
 //! The words of a call.
 
 ghost use Rattle.std.specs.Prelude.{◌≡◌, ◌+◌, ◌*◌, ◌≤◌, ◌++◌, OnOk, length, take, map};
-ghost use Rattle.gmp_trace.specs.Text.{fields, call_pieces, default_pieces, until_pieces};
-ghost use Rattle.gmp_trace.specs.Text.Piece.{OfCase};
+ghost use Rattle.gmp_trace.specs.Pieces.{fields, call_pieces, default_pieces, until_pieces};
+ghost use Rattle.gmp_trace.specs.Pieces.Piece.{OfCase};
 
 use crate::place::{
     place_case, place_named, place_named_channel, place_named_readiness, place_number, place_word,

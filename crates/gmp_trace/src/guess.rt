@@ -64,7 +64,8 @@ fn default<'b, 'a>(words: &'b [&'a [u8]]) -> (bool, &'b [&'a [u8]])
     }
 }
 
-fn until(words: &[&[u8]]) -> Option<u64>
+/// The deadline that the words begin with.
+pub fn until(words: &[&[u8]]) -> Option<u64>
     ensures { result ≡ until_of (map (λ w. w.now) words.now) }
 {
     if word(words, 0) == b"until".as_slice() {

@@ -1,21 +1,23 @@
 //! Lines of the text.
 
 ghost use Rattle.std.specs.Prelude.{◌≡◌, ◌≤◌, ◌++◌, OnOk, length, take};
-ghost use Rattle.gmp_trace.specs.Text.{limit, limits_text, capacities_text, opening_text, end_text, entry_text};
+ghost use Rattle.gmp_trace.specs.Pieces.{limit, limits_text, capacities_text, end_text, entry_text};
+ghost use Rattle.gmp_trace.specs.Text.{IsCounted, begins_of, beginning_text};
 
 use crate::call::place_call;
 use crate::digits::place_digits;
 use crate::place::{place_byte, place_pair, place_word};
 use crate::put::{put, put_named, put_number};
 use crate::reply::place_reply;
-use crate::trace::End;
+use crate::start::put_start;
+use crate::trace::{BeginningView, End};
 use gmp_seq::{Entry, Limits};
 use std::alloc::AllocError;
 
 /// A line of an entry is no longer: its longest has a select of 8 sends.
 pub const LONGEST: usize = 640;
 
-#[tactic(auto, unfolding(crate::specs::Text::limit))]
+#[tactic(auto, unfolding(crate::specs::Pieces::limit))]
 fn put_limit(out: &mut Vec<u8>, name: &[u8], n: u64) -> Result<(), AllocError>
     ensures { OnOk result (out.new.items ≡ out.old.items ++ limit name.now n) }
 {
@@ -23,7 +25,7 @@ fn put_limit(out: &mut Vec<u8>, name: &[u8], n: u64) -> Result<(), AllocError>
 }
 
 /// The second line.
-#[tactic(auto, unfolding(crate::specs::Text::limits_text))]
+#[tactic(auto, unfolding(crate::specs::Pieces::limits_text))]
 pub fn put_limits(out: &mut Vec<u8>, limits: &Limits, bodies: u16) -> Result<(), AllocError>
     ensures { OnOk result (out.new.items ≡ out.old.items ++ limits_text limits.now bodies) }
 {
@@ -38,7 +40,7 @@ pub fn put_limits(out: &mut Vec<u8>, limits: &Limits, bodies: u16) -> Result<(),
 }
 
 /// The third line.
-#[tactic(auto, unfolding(crate::specs::Text::capacities_text))]
+#[tactic(auto, unfolding(crate::specs::Pieces::capacities_text))]
 pub fn put_capacities(out: &mut Vec<u8>, capacities: &[u32]) -> Result<(), AllocError>
     ensures { OnOk result (out.new.items ≡ out.old.items ++ capacities_text capacities.now) }
 {
@@ -50,25 +52,33 @@ pub fn put_capacities(out: &mut Vec<u8>, capacities: &[u32]) -> Result<(), Alloc
     Ok(())
 }
 
-/// The lines before the entries.
-#[tactic(auto, unfolding(crate::specs::Text::opening_text))]
-pub fn put_opening(
+/// The lines before the entries. It takes no more memory than they have bytes.
+pub fn put_beginning(
     out: &mut Vec<u8>,
     limits: &Limits,
     bodies: u16,
-    capacities: &[u32],
+    beginning: BeginningView,
 ) -> Result<(), AllocError>
-    ensures { OnOk result (out.new.items ≡ out.old.items ++ opening_text limits.now bodies capacities.now) }
+    requires { IsCounted (begins_of beginning) }
+    ensures { OnOk result (out.new.items ≡ out.old.items ++ beginning_text limits.now bodies (begins_of beginning.entry)) }
 {
-    put(out, b"gmp-trace 1\n")?;
-    put_limits(out, limits, bodies)?;
-    put_capacities(out, capacities)?;
-    Ok(())
+    match beginning {
+        BeginningView::Opening(capacities) => {
+            put(out, b"gmp-trace 1\n")?;
+            put_limits(out, limits, bodies)?;
+            put_capacities(out, capacities)
+        }
+        BeginningView::Start(start) => {
+            put(out, b"gmp-trace 2\n")?;
+            put_limits(out, limits, bodies)?;
+            put_start(out, start.made(), start)
+        }
+    }
 }
 
 /// The line of an entry, at the beginning of the room: its number, its machine and which of the machine's it is, the
 /// call and the reply.
-#[tactic(auto, unfolding(crate::specs::Text::entry_text))]
+#[tactic(auto, unfolding(crate::specs::Pieces::entry_text))]
 fn place_entry(line: &mut [u8], number: u64, entry: &Entry) -> usize
     requires { 640 ≤ length line.old }
     ensures text { take result line.new ≡ entry_text number entry.now }
@@ -103,7 +113,7 @@ pub fn put_entry(out: &mut Vec<u8>, number: u64, entry: &Entry) -> Result<(), Al
 }
 
 /// The last line.
-#[tactic(auto, unfolding(crate::specs::Text::end_text))]
+#[tactic(auto, unfolding(crate::specs::Pieces::end_text))]
 pub fn put_end(out: &mut Vec<u8>, end: End) -> Result<(), AllocError>
     ensures { OnOk result (out.new.items ≡ out.old.items ++ end_text end) }
 {

@@ -2,7 +2,7 @@
 //! in the words had 20 digits.
 
 ghost use Rattle.std.specs.Prelude.{◌≡◌, ◌+◌, ◌<◌, ◌≤◌, [], ◌∷◌, ◌++◌, length, take, decimal};
-ghost use Rattle.gmp_trace.specs.Text.{boolean, channel_text, case_text, piece_text};
+ghost use Rattle.gmp_trace.specs.Pieces.{boolean, channel_text, case_text, piece_text};
 
 use crate::digits::place_digits;
 use gmp_base::{CNo, Case, Readiness};

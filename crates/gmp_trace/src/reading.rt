@@ -6,7 +6,7 @@ ghost use Rattle.gmp_seq.specs.declared.call.Entry.{Entry};
 ghost use Rattle.gmp_seq.specs.declared.call.Limits.{Limits};
 ghost use Rattle.gmp_seq.specs.Fits.{FitsCall};
 ghost use Rattle.gmp_trace.specs.Reading.{FitLimits, IsEntry};
-ghost use Rattle.gmp_trace.specs.Text.{call_pieces, capacities_text, entry_text, fields, limits_text};
+ghost use Rattle.gmp_trace.specs.Pieces.{call_pieces, capacities_text, entry_text, fields, limits_text};
 
 use crate::at::{blank, capacities_at, entry_at, limits_at};
 use crate::call::put_call;

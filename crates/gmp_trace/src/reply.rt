@@ -1,7 +1,7 @@
 //! The words of a reply.
 
 ghost use Rattle.std.specs.Prelude.{◌≡◌, ◌+◌, ◌≤◌, ◌++◌, length, take};
-ghost use Rattle.gmp_trace.specs.Text.{fields, served_pieces, moved_pieces, woken_pieces, sent_pieces, got_pieces, fault_pieces, taken_pieces, reply_pieces};
+ghost use Rattle.gmp_trace.specs.Pieces.{fields, served_pieces, moved_pieces, woken_pieces, sent_pieces, got_pieces, fault_pieces, taken_pieces, reply_pieces};
 
 use crate::place::{
     place_bool, place_named, place_named_channel, place_named_readiness, place_word,

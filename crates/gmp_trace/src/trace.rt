@@ -1,10 +1,11 @@
 //! A whole trace.
 
 ghost use Rattle.std.specs.Prelude.{◌≡◌};
-ghost use Rattle.gmp_trace.specs.Text.{content, content_of, end_of};
+ghost use Rattle.gmp_trace.specs.Text.{IsCounted, begins_at, begins_of, content, content_of, end_of, first_number};
 
 use gmp_history::History;
 use gmp_seq::{Limits, Outcome};
+use gmp_start::Start;
 
 /// How a run ended.
 #[derive(Clone, Copy, Debug, PartialEq, Eq)]
@@ -30,14 +31,63 @@ impl End {
     }
 }
 
-/// A run, and what it was opened with.
+/// The version of a text.
+#[derive(Clone, Copy, Debug, PartialEq, Eq)]
+pub enum Version {
+    /// It begins at the opening.
+    One,
+    /// It begins at a state.
+    Two,
+}
+
+/// How a run begins.
+#[derive(Debug, Drop)]
+pub enum Beginning {
+    /// At the opening, with channels of these capacities.
+    Opening(Vec<u32>),
+    /// At a state that another run led to.
+    Start(Start),
+}
+
+/// The same of a run that lies elsewhere.
+#[derive(Clone, Copy, Debug)]
+pub enum BeginningView<'a> {
+    Opening(&'a [u32]),
+    Start(&'a Start),
+}
+
+impl Beginning {
+    /// The beginning where it lies.
+    pub fn view(&self) -> BeginningView<'_>
+        ensures { begins_of result ≡ begins_at self.now }
+    {
+        match self {
+            Beginning::Opening(capacities) => BeginningView::Opening(capacities),
+            Beginning::Start(start) => BeginningView::Start(start),
+        }
+    }
+}
+
+impl BeginningView<'_> {
+    /// The number of the first entry: so many were made before.
+    pub fn first_number(&self) -> u64
+        requires { IsCounted (begins_of self.now) }
+        ensures { result ≡ first_number (begins_of self.now) }
+    {
+        match self {
+            BeginningView::Opening(_) => 0,
+            BeginningView::Start(start) => start.made(),
+        }
+    }
+}
+
+/// A run, and how it begins.
 #[derive(Debug, Drop)]
 pub struct Trace {
     pub limits: Limits,
     /// How many goroutines there are.
     pub bodies: u16,
-    /// The capacities of the channels that were there at the opening.
-    pub capacities: Vec<u32>,
+    pub beginning: Beginning,
     /// The calls in order, each with its reply.
     pub entries: History,
     pub end: End,
@@ -49,8 +99,7 @@ pub struct TraceView<'a> {
     pub limits: Limits,
     /// How many goroutines there are.
     pub bodies: u16,
-    /// The capacities of the channels that were there at the opening.
-    pub capacities: &'a [u32],
+    pub beginning: BeginningView<'a>,
     /// The calls in order, each with its reply.
     pub entries: &'a History,
     pub end: End,
@@ -64,7 +113,7 @@ impl Trace {
         TraceView {
             limits: self.limits,
             bodies: self.bodies,
-            capacities: &self.capacities,
+            beginning: self.beginning.view(),
             entries: &self.entries,
             end: self.end,
         }

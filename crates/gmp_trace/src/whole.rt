@@ -1,22 +1,31 @@
 //! Reads a whole trace.
 
-ghost use Rattle.std.specs.Prelude.{◌≡◌, ◌≢◌, ◌↔◌, ◌<◌, ◌≤◌, ◌++◌, ◌^◌, [], ℕ, List, IsTrue, IfOk, IfErr, IfSome, IsSomeAnd, MatchResult, slice_index};
+ghost use Rattle.std.specs.Prelude.{◌≡◌, ◌≢◌, ◌↔◌, ◌+◌, ◌<◌, ◌≤◌, ◌++◌, ◌^◌, [], ℕ, List, IsTrue, IfOk, IfErr, IfSome, IsSomeAnd, MatchOption, MatchResult, slice_index};
 ghost use Rattle.gmp_base.specs.declared.number.MNo.{MNo};
 ghost use Rattle.gmp_seq.specs.declared.call.Entry.{Entry};
 ghost use Rattle.gmp_seq.specs.declared.call.Limits.{Limits};
 ghost use Rattle.gmp_seq.specs.Fits.{AreLimits};
+ghost use Rattle.gmp_seq.specs.State.{State};
+ghost use Rattle.gmp_start.specs.Start.{state_of};
 ghost use Rattle.gmp_trace.specs.declared.trace.End.{End};
-ghost use Rattle.gmp_trace.specs.HasText.{HasText, answers, turns};
-ghost use Rattle.gmp_trace.specs.Reading.{AreEntries, IsBody, IsBodyFault, IsEntry, IsFault, IsLastFault, IsNext};
-ghost use Rattle.gmp_trace.specs.Text.{Content, capacities_text, content, end_text, entries_text, entry_text, limits_text, text};
+ghost use Rattle.gmp_trace.specs.declared.trace.Version.{Version};
+ghost use Rattle.gmp_trace.specs.Beginning.{BeginsSo, IsFirst, IsSmall};
+ghost use Rattle.gmp_trace.specs.HasText.{HasText, Origin, answers, origin, turns};
+ghost use Rattle.gmp_trace.specs.Pieces.{capacities_text, end_text, entries_text, entry_text, limits_text};
+ghost use Rattle.gmp_trace.specs.Reading.{AreEntries, HasLimits, IsBody, IsBodyFault, IsEntry, IsFault, IsHeaderFault, IsLastFault, IsNext};
+ghost use Rattle.gmp_trace.specs.StartWhole.{IsStart};
+ghost use Rattle.gmp_trace.specs.Text.{Begins, Content, IsCounted, begins_at, begins_text, content, header, text};
+ghost use Rattle.gmp_trace.specs.Text.Begins.{AtOpening, AtState};
 
 use crate::at::{behind, blank, capacities_at, end_at, entry_at, limits_at};
 use crate::bad::{Bad, Why};
-use crate::trace::{End, Trace};
+use crate::start::{begin_line, read_whole_start};
+use crate::trace::{Beginning, End, Trace, Version};
 use crate::watch::{Watch, Work, tell};
 use gmp_base::Fault;
 use gmp_history::History;
 use gmp_seq::{Call, Entry, Limits, Reply};
+use gmp_start::Start;
 use std::alloc::{AllocError, Global};
 
 const OUT_OF_MEMORY: Bad = Bad {
@@ -145,80 +154,94 @@ fn answered_at<'a>(
     Ok(Some((n, rest)))
 }
 
-/// The end that the text says behind so many entries.
+/// The end that the text says behind so many lines.
 fn last<'a>(
-    number: u64,
+    lines: u64,
     text: &'a [u8],
     words: &mut Vec<&'a [u8]>,
     line: &mut Vec<u8>,
 ) -> Result<End, Bad>
-    requires { number < 2 ^ 63 }
+    requires { lines < 2 ^ 63 }
     ensures found { IfOk result (λ end. text.now ≡ end_text end) }
     ensures only { (end : End) → text.now ≡ end_text end → MatchResult result (λ e. e ≡ end) (λ bad. bad.why ≡ Why.OutOfMemory) }
-    ensures fault { IfErr result (λ bad. IsLastFault number text.now bad.line bad.why) }
+    ensures fault { IfErr result (λ bad. IsLastFault lines text.now bad.line bad.why) }
 {
     let Ok(found) = end_at(text, words, line) else {
         return Err(OUT_OF_MEMORY);
     };
     let Some((end, more)) = found else {
         return Err(Bad {
-            line: number + 4,
+            line: lines + 1,
             why: Why::Grammar,
         });
     };
     if !more.is_empty() {
         return Err(Bad {
-            line: number + 5,
+            line: lines + 2,
             why: Why::Extra,
         });
     }
     Ok(end)
 }
 
+/// Where the entries of a text begin.
+#[derive(Drop)]
+struct First {
+    machines: u8,
+    /// The first entry's number.
+    number: u64,
+    /// How many lines stand before it.
+    lines: u64,
+    /// How many entries each machine made before it.
+    made: [u64; 64],
+}
+
 /// The entry's number is the next, the machine is there, and this is its next entry.
 fn is_next(machines: u8, counts: &[u64; 64], next: u64, n: u64, entry: &Entry) -> bool
     requires { machines ≤ 64 }
-    ensures { (es : List Entry) → ((m : MNo) → m.0 < 64 → slice_index counts.now m.0 ≡ turns m es)
-        → IsTrue result ↔ ((n ≡ next) × IsNext machines es entry.now) }
+    ensures { (from : Origin) (es : List Entry) → from.machines ≡ machines
+        → ((m : MNo) → m.0 < 64 → slice_index counts.now m.0 ≡ from.made m + turns m es)
+        → IsTrue result ↔ ((n ≡ next) × IsNext from es entry.now) }
 {
     let m = entry.m.0;
     n == next && m < machines && counts[usize::from(m)] == entry.k
 }
 
-/// The entries and the end that a text says behind its first three lines.
+/// The entries and the end that a text says behind the lines before the first entry.
 fn body<W: Watch>(
     alloc: Global,
-    machines: u8,
+    first: &First,
     text: &[u8],
     watch: &mut W,
 ) -> Result<(History, End), Bad>
-    requires { machines ≤ 64 }
-    ensures found { IfOk result (λ r. AreEntries machines r.0.list × (text.now ≡ entries_text 0 r.0.list ++ end_text r.1)) }
-    ensures only { (es : List Entry) (end : End) → IsBody machines text.now es end
+    requires { IsSmall first.now }
+    ensures found { IfOk result (λ r. (from : Origin) → IsFirst first.now from
+        → AreEntries from r.0.list × (text.now ≡ entries_text from.number r.0.list ++ end_text r.1)) }
+    ensures only { (from : Origin) (es : List Entry) (end : End) → IsFirst first.now from → IsBody from text.now es end
         → MatchResult result (λ r. (r.0.list ≡ es) × (r.1 ≡ end)) (λ bad. bad.why ≡ Why.OutOfMemory) }
-    ensures fault { IfErr result (λ bad. IsBodyFault machines text.now bad.line bad.why) }
+    ensures fault { IfErr result (λ bad. (from : Origin) → IsFirst first.now from → IsBodyFault from text.now bad.line bad.why) }
 {
     let mut entries = History::new(alloc);
     let mut entry = blank();
-    let mut counts = [0u64; 64];
+    let mut counts = first.made;
     let mut words = Vec::new(alloc);
     let mut line = Vec::new(alloc);
     let mut rest = text;
     while !rest.is_empty() {
-        let number = entries.len() as u64;
-        tell(watch, Work::Reading, number);
+        let read = entries.len() as u64;
+        tell(watch, Work::Reading, read);
         let Ok(found) = answered_at(rest, &mut words, &mut line, &mut entry) else {
             return Err(OUT_OF_MEMORY);
         };
         let Some((n, more)) = found else {
-            return match last(number, rest, &mut words, &mut line) {
+            return match last(first.lines + read, rest, &mut words, &mut line) {
                 Ok(end) => Ok((entries, end)),
                 Err(bad) => Err(bad),
             };
         };
-        if !is_next(machines, &counts, number, n, &entry) {
+        if !is_next(first.machines, &counts, first.number + read, n, &entry) {
             return Err(Bad {
-                line: number + 4,
+                line: first.lines + read + 1,
                 why: Why::Number,
             });
         }
@@ -230,19 +253,171 @@ fn body<W: Watch>(
         rest = more;
     }
     Err(Bad {
-        line: entries.len() as u64 + 4,
+        line: first.lines + entries.len() as u64 + 1,
         why: Why::End,
     })
 }
 
+/// The version in line 1, and the text behind the line.
+fn version_at(text: &[u8]) -> Option<(Version, &[u8])>
+    ensures { MatchOption result (IsHeaderFault text.now) (λ r. text.now ≡ header r.0 ++ r.1.now) }
+{
+    if let Some(rest) = behind(text, b"gmp-trace 1\n") {
+        return Some((Version::One, rest));
+    }
+    match behind(text, b"gmp-trace 2\n") {
+        Some(rest) => Some((Version::Two, rest)),
+        None => None,
+    }
+}
+
+/// What lines 1 and 2 say, and the text behind them.
+fn limited<'a>(
+    bytes: &'a [u8],
+    words: &mut Vec<&'a [u8]>,
+    line: &mut Vec<u8>,
+) -> Result<(Version, Limits, u16, &'a [u8]), Bad>
+    ensures found { IfOk result (λ r. HasLimits bytes.now r.0 r.1 r.2 r.3.now) }
+    ensures only { (v : Version) (limits : Limits) (bodies : ℕ) (rest : List ℕ) → HasLimits bytes.now v limits bodies rest
+        → MatchResult result (λ r. (r.0 ≡ v) × (r.1 ≡ limits) × (r.2 ≡ bodies) × (r.3.now ≡ rest)) (λ bad. bad.why ≡ Why.OutOfMemory) }
+    ensures fault { IfErr result (λ bad. IsFault bytes.now bad.line bad.why) }
+{
+    let Some((version, rest)) = version_at(bytes) else {
+        return Err(Bad {
+            line: 1,
+            why: Why::Header,
+        });
+    };
+    let Ok(found) = allowed_limits_at(rest, words, line) else {
+        return Err(OUT_OF_MEMORY);
+    };
+    let Some((limits, bodies, rest)) = found else {
+        return Err(Bad {
+            line: 2,
+            why: Why::Limits,
+        });
+    };
+    Ok((version, limits, bodies, rest))
+}
+
+/// The capacities that line 3 of version 1 says, and where the entries begin behind it.
+fn opened<'a>(
+    alloc: Global,
+    limits: Limits,
+    bodies: u16,
+    text: &'a [u8],
+    words: &mut Vec<&'a [u8]>,
+    line: &mut Vec<u8>,
+) -> Result<(Vec<u32>, First, &'a [u8]), Bad>
+    ensures found { IfOk result (λ r. AreLimits limits bodies r.0.items × (text.now ≡ capacities_text r.0.items ++ r.2.now)) }
+    ensures first { IfOk result (λ r. IsFirst r.1 (origin limits.machines (AtOpening r.0.items))) }
+    ensures only { (capacities rest : List ℕ) → AreLimits limits bodies capacities → text.now ≡ capacities_text capacities ++ rest
+        → MatchResult result (λ r. (r.0.items ≡ capacities) × (r.2.now ≡ rest)) (λ bad. bad.why ≡ Why.OutOfMemory) }
+    ensures fault { (bytes : List ℕ) → HasLimits bytes Version.One limits bodies text.now → IfErr result (λ bad. IsFault bytes bad.line bad.why) }
+{
+    let Ok(found) = allowed_capacities_at(alloc, limits, bodies, text, words, line) else {
+        return Err(OUT_OF_MEMORY);
+    };
+    let Some((capacities, rest)) = found else {
+        return Err(Bad {
+            line: 3,
+            why: Why::Caps,
+        });
+    };
+    let first = First {
+        machines: limits.machines,
+        number: 0,
+        lines: 3,
+        made: [0; 64],
+    };
+    Ok((capacities, first, rest))
+}
+
+/// How many entries each machine made.
+fn made_by(counts: &[u64]) -> [u64; 64]
+    ensures { (m : ℕ) → m < 64 → slice_index result m ≡ slice_index counts.now m }
+{
+    let mut made = [0; 64];
+    for m in 0..64 {
+        made[m] = counts.get(m).copied().unwrap_or(0);
+    }
+    made
+}
+
+/// The start whose lines version 2 has, and where the entries begin behind them.
+fn started<'a>(
+    alloc: Global,
+    limits: Limits,
+    bodies: u16,
+    text: &'a [u8],
+) -> Result<(Start, First, &'a [u8]), Bad>
+    requires range { AreLimits limits bodies [] }
+    ensures found { IfOk result (λ r. IsStart limits bodies (state_of r.0) × (text.now ≡ begins_text (AtState (state_of r.0)) ++ r.2.now)) }
+    ensures first { IfOk result (λ r. IsFirst r.1 (origin limits.machines (AtState (state_of r.0)))) }
+    ensures only { (s : State) (rest : List ℕ) → IsStart limits bodies s → text.now ≡ begins_text (AtState s) ++ rest
+        → MatchResult result (λ r. (state_of r.0 ≡ s) × (r.2.now ≡ rest)) (λ bad. bad.why ≡ Why.OutOfMemory) }
+    ensures fault { (bytes : List ℕ) → HasLimits bytes Version.Two limits bodies text.now → IfErr result (λ bad. IsFault bytes bad.line bad.why) }
+{
+    let Ok(found) = read_whole_start(alloc, limits, bodies, text) else {
+        return Err(OUT_OF_MEMORY);
+    };
+    let (start, rest) = match found {
+        Ok(found) => found,
+        Err(line) => {
+            return Err(Bad {
+                line: u64::from(line),
+                why: Why::Start,
+            });
+        }
+    };
+    let first = First {
+        machines: limits.machines,
+        number: start.made(),
+        lines: u64::from(begin_line(&start)),
+        made: made_by(&start.counts),
+    };
+    Ok((start, first, rest))
+}
+
+/// How the run begins that a text says behind line 2, where its entries begin, and the text from there.
+fn begun<'a>(
+    alloc: Global,
+    version: Version,
+    limits: Limits,
+    bodies: u16,
+    text: &'a [u8],
+    words: &mut Vec<&'a [u8]>,
+    line: &mut Vec<u8>,
+) -> Result<(Beginning, First, &'a [u8]), Bad>
+    requires range { AreLimits limits bodies [] }
+    ensures found { IfOk result (λ r. BeginsSo version limits bodies text.now (begins_at r.0) r.2.now) }
+    ensures first { IfOk result (λ r. IsFirst r.1 (origin limits.machines (begins_at r.0))) }
+    ensures only { (b : Begins) (rest : List ℕ) → BeginsSo version limits bodies text.now b rest
+        → MatchResult result (λ r. (begins_at r.0 ≡ b) × (r.2.now ≡ rest)) (λ bad. bad.why ≡ Why.OutOfMemory) }
+    ensures fault { (bytes : List ℕ) → HasLimits bytes version limits bodies text.now → IfErr result (λ bad. IsFault bytes bad.line bad.why) }
+{
+    match version {
+        Version::One => {
+            let (capacities, first, rest) = opened(alloc, limits, bodies, text, words, line)?;
+            Ok((Beginning::Opening(capacities), first, rest))
+        }
+        Version::Two => {
+            let (start, first, rest) = started(alloc, limits, bodies, text)?;
+            Ok((Beginning::Start(start), first, rest))
+        }
+    }
+}
+
 /// The trace whose text the bytes are, or the first bad line.
 ///
-/// It goes over the bytes once, and takes memory for the entries, the capacities, the words of one line and that line written anew.
+/// It goes over the bytes once, and takes memory for the entries, the beginning, the words of one line and that line written anew.
 /// `OutOfMemory` comes only where memory was refused.
 pub fn read(alloc: Global, bytes: &[u8]) -> Result<Trace, Bad>
     ensures found { IfOk result (λ x. HasText (content x) × (bytes.now ≡ text (content x))) }
     ensures only { (x : Content) → HasText x → bytes.now ≡ text x → MatchResult result (λ y. content y ≡ x) (λ bad. bad.why ≡ Why.OutOfMemory) }
     ensures fault { IfErr result (λ bad. IsFault bytes.now bad.line bad.why) }
+    // What was read can be written.
+    ensures counted { IfOk result (λ x. IsCounted (begins_at x.beginning)) }
 {
     read_watched(alloc, bytes, &mut ())
 }
@@ -252,39 +427,26 @@ pub fn read_watched<W: Watch>(alloc: Global, bytes: &[u8], watch: &mut W) -> Res
     ensures found { IfOk result (λ x. HasText (content x) × (bytes.now ≡ text (content x))) }
     ensures only { (x : Content) → HasText x → bytes.now ≡ text x → MatchResult result (λ y. content y ≡ x) (λ bad. bad.why ≡ Why.OutOfMemory) }
     ensures fault { IfErr result (λ bad. IsFault bytes.now bad.line bad.why) }
+    ensures counted { IfOk result (λ x. IsCounted (begins_at x.beginning)) }
 {
-    let Some(rest) = behind(bytes, b"gmp-trace 1\n") else {
-        return Err(Bad {
-            line: 1,
-            why: Why::Header,
-        });
-    };
     let mut words = Vec::new(alloc);
     let mut line = Vec::new(alloc);
-    let Ok(found) = allowed_limits_at(rest, &mut words, &mut line) else {
-        return Err(OUT_OF_MEMORY);
-    };
-    let Some((limits, bodies, rest)) = found else {
-        return Err(Bad {
-            line: 2,
-            why: Why::Limits,
-        });
-    };
-    let Ok(found) = allowed_capacities_at(alloc, limits, bodies, rest, &mut words, &mut line) else {
-        return Err(OUT_OF_MEMORY);
-    };
-    let Some((capacities, rest)) = found else {
-        return Err(Bad {
-            line: 3,
-            why: Why::Caps,
-        });
-    };
-    match body(alloc, limits.machines, rest, watch) {
+    let (version, limits, bodies, behind_limits) = limited(bytes, &mut words, &mut line)?;
+    let (beginning, first, rest) = begun(
+        alloc,
+        version,
+        limits,
+        bodies,
+        behind_limits,
+        &mut words,
+        &mut line,
+    )?;
+    match body(alloc, &first, rest, watch) {
         Err(bad) => Err(bad),
         Ok((entries, end)) => Ok(Trace {
             limits,
             bodies,
-            capacities,
+            beginning,
             entries,
             end,
         }),

@@ -6,8 +6,8 @@ ghost use Rattle.gmp_trace.specs.Guess.{words_on, parted, sides, number_read, na
 use gmp_base::{CNo, GNo, Readiness};
 use std::alloc::AllocError;
 
-/// No line of a trace has so many words.
-const MOST_WORDS: usize = 1_030;
+/// No line of a trace has so many words: a channel has at most 4,096 values.
+const MOST_WORDS: usize = 4_110;
 
 /// The text before the first such byte, and the text behind it.
 #[tactic(auto, unfolding(crate::specs::Guess::parted))]
@@ -91,7 +91,7 @@ pub fn channel(word: &[u8]) -> Option<CNo>
 
 /// The words of the first line, as many as a line of a trace may have.
 pub fn split<'a>(text: &'a [u8], words: &mut Vec<&'a [u8]>) -> Result<(), AllocError>
-    ensures { OnOk result (map (λ w. w.now) words.new.items ≡ take 1030 (words_on [] text.now)) }
+    ensures { OnOk result (map (λ w. w.now) words.new.items ≡ take 4110 (words_on [] text.now)) }
 {
     words.clear();
     let mut start = 0;

@@ -3,9 +3,9 @@
 ghost use Rattle.std.specs.Prelude.{◌≡◌, [], OnOk, IfErr};
 ghost use Rattle.std.specs.Io.KnownBytes.{Appends};
 ghost use Rattle.gmp_trace.specs.declared.writing.WriteError.TheVariants.{Device, OutOfMemory};
-ghost use Rattle.gmp_trace.specs.Text.{text, content, content_of, AppendsStart};
+ghost use Rattle.gmp_trace.specs.Text.{text, begins_at, begins_of, content, content_of, AppendsStart, IsCounted};
 
-use crate::line::{LONGEST, put_end, put_entry_by, put_opening};
+use crate::line::{LONGEST, put_beginning, put_end, put_entry_by};
 use crate::trace::{Trace, TraceView};
 use std::alloc::{AllocError, Global};
 use std::io::Write;
@@ -50,6 +50,7 @@ fn send<W: Write>(out: &mut Vec<u8>, writer: &mut W) -> Result<(), WriteError>
 /// It takes room for some 64 KiB once, and needs no more for a trace whose limits are in range, however long
 /// it is. `Device` comes only where the writer failed, and `OutOfMemory` only where memory was refused.
 pub fn write<W: Write>(alloc: Global, trace: &Trace, writer: &mut W) -> Result<(), WriteError>
+    requires counted { IsCounted (begins_at trace.now.beginning) }
     ensures written { OnOk result (Appends (W.contents writer.old) (W.contents writer.new) (text (content trace.now))) }
     ensures begun { IfErr result (λ e. e ≡ OutOfMemory → AppendsStart (W.contents writer.old) (W.contents writer.new) (text (content trace.now))) }
 {
@@ -62,14 +63,16 @@ pub fn write_view<W: Write>(
     trace: TraceView,
     writer: &mut W,
 ) -> Result<(), WriteError>
+    requires counted { IsCounted (begins_of trace.beginning) }
     ensures written { OnOk result (Appends (W.contents writer.old) (W.contents writer.new) (text (content_of trace.entry))) }
     ensures begun { IfErr result (λ e. e ≡ OutOfMemory → AppendsStart (W.contents writer.old) (W.contents writer.new) (text (content_of trace.entry))) }
 {
     let mut out = Vec::with_capacity(alloc, GATHERED + LONGEST)?;
-    put_opening(&mut out, &trace.limits, trace.bodies, trace.capacities)?;
+    put_beginning(&mut out, &trace.limits, trace.bodies, trace.beginning)?;
     let mut line = [0; LONGEST];
-    for (number, entry) in trace.entries.iter().enumerate() {
-        put_entry_by(&mut out, &mut line, number as u64, &entry)?;
+    let first = trace.beginning.first_number();
+    for (i, entry) in trace.entries.iter().enumerate() {
+        put_entry_by(&mut out, &mut line, first + i as u64, &entry)?;
         if out.len() >= GATHERED {
             send(&mut out, writer)?;
         }

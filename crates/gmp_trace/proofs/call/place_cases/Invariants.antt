@@ -1,6 +1,6 @@
 use Rattle.std.proofs.Common.{◌≡◌, ◌+◌, ◌*◌, ◌≤◌, ◌++◌, map, drop, take}
-use Rattle.gmp_trace.specs.Text.{fields}
-use Rattle.gmp_trace.specs.Text.Piece.{OfCase}
+use Rattle.gmp_trace.specs.Pieces.{fields}
+use Rattle.gmp_trace.specs.Pieces.Piece.{OfCase}
 use Rattle.gmp_trace.proofs.call.place_cases.Given as goal
 
 abbrev pub invariant-loop-case : goal.invariant-loop-case

@@ -1,5 +1,5 @@
 use Rattle.std.proofs.Common.{◌≡◌, ◌++◌, map, drop, codes}
-use Rattle.gmp_trace.specs.Text.{fields, capacity_piece}
+use Rattle.gmp_trace.specs.Pieces.{fields, capacity_piece}
 use Rattle.gmp_trace.proofs.line.put_capacities.Given as goal
 
 abbrev pub invariant-loop-capacity : goal.invariant-loop-capacity

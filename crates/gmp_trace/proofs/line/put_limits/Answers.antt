@@ -1,5 +1,5 @@
 use Rattle.std.proofs.Common.{append_assoc}
-use Rattle.gmp_trace.specs.Text.{limits_text}
+use Rattle.gmp_trace.specs.Pieces.{limits_text}
 use Rattle.gmp_trace.proofs.line.put_limits.Goals as goal
 
 pub returns : goal.returns

@@ -1,6 +1,6 @@
 use Rattle.std.proofs.Common.{◌≡◌, ◌∙◌, ◌++◌, [], sym, rules}
 use Rattle.std.proofs.lemmas.List.{append-nil}
-use Rattle.gmp_trace.specs.Text.{entry_text}
+use Rattle.gmp_trace.specs.Pieces.{entry_text}
 use Rattle.gmp_trace.proofs.reading.read_entry.Goals as goal
 
 pub returns-in_default-clause-only : goal.returns-in_default-clause-only

@@ -1,6 +1,6 @@
 use Rattle.std.proofs.Common.{◌∙◌, [], sym, rules}
 use Rattle.std.proofs.lemmas.List.{append-nil}
-use Rattle.gmp_trace.specs.Text.{end_text}
+use Rattle.gmp_trace.specs.Pieces.{end_text}
 use Rattle.gmp_trace.proofs.whole.last.Goals as goal
 
 pub returns-in_default-found-clause-only : goal.returns-in_default-found-clause-only

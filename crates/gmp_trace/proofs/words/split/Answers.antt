@@ -40,7 +40,7 @@ returns-then-b-eq10 c =
     let t = c.args.text.now in
     let step = words_at_feed (between c.loop-i.start c.loop-i.i t) t c.loop-i.i c.loop-i-test.true c.if-b-eq10.true in
     let texts = map (λ w. w.now) c.loop-i.words.items ++ between c.loop-i.start c.loop-i.i t ∷ [] in
-    let few : length texts ≤ 1030 = omega (arith, c.loop-i.invariant.few, length-append (map (λ w. w.now) c.loop-i.words.items) (between c.loop-i.start c.loop-i.i t ∷ []), length-map c.loop-i.words.items (λ w. w.now)) in
+    let few : length texts ≤ 4110 = omega (arith, c.loop-i.invariant.few, length-append (map (λ w. w.now) c.loop-i.words.items) (between c.loop-i.start c.loop-i.i t ∷ []), length-map c.loop-i.words.items (λ w. w.now)) in
     rw (c.in_ok-push.ensures.items, map-append) (found_all texts (words_on [] t) (rw step at c.loop-i.invariant.found) few)
 
 pub returns-then-len-ge-MOST_WORDS : goal.returns-then-len-ge-MOST_WORDS
@@ -50,7 +50,7 @@ returns-then-len-ge-MOST_WORDS c =
     let rest = words_on [] (drop (c.loop-i.i + 1) t) in
     let step = words_at_space front t c.loop-i.i c.loop-i-test.true c.if-b-eq32.true in
     let words = map (λ w. w.now) c.loop-i.words.items in
-    let full : length (words ++ front ∷ []) ≡ 1030 =
+    let full : length (words ++ front ∷ []) ≡ 4110 =
     omega (arith, c.loop-i.invariant.few, c.len.ensures, c.if-len-ge-MOST_WORDS.true, c.in_ok-push-2.ensures.len, length-append words (front ∷ []), length-map c.loop-i.words.items (λ w. w.now)) in
     let found : (words ++ front ∷ []) ++ rest ≡ words_on [] t = append_assoc words (front ∷ []) rest ∙ rw step at c.loop-i.invariant.found in
     rw (c.in_ok-push-2.ensures.items, map-append) (found_most (words ++ front ∷ []) rest (words_on [] t) found full)
@@ -62,7 +62,7 @@ returns c =
     let front = between c.loop-i.start c.loop-i.i t in
     let words = map (λ w. w.now) c.loop-i.words.items in
     let step = words_at_end front t c.loop-i.i c.loop-i-test.false in
-    let few : length (words ++ front ∷ []) ≤ 1030 =
+    let few : length (words ++ front ∷ []) ≤ 4110 =
     omega (arith, c.loop-i.invariant.few, length-append words (front ∷ []), length-map c.loop-i.words.items (λ w. w.now)) in
     let found = found_all (words ++ front ∷ []) (words_on [] t) (rw step at c.loop-i.invariant.found) few in
     rw (c.in_ok-push-3.ensures.items, map-append) (rw same at found)

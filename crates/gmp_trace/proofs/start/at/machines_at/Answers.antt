@@ -1,0 +1,18 @@
+use Rattle.std.proofs.Common.{◌∙◌, map}
+use Rattle.gmp_trace.proofs.Lines.{same_rest}
+use Rattle.gmp_trace.proofs.StartLists.{guessed_machines}
+use Rattle.gmp_trace.proofs.start.at.machines_at.Goals as goal
+
+pub returns-in_default-clause-only : goal.returns-in_default-clause-only
+returns-in_default-clause-only c xs more few is =
+    let same = guessed_machines c.args.text.now c.deref-3.result.now (map (λ w. w.now) c.split.new.words.items) c.in_ok-modes.modes.items xs more
+    c.in_ok-split.ensures (rw (c.skip.ensures, c.deref.ensures.value) at c.in_ok-modes.ensures)
+    (c.deref-3.ensures.value ∙ rw (c.clear.ensures.items, c.deref-2.ensures.value) at c.in_ok-put_machines.ensures) few is in
+    c.in_default.ensures more same.1
+
+pub returns-clause-only : goal.returns-clause-only
+returns-clause-only c xs more few is =
+    let same = guessed_machines c.args.text.now c.deref-3.result.now (map (λ w. w.now) c.split.new.words.items) c.in_ok-modes.modes.items xs more
+    c.in_ok-split.ensures (rw (c.skip.ensures, c.deref.ensures.value) at c.in_ok-modes.ensures)
+    (c.deref-3.ensures.value ∙ rw (c.clear.ensures.items, c.deref-2.ensures.value) at c.in_ok-put_machines.ensures) few is in
+    (same.0, same_rest c.args.text.now c.deref-3.result.now c.in-Some.rest.now more c.in-Some.ensures same.1)

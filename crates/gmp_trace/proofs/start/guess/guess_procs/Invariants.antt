@@ -1,0 +1,6 @@
+use Rattle.std.proofs.Common.{◌≡◌, ◌++◌, map, drop}
+use Rattle.gmp_trace.specs.StartGuess.{holder_read}
+use Rattle.gmp_trace.proofs.start.guess.guess_procs.Given as goal
+
+abbrev pub invariant-loop-word : goal.invariant-loop-word
+invariant-loop-word l = l.list.items ++ map holder_read (map (λ w. w.now) (drop l.word-index l.words)) ≡ map holder_read (map (λ w. w.now) l.words)
