@@ -26,3 +26,7 @@ run_fixed limits old a b [] is one two = one ∙ sym two
 run_fixed limits old a b (e ∷ h) is (x, step, rest) (y, step_too, rest_too) =
     let same : y ≡ x = next_fixed limits e old y x is step_too step in
     run_fixed limits x a b h (step_keeps limits e old x is step) rest (subst (λ (s : State). Run limits s h b) same rest_too)
+
+pub run_keeps : (limits : Limits) (old new : State) (h : List Entry) → IsConsistentUnder limits old → Run limits old h new → IsConsistentUnder limits new
+run_keeps limits old new [] is run = subst (IsConsistentUnder limits) (sym run) is
+run_keeps limits old new (e ∷ h) is (mid, step, rest) = run_keeps limits mid new h (step_keeps limits e old mid is step) rest

@@ -25,7 +25,7 @@ abbrev goroutine : ℕ → GNo
 goroutine n = record { 0 = n }
 
 -- a goroutine is there or not
-is_at : (m : MNo) (s : Status) → IsAt m s ⊎ (IsAt m s → ⊥)
+pub is_at : (m : MNo) (s : Status) → IsAt m s ⊎ (IsAt m s → ⊥)
 is_at m (status.Running n) = same_or (eqb n.0 m.0) refl where
   same_or : (b : Bool) → eqb n.0 m.0 ≡ b → (n ≡ m) ⊎ (n ≡ m → ⊥)
   same_or true e = inl (ap machine (eqb-true n.0 m.0 e))
@@ -37,11 +37,11 @@ is_at m (status.Calling n) = same_or (eqb n.0 m.0) refl where
 is_at m _ = inr (λ is. is)
 
 -- one that is held has the status of one that is there, and the other way round
-held_at : (t : Table) (g : GNo) (m : MNo) → IsHeld t g m → (s : Status) × (status_at t g ≡ Some s) × IsAt m s
+pub held_at : (t : Table) (g : GNo) (m : MNo) → IsHeld t g m → (s : Status) × (status_at t g ≡ Some s) × IsAt m s
 held_at t g m (inl runs) = (status.Running m, runs, refl)
 held_at t g m (inr calls) = (status.Calling m, calls, refl)
 
-at_held : (t : Table) (g : GNo) (m : MNo) (s : Status) → status_at t g ≡ Some s → IsAt m s → IsHeld t g m
+pub at_held : (t : Table) (g : GNo) (m : MNo) (s : Status) → status_at t g ≡ Some s → IsAt m s → IsHeld t g m
 at_held t g m (status.Running n) at is = inl (subst (λ k. status_at t g ≡ Some (status.Running k)) is at)
 at_held t g m (status.Calling n) at is = inr (subst (λ k. status_at t g ≡ Some (status.Calling k)) is at)
 at_held t g m _ at is = absurd is

@@ -11,3 +11,6 @@ pub mod Replaying
 pub mod Making
 pub mod Checking
 pub mod Actives
+pub mod Beginning
+pub mod Parting
+pub mod Texts

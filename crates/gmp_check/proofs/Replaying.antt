@@ -5,22 +5,19 @@ use Rattle.std.specs.Result.{IfErr, IsErrAnd}
 use Rattle.gmp_seq.proofs.Runs.{run_join}
 use Rattle.gmp_seq.specs.declared.call.Entry.{Entry}
 use Rattle.gmp_seq.specs.declared.call.Limits.{Limits}
-use Rattle.gmp_seq.specs.Fits.{AreLimits}
-use Rattle.gmp_seq.specs.Run.{IsLegal, IsStep}
-use Rattle.gmp_seq.specs.State.{State, opening}
+use Rattle.gmp_seq.specs.Run.{IsStep, Run}
+use Rattle.gmp_seq.specs.State.{State}
 use Rattle.gmp_check.proofs.Keeping.{step_keeps}
 use Rattle.gmp_check.specs.declared.error.OpenError.{OpenError}
 use Rattle.gmp_check.specs.declared.error.OpenError.TheVariants as open_error
 use Rattle.gmp_check.specs.declared.error.ReplayError.{ReplayError}
-use Rattle.gmp_check.specs.declared.error.ReplayError.TheVariants as replay_error
 use Rattle.gmp_check.specs.Decides.{Decides}
 use Rattle.gmp_check.specs.Consistent.{IsConsistentUnder}
-use Rattle.gmp_check.specs.Replayed.{IsOpenError, IsReplayError, as_replay_error}
+use Rattle.gmp_check.specs.Replayed.{IsNoStep, IsOpenError, IsReplayError, as_replay_error}
 
--- a legal run and a step
-pub legal_next : (limits : Limits) (bodies : ℕ) (capacities : List ℕ) (h : List Entry) (e : Entry) (old new : State) → IsLegal limits bodies capacities h old
-    → IsStep limits e old new → IsLegal limits bodies capacities (h ++ e ∷ []) new
-legal_next limits bodies capacities h e old new legal step = run_join limits (opening limits bodies capacities) old new h (e ∷ []) legal (new, step, refl)
+-- a run and a step
+pub run_next : (limits : Limits) (start old new : State) (h : List Entry) (e : Entry) → Run limits start h old → IsStep limits e old new → Run limits start (h ++ e ∷ []) new
+run_next limits start old new h e run step = run_join limits start old new h (e ∷ []) run (new, step, refl)
 
 pub consistent_next : (limits : Limits) (e : Entry) (old new : State) (b : Bool) → IsConsistentUnder limits old → Decides (IsStep limits e) old new b → IsConsistentUnder limits new
 consistent_next limits e old new true is step = step_keeps limits e old new is step
@@ -38,9 +35,9 @@ opened_error limits bodies capacities h open_error.BadLimits e is beyond = subst
 opened_error limits bodies capacities h open_error.OutOfMemory e is within = subst (IsReplayError limits bodies capacities h) (sym is) within
 
 -- the entry at the index is no step
-pub no_step : (limits : Limits) (bodies : ℕ) (capacities : List ℕ) (h : List Entry) (i : ℕ) (e : Entry) (old new : State) → AreLimits limits bodies capacities
-    → IsLegal limits bodies capacities (take i h) old → slice_get h i ≡ Some e → Decides (IsStep limits e) old new false → IsReplayError limits bodies capacities h (replay_error.NoStep i)
-no_step limits bodies capacities h i e old new within legal at is = (within, (old, legal, e, at, is.1))
+pub no_step : (limits : Limits) (start old new : State) (h : List Entry) (i : ℕ) (e : Entry) → Run limits start (take i h) old → slice_get h i ≡ Some e
+    → Decides (IsStep limits e) old new false → IsNoStep limits start h i
+no_step limits start old new h i e run at is = (old, run, e, at, is.1)
 
 -- one entry more
 pub one_entry_more : (h : List Entry) (i : ℕ) (e : Entry) → slice_get h i ≡ Some e → take (i + 1) h ≡ take i h ++ e ∷ []

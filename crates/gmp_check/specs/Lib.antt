@@ -8,3 +8,4 @@ pub mod Last
 pub mod Replayed
 pub mod Checked
 pub mod Active
+pub mod Parts

@@ -1,8 +1,10 @@
 //! Why a history is not replayed.
 ghost use Rattle.std.specs.Prelude.{◌≡◌};
+ghost use Rattle.gmp_check.specs.declared.error.JoinError.TheVariants as join_error;
 ghost use Rattle.gmp_check.specs.declared.error.OpenError.TheVariants as open_error;
-ghost use Rattle.gmp_check.specs.declared.error.ReplayError.TheVariants as replay_error;
-ghost use Rattle.gmp_check.specs.Replayed.{as_replay_error};
+ghost use Rattle.gmp_check.specs.declared.error.SplitError.TheVariants as split_error;
+ghost use Rattle.gmp_check.specs.declared.error.Stop.TheVariants as stop;
+ghost use Rattle.gmp_check.specs.Replayed.{as_replay_error, stop_error};
 
 use std::alloc::AllocError;
 use thiserror::Error;
@@ -49,11 +51,30 @@ pub enum ReplayError {
     OutOfMemory,
 }
 
-impl From<OutOfMemory> for ReplayError {
-    ghost from_gives = { λ _ e. e ≡ replay_error.OutOfMemory };
+/// Why the replay of a history doesn't come to its end.
+#[derive(Clone, Copy, Debug)]
+pub(crate) enum Stop {
+    /// The entry at this index is no step, and all before it are.
+    NoStep(usize),
+    OutOfMemory,
+}
 
-    fn from(_error: OutOfMemory) -> ReplayError {
-        ReplayError::OutOfMemory
+impl From<OutOfMemory> for Stop {
+    ghost from_gives = { λ _ e. e ≡ stop.OutOfMemory };
+
+    fn from(_error: OutOfMemory) -> Stop {
+        Stop::OutOfMemory
+    }
+}
+
+impl From<Stop> for ReplayError {
+    ghost from_gives = { λ why e. e ≡ stop_error why };
+
+    fn from(stop: Stop) -> ReplayError {
+        match stop {
+            Stop::NoStep(i) => ReplayError::NoStep(i),
+            Stop::OutOfMemory => ReplayError::OutOfMemory,
+        }
     }
 }
 
@@ -65,5 +86,57 @@ impl From<OpenError> for ReplayError {
             OpenError::BadLimits => ReplayError::BadLimits,
             OpenError::OutOfMemory => ReplayError::OutOfMemory,
         }
+    }
+}
+
+/// Why no part of a run was split off.
+#[derive(Clone, Copy, Debug, PartialEq, Eq, Error)]
+pub enum SplitError {
+    /// There are fewer entries before it, or the run ended with them.
+    #[error("past the end")]
+    Past,
+    #[error("out of memory")]
+    OutOfMemory,
+}
+
+impl From<OutOfMemory> for SplitError {
+    ghost from_gives = { λ _ e. e ≡ split_error.OutOfMemory };
+
+    fn from(_error: OutOfMemory) -> SplitError {
+        SplitError::OutOfMemory
+    }
+}
+
+impl From<AllocError> for SplitError {
+    ghost from_gives = { λ _ e. e ≡ split_error.OutOfMemory };
+
+    fn from(_error: AllocError) -> SplitError {
+        SplitError::OutOfMemory
+    }
+}
+
+/// Why two parts were not joined.
+#[derive(Clone, Copy, Debug, PartialEq, Eq, Error)]
+pub enum JoinError {
+    /// The first doesn't end where the second begins.
+    #[error("apart")]
+    Apart,
+    #[error("out of memory")]
+    OutOfMemory,
+}
+
+impl From<OutOfMemory> for JoinError {
+    ghost from_gives = { λ _ e. e ≡ join_error.OutOfMemory };
+
+    fn from(_error: OutOfMemory) -> JoinError {
+        JoinError::OutOfMemory
+    }
+}
+
+impl From<AllocError> for JoinError {
+    ghost from_gives = { λ _ e. e ≡ join_error.OutOfMemory };
+
+    fn from(_error: AllocError) -> JoinError {
+        JoinError::OutOfMemory
     }
 }

@@ -1,14 +1,17 @@
 //! Processors and machines, in plain tables: who holds each processor, how many are active, what each machine does, which of them spin, and
 //! which are marked.
-ghost use Rattle.std.specs.Prelude.{◌≡◌, ◌↔◌, false, None, drop, replicate, slice_set, take, IsTrue, IfOk};
+ghost use Rattle.std.specs.Prelude.{◌≡◌, ◌↔◌, false, None, drop, length, map, replicate, slice_set, take, IsTrue, IfOk};
 ghost use Rattle.std.specs.List.{list_any};
 ghost use Rattle.gmp_seq.specs.declared.status.Mode.{Mode};
-ghost use Rattle.gmp_seq.specs.Machines.{Acquires, IsAwake, IsIdle, IsOpen, MayKeep, Sets, awake_marked, is_good_number, is_marked, unmarked, IsParked, Holds, IsBare, Spins, Unspins, Pokes, Declares, Bares, Looks, Enters, set_holder, set_mode, set_spinning, has_processor, how_many_spin, is_awake_mode, is_held_by, is_parked_mode, some_idle, some_parked, may_spin, spins, wants_poke};
+ghost use Rattle.gmp_seq.specs.Machines.{IsAwake, IsIdle, IsOpen, IsParked, Holds, IsBare, awake_marked, is_good_number, is_marked, unmarked, set_holder, set_mode, set_spinning, has_processor, how_many_spin, is_awake_mode, is_held_by, is_parked_mode, some_idle, some_parked, may_spin, spins, wants_poke};
+ghost use Rattle.gmp_start.specs.Start.{machines_of};
 ghost use Rattle.gmp_check.specs.Active.{HoldsSo};
-ghost use Rattle.gmp_check.specs.Decides.{Decides};
 
-use gmp_base::{Fault, MNo, PNo};
-use gmp_seq::{Mode, Reply};
+mod calls;
+
+use gmp_base::{MNo, PNo};
+use gmp_seq::Mode;
+use gmp_start::Start;
 use std::alloc::{AllocError, Global};
 use std::marker::Model;
 
@@ -59,6 +62,17 @@ fn is_awake_mode(mode: Mode) -> bool
     matches!(mode, Mode::Awake)
 }
 
+/// Which machines are awake.
+fn awake_of(alloc: Global, modes: &[Mode]) -> Result<Vec<bool>, AllocError>
+    ensures { IfOk result (λ v. v.items ≡ map is_awake_mode modes.now) }
+{
+    let mut awake = Vec::new(alloc);
+    for mode in modes {
+        awake.push(is_awake_mode(*mode))?;
+    }
+    Ok(awake)
+}
+
 impl Machines {
     /// No processor is held, all are active, all machines are awake, nobody spins and nobody is marked.
     pub(crate) fn opening(alloc: Global, procs: u8, machines: u8) -> Result<Self, AllocError>
@@ -72,6 +86,51 @@ impl Machines {
             awake: vec![in alloc; true; machines as usize]?,
             active: procs,
         })
+    }
+
+    /// The machines of a start.
+    pub(crate) fn begin(alloc: Global, start: &Start) -> Result<Self, AllocError>
+        requires { length start.now.marked.items ≡ length start.now.modes.items }
+        ensures { IfOk result (λ w. w ≡ machines_of start.now) }
+    {
+        Ok(Machines {
+            holders: start.holders.to_vec(alloc)?,
+            modes: start.modes.to_vec(alloc)?,
+            spinning: start.spinning.to_vec(alloc)?,
+            marked: start.marked.to_vec(alloc)?,
+            awake: awake_of(alloc, &start.modes)?,
+            active: start.active,
+        })
+    }
+
+    pub(crate) fn holders(&self) -> &[Option<MNo>]
+        ensures { result.now ≡ self.now.holders }
+    {
+        &self.holders
+    }
+
+    pub(crate) fn modes(&self) -> &[Mode]
+        ensures { result.now ≡ self.now.modes }
+    {
+        &self.modes
+    }
+
+    pub(crate) fn spinning(&self) -> &[bool]
+        ensures { result.now ≡ self.now.spinning }
+    {
+        &self.spinning
+    }
+
+    pub(crate) fn marked(&self) -> &[bool]
+        ensures { result.now ≡ self.now.marked }
+    {
+        &self.marked
+    }
+
+    pub(crate) fn active(&self) -> u8
+        ensures { result ≡ self.now.active }
+    {
+        self.active
     }
 
     pub(crate) fn is_awake(&self, m: MNo) -> bool
@@ -232,145 +291,5 @@ impl Machines {
         ensures { self.new ≡ awake_marked self.old }
     {
         self.marked.copy_from_slice(&self.awake);
-    }
-
-    // Each call answers whether the reply is one that the definitions allow, and changes the tables only where it is.
-
-    pub(crate) fn acquire(&mut self, m: MNo, reply: Reply) -> bool
-        ensures { Decides (Acquires m reply) self.old self.new result }
-    {
-        if !self.is_awake(m) || self.has_processor(m) {
-            return false;
-        }
-        match reply {
-            Reply::Proc(p) if self.is_open(p) => {
-                self.set_holder(p, Some(m));
-                true
-            }
-            Reply::Nothing => !self.has_idle(),
-            _ => false,
-        }
-    }
-
-    pub(crate) fn spin(&mut self, m: MNo, reply: Reply) -> bool
-        ensures { Decides (Spins m reply) self.old self.new result }
-    {
-        if !self.is_awake(m) {
-            return false;
-        }
-        match reply {
-            Reply::Answer(true) if self.may_spin(m) => {
-                self.set_spinning(m, true);
-                true
-            }
-            Reply::Answer(false) => !self.may_spin(m),
-            _ => false,
-        }
-    }
-
-    pub(crate) fn unspin(&mut self, m: MNo, reply: Reply) -> bool
-        ensures { Decides (Unspins m reply) self.old self.new result }
-    {
-        match reply {
-            Reply::Done if self.is_awake(m) => {
-                self.set_spinning(m, false);
-                true
-            }
-            _ => false,
-        }
-    }
-
-    pub(crate) fn poke(&mut self, m: MNo, reply: Reply) -> bool
-        ensures { Decides (Pokes m reply) self.old self.new result }
-    {
-        if !self.is_awake(m) {
-            return false;
-        }
-        match reply {
-            Reply::Wakes(n) if self.wants_poke() && self.is_parked(n) => {
-                self.set_mode(n, Mode::Awake);
-                true
-            }
-            Reply::Nothing => !self.wants_poke(),
-            _ => false,
-        }
-    }
-
-    pub(crate) fn declare(&mut self, m: MNo, reply: Reply) -> bool
-        ensures { Decides (Declares m reply) self.old self.new result }
-    {
-        match reply {
-            Reply::Idle(p) if !self.spins(m) && self.holds(m, p) => {
-                self.set_holder(p, None);
-                self.unmark(m);
-                true
-            }
-            _ => false,
-        }
-    }
-
-    pub(crate) fn bare(&mut self, m: MNo, reply: Reply) -> bool
-        ensures { Decides (Bares m reply) self.old self.new result }
-    {
-        match reply {
-            Reply::Done if self.is_bare(m) => {
-                self.unmark(m);
-                true
-            }
-            _ => false,
-        }
-    }
-
-    pub(crate) fn woken(&self, m: MNo, reply: Reply) -> bool
-        ensures { Decides (Looks m reply) self.now self.now result }
-    {
-        match reply {
-            Reply::Answer(true) => self.is_awake(m),
-            Reply::Answer(false) => self.is_parked(m),
-            _ => false,
-        }
-    }
-
-    pub(crate) fn keep(&self, m: MNo, reply: Reply) -> bool
-        ensures { Decides (MayKeep m reply) self.now self.now result }
-    {
-        match reply {
-            Reply::Answer(may) => self.is_awake(m) && self.holds_some(m, may),
-            _ => false,
-        }
-    }
-
-    pub(crate) fn procs(&mut self, n: u8, reply: Reply) -> bool
-        ensures { Decides (Sets n reply) self.old self.new result }
-    {
-        match reply {
-            Reply::Number(before) if self.is_good_number(n) && before == u64::from(self.active) => {
-                self.active = n;
-                true
-            }
-            Reply::Fault(Fault::BadProcs) => !self.is_good_number(n),
-            _ => false,
-        }
-    }
-
-    pub(crate) fn enter(&mut self, m: MNo, reply: Reply) -> bool
-        ensures { Decides (Enters m reply) self.old self.new result }
-    {
-        match reply {
-            Reply::Entered(p, None) if self.holds(m, p) && !self.has_parked() => {
-                self.set_holder(p, None);
-                self.set_mode(m, Mode::Calling);
-                self.mark_awake();
-                true
-            }
-            Reply::Entered(p, Some(n)) if self.holds(m, p) && self.is_parked(n) => {
-                self.set_holder(p, None);
-                self.set_mode(m, Mode::Calling);
-                self.set_mode(n, Mode::Awake);
-                self.mark_awake();
-                true
-            }
-            _ => false,
-        }
     }
 }

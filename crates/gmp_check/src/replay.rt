@@ -1,17 +1,19 @@
 //! A replay of a history.
-ghost use Rattle.std.specs.Prelude.{◌≡◌, IfErr, IfOk, OnErr, OnOk};
+ghost use Rattle.std.specs.Prelude.{◌≡◌, None, IfErr, IfOk, OnErr, OnOk};
 ghost use Rattle.gmp_seq.specs.Fits.{AreLimits};
 ghost use Rattle.gmp_seq.specs.Run.{IsStep};
 ghost use Rattle.gmp_seq.specs.State.{State, opening};
+ghost use Rattle.gmp_start.specs.Start.{state_of};
 ghost use Rattle.gmp_check.specs.Calls.{IsMake};
 ghost use Rattle.gmp_check.specs.Decides.{Decides, Leads};
-ghost use Rattle.gmp_check.specs.Consistent.{IsConsistentUnder};
-ghost use Rattle.gmp_check.specs.Replayed.{EndsWith, IsOpenError, IsReplayError};
+ghost use Rattle.gmp_check.specs.Consistent.{IsConsistentUnder, MayBegin};
+ghost use Rattle.gmp_check.specs.Replayed.{EndsWith, IsOpenError, IsReplayError, IsStop};
 
-use crate::error::{OpenError, OutOfMemory, ReplayError};
+use crate::error::{OpenError, OutOfMemory, ReplayError, Stop};
 use crate::state::State;
 use gmp_history::History;
 use gmp_seq::{Entry, Limits, Outcome};
+use gmp_start::Start;
 use gmp_trace::{Watch, Work, tell};
 use std::alloc::Global;
 use std::marker::Model;
@@ -55,6 +57,22 @@ impl Replay {
         Ok(Replay { limits, state })
     }
 
+    /// A run that goes on from a start.
+    pub fn begin(alloc: Global, limits: Limits, start: &Start) -> Result<Self, OutOfMemory>
+        requires { MayBegin limits (state_of start.now) }
+        ensures { IfOk result (λ r. r ≡ record { limits = limits; state = state_of start.now }) }
+    {
+        let state = State::begin(alloc, start)?;
+        Ok(Replay { limits, state })
+    }
+
+    /// The state as a start, but for its outcome.
+    pub fn copied(&self, alloc: Global) -> Result<Start, OutOfMemory>
+        ensures { IfOk result (λ s. state_of s ≡ record self.now.state { outcome = None }) }
+    {
+        Ok(self.state.copied(alloc)?)
+    }
+
     /// Whether the entry is a step of the scheduler; where it is, the replay takes it.
     ///
     /// An entry whose `k` is not the number of its machine's earlier entries is no step, nor is any after an outcome. Memory is wanted
@@ -77,6 +95,25 @@ impl Replay {
     {
         self.state.outcome()
     }
+
+    /// How the run ends with these entries, where each is a step. The watch is told at each 65,536th entry how many are.
+    pub(crate) fn run<W: Watch>(
+        mut self,
+        entries: &History,
+        watch: &mut W,
+    ) -> Result<Option<Outcome>, Stop>
+        ensures ends { IfOk result (EndsWith self.limits self.state entries.now.list) }
+        ensures why { IfErr result (IsStop self.limits self.state entries.now.list) }
+        ensures consistent { IsConsistentUnder self.limits self.state }
+    {
+        for (i, entry) in entries.iter().enumerate() {
+            tell(watch, Work::Checking, i as u64);
+            if !self.step(&entry)? {
+                return Err(Stop::NoStep(i));
+            }
+        }
+        Ok(self.outcome())
+    }
 }
 
 /// The outcome of a whole history from the opening on, where each entry is a step.
@@ -88,31 +125,9 @@ pub fn outcome_of(
     entries: &History,
 ) -> Result<Option<Outcome>, ReplayError>
     ensures within { OnOk result (AreLimits limits bodies capacities.now) }
-    ensures ends { IfOk result (EndsWith limits bodies capacities.now entries.now.list) }
+    ensures ends { IfOk result (EndsWith limits (opening limits bodies capacities.now) entries.now.list) }
     ensures why { IfErr result (IsReplayError limits bodies capacities.now entries.now.list) }
 {
-    outcome_watched(alloc, limits, bodies, capacities, entries, &mut ())
-}
-
-/// The same. The watch is told at each 65,536th entry how many are steps.
-pub(crate) fn outcome_watched<W: Watch>(
-    alloc: Global,
-    limits: Limits,
-    bodies: u16,
-    capacities: &[u32],
-    entries: &History,
-    watch: &mut W,
-) -> Result<Option<Outcome>, ReplayError>
-    ensures within { OnOk result (AreLimits limits bodies capacities.now) }
-    ensures ends { IfOk result (EndsWith limits bodies capacities.now entries.now.list) }
-    ensures why { IfErr result (IsReplayError limits bodies capacities.now entries.now.list) }
-{
-    let mut replay = Replay::open(alloc, limits, bodies, capacities)?;
-    for (i, entry) in entries.iter().enumerate() {
-        tell(watch, Work::Checking, i as u64);
-        if !replay.step(&entry)? {
-            return Err(ReplayError::NoStep(i));
-        }
-    }
-    Ok(replay.outcome())
+    let replay = Replay::open(alloc, limits, bodies, capacities)?;
+    Ok(replay.run(entries, &mut ())?)
 }

@@ -4,6 +4,7 @@ ghost use Rattle.gmp_seq.specs.Run.{IsStep};
 ghost use Rattle.gmp_seq.specs.State.{opening};
 ghost use Rattle.gmp_seq.specs.Waits.{can, first_on, waiters};
 ghost use Rattle.gmp_seq.specs.Step.{counted_one, outcome_after, some_can};
+ghost use Rattle.gmp_start.specs.Start.{state_of};
 ghost use Rattle.gmp_check.specs.Calls.{IsMake};
 ghost use Rattle.gmp_check.specs.Decides.{Decides, Leads};
 ghost use Rattle.gmp_check.specs.Consistent.{IsConsistent, IsConsistentUnder};
@@ -17,6 +18,7 @@ use crate::machines::Machines;
 use crate::table::Table;
 use gmp_base::{CNo, Case, MNo};
 use gmp_seq::{Direction, Entry, Limits, Outcome, Reply, Waiter};
+use gmp_start::{Start, copied_rows};
 use std::alloc::{AllocError, Global};
 use std::marker::Model;
 
@@ -69,6 +71,40 @@ impl State {
             machines: Machines::opening(alloc, limits.procs, limits.machines)?,
             counts: vec![in alloc; 0; limits.machines as usize]?,
             outcome: None,
+        })
+    }
+
+    /// The state of a start.
+    pub(crate) fn begin(alloc: Global, start: &Start) -> Result<Self, AllocError>
+        requires few { length start.now.goroutines.items < 2 ^ 16 }
+        requires marked { length start.now.marked.items ≡ length start.now.modes.items }
+        requires consistent { IsConsistent (state_of start.now) }
+        ensures { IfOk result (λ s. s ≡ state_of start.now) }
+    {
+        Ok(State {
+            table: Table::begin(alloc, start)?,
+            channels: Channels::begin(alloc, &start.channels)?,
+            machines: Machines::begin(alloc, start)?,
+            counts: start.counts.to_vec(alloc)?,
+            outcome: None,
+        })
+    }
+
+    /// The same state as a start, but for its outcome.
+    pub(crate) fn copied(&self, alloc: Global) -> Result<Start, AllocError>
+        ensures { IfOk result (λ s. state_of s ≡ record self.now { outcome = None }) }
+    {
+        Ok(Start {
+            counts: self.counts.to_vec(alloc)?,
+            clock: self.table.clock(),
+            arrivals: self.table.arrivals(),
+            holders: self.machines.holders().to_vec(alloc)?,
+            modes: self.machines.modes().to_vec(alloc)?,
+            spinning: self.machines.spinning().to_vec(alloc)?,
+            marked: self.machines.marked().to_vec(alloc)?,
+            active: self.machines.active(),
+            channels: self.channels.copied(alloc)?,
+            goroutines: copied_rows(alloc, self.table.rows())?,
         })
     }
 

@@ -1,13 +1,14 @@
 //! The status table as a plain list of goroutines.
-ghost use Rattle.std.specs.Prelude.{◌≡◌, ◌↔◌, ◌<◌, ◌^◌, ◌∷◌, ◌-◌, Some, None, Option, option_copied, replicate, slice_get, slice_set, IfOk, IfSome, IfNone};
+ghost use Rattle.std.specs.Prelude.{◌≡◌, ◌↔◌, ◌<◌, ◌^◌, ◌∷◌, ◌-◌, Some, None, Option, option_copied, replicate, length, slice_get, slice_set, IfOk, IfSome, IfNone};
 ghost use Rattle.gmp_base.specs.declared.ask.Woke.{Woke};
 ghost use Rattle.gmp_base.specs.declared.number.GNo.{GNo};
 ghost use Rattle.gmp_base.specs.declared.number.MNo.{MNo};
 ghost use Rattle.gmp_seq.specs.declared.status.Place.{Place};
 ghost use Rattle.gmp_seq.specs.declared.status.Status.{Status};
-ghost use Rattle.gmp_check.specs.Last.{IsAlone, IsAt};
+ghost use Rattle.gmp_check.specs.Last.{AreLast, IsAlone, IsAt};
+ghost use Rattle.gmp_start.specs.Start.{table_of};
 ghost use Rattle.gmp_seq.specs.State.{first_goroutine, dormant};
-ghost use Rattle.gmp_seq.specs.Table.{IsReady, IsRunning, IsCalling, epoch_at, is_astir, is_ready_or_running, is_running_on, is_shelved, made_ready, made_wait, next_of, set_status, some_status, status_at};
+ghost use Rattle.gmp_seq.specs.Table.{IsReady, IsRunning, IsCalling, IsHeld, epoch_at, is_astir, is_ready_or_running, is_running_on, is_shelved, made_ready, made_wait, next_of, set_status, some_status, status_at};
 
 mod calls;
 mod waiting;
@@ -15,6 +16,7 @@ mod waking;
 
 use gmp_base::{GNo, MNo, Readiness, Woke};
 use gmp_seq::{Goroutine, Kind, Offers, Place, Status, Wait};
+use gmp_start::{Start, copied_rows};
 use std::alloc::{AllocError, Global};
 use std::marker::Model;
 
@@ -62,6 +64,19 @@ fn come(last: &mut [GNo; 256], g: GNo, status: &Status)
     }
 }
 
+/// Of each machine the goroutine that is there, where one is.
+fn last_of(start: &Start) -> [GNo; 256]
+    requires few { length start.now.goroutines.items < 2 ^ 16 }
+    requires one { (m : MNo) (g h : GNo) → IsHeld (table_of start.now) g m → IsHeld (table_of start.now) h m → g ≡ h }
+    ensures { AreLast result (table_of start.now) }
+{
+    let mut last = [GNo(0); 256];
+    for (g, row) in start.goroutines.iter().enumerate() {
+        come(&mut last, GNo(g as u16), &row.status);
+    }
+    last
+}
+
 impl Table {
     /// Goroutine 0 is on the shelf, and all others are dormant.
     pub(crate) fn open(alloc: Global, bodies: u16) -> Result<Self, AllocError>
@@ -85,6 +100,39 @@ impl Table {
             clock: 0,
             last: [GNo(0); 256],
         })
+    }
+
+    /// The goroutines of a start.
+    pub(crate) fn begin(alloc: Global, start: &Start) -> Result<Self, AllocError>
+        requires few { length start.now.goroutines.items < 2 ^ 16 }
+        requires one { (m : MNo) (g h : GNo) → IsHeld (table_of start.now) g m → IsHeld (table_of start.now) h m → g ≡ h }
+        ensures { IfOk result (λ t. t ≡ table_of start.now) }
+    {
+        let goroutines = copied_rows(alloc, &start.goroutines)?;
+        Ok(Table {
+            goroutines,
+            arrivals: start.arrivals,
+            clock: start.clock,
+            last: last_of(start),
+        })
+    }
+
+    pub(crate) fn rows(&self) -> &[Goroutine]
+        ensures { result.now ≡ self.now.goroutines }
+    {
+        &self.goroutines
+    }
+
+    pub(crate) fn arrivals(&self) -> u64
+        ensures { result ≡ self.now.arrivals }
+    {
+        self.arrivals
+    }
+
+    pub(crate) fn clock(&self) -> u64
+        ensures { result ≡ self.now.clock }
+    {
+        self.clock
     }
 
     fn get(&self, g: GNo) -> Option<&Goroutine>
