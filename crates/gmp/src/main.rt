@@ -4,7 +4,7 @@
 mod line;
 
 use crate::line::Line;
-use gmp_check_cli::check;
+use gmp_check_cli::{check, cut};
 use gmp_cli::step;
 use gmp_clock::Since;
 use gmp_run_cli::run;
@@ -49,6 +49,7 @@ fn main(rt: HostRuntime) -> ExitCode {
                 &mut io::writer(&rt),
                 &mut Line::on(&rt, rt.stderr().is_terminal()),
             ),
+            Task::Cut => cut(alloc, settings.at, &mut rt.reader(), &mut io::writer(&rt)),
         },
     };
     finish(&rt, &ended)

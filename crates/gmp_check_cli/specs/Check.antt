@@ -9,7 +9,7 @@ use Rattle.gmp_trace.specs.Summary.{summary_text}
 use Rattle.gmp_trace.specs.Text.{Content, text}
 use Rattle.gmp_check.specs.Checked.{IsFirstBad, IsRight}
 
--- It has a text, its entries are a legal run from the opening, and its end tells the outcome that they lead to.
+-- It has a text, its entries are a run from its beginning, and its end tells the outcome that they lead to.
 pub record IsRightTrace (x : Content) : Type 0 where
   pub has_text : HasText x
   pub outcome : Option Outcome

@@ -28,7 +28,7 @@ fn judged<P: Progress>(alloc: Global, bytes: &[u8], progress: &mut P) -> Result<
 }
 
 /// Reads a right trace.
-fn traced<R: Read, P: Progress>(
+pub(crate) fn traced<R: Read, P: Progress>(
     alloc: Global,
     reader: &mut R,
     progress: &mut P,

@@ -10,19 +10,18 @@ use Rattle.gmp_words.specs.Runs.{IsTraceOf, limits_of, status_of}
 use Rattle.gmp_cli.specs.Plays.{IsPlayed, Stage, opening_stage}
 
 -- The trace of the core's run under these bodies, by these readings of the clock.
-pub record IsRunOf (s : Settings) (readings : List ℕ) (bodies : List Commands) (x : Content) : Type 0 where
+pub record IsRunOf (s : Settings) (capacities readings : List ℕ) (bodies : List Commands) (x : Content) : Type 0 where
   pub stock : x.bodies ≡ length bodies
   pub last : Stage
-  pub played : IsPlayed s.acts s.word (opening_stage (limits_of s) x.capacities readings bodies) last
+  pub played : IsPlayed s.acts s.word (opening_stage (limits_of s) capacities readings bodies) last
   pub entries : x.entries ≡ last.system.book.history
   pub ended : x.end ≡ end_of last.system.book.state.outcome
 
 -- What was written is the text of the trace of a legal run, which is the core's run under these bodies, and the status tells its end.
 pub record WritesRun (s : Settings) (capacities readings : List ℕ) (bodies : List Commands) (status : ℕ) (old new : Option (List ℕ)) : Type 0 where
   pub trace : Content
-  pub legal : IsTraceOf (limits_of s) trace
-  pub capacities_are : trace.capacities ≡ capacities
-  pub run : IsRunOf s readings bodies trace
+  pub legal : IsTraceOf (limits_of s) capacities trace
+  pub run : IsRunOf s capacities readings bodies trace
   pub has_text : HasText trace
   pub written : Appends old new (text trace)
   pub told : status ≡ status_of trace.end

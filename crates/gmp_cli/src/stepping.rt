@@ -11,7 +11,7 @@ ghost use Rattle.gmp_cli.specs.Step.{WritesRun, WritesTrace};
 use crate::playing::Player;
 use gmp_base::Refusal;
 use gmp_script::Script;
-use gmp_trace::{End, TraceView, write_view};
+use gmp_trace::{BeginningView, End, TraceView, write_view};
 use gmp_words::{Ended, MAX_SCRIPT, Said, Settings, script};
 use std::alloc::Global;
 use std::io::{Read, Write};
@@ -42,7 +42,7 @@ fn run<W: Write>(alloc: Global, settings: &Settings, script: Script, writer: &mu
     let trace = TraceView {
         limits,
         bodies: count as u16,
-        capacities: &capacities,
+        beginning: BeginningView::Opening(&capacities),
         entries: player.history(),
         end,
     };

@@ -42,9 +42,10 @@ two_ways limits bodies capacities refusal.NotHeld h = absurd h
 two_ways limits bodies capacities refusal.NotOver h = absurd h
 
 module _ {T : Type 0} (s : Settings) (capacities : List ℕ) (bodies : ℕ) (r : Report T) (report : IsRunReport (limits_of s) capacities bodies r) where
-  is_trace : IsTraceOf (limits_of s) (trace_of capacities r)
+  is_trace : IsTraceOf (limits_of s) capacities (trace_of capacities r)
   is_trace = record {
     opened = report.opened;
+    begun = refl;
     within = rw (report.opened, report.stock) report.within;
     last = report.last;
     legal = rw (report.opened, report.stock) report.legal;
@@ -53,13 +54,12 @@ module _ {T : Type 0} (s : Settings) (capacities : List ℕ) (bodies : ℕ) (r :
 
   has_text : HasText (trace_of capacities r)
   unfolding is_trace
-  has_text = legal_text (trace_of capacities r) report.last is_trace.within is_trace.legal report.fits
+  has_text = legal_text (trace_of capacities r) capacities report.last refl is_trace.within is_trace.legal report.fits
 
   writes : (status : ℕ) (old new : Option (List ℕ)) → TellsEnd s.trace capacities r status old new → WritesTraceOrSummary s capacities bodies status old new
   writes status old new t = record {
     trace = trace_of capacities r;
     legal = is_trace;
-    rooms = refl;
     stock = report.stock;
     over = over r.outcome;
     has_text = has_text;

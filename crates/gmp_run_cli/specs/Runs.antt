@@ -15,8 +15,7 @@ use Rattle.gmp_run_cli.specs.Told.{IsPrinted}
 -- What was written is the text or the summary of the trace of a legal run by so many bodies, which ended, and the status tells how.
 pub record WritesTraceOrSummary (s : Settings) (capacities : List ℕ) (bodies status : ℕ) (old new : Option (List ℕ)) : Type 0 where
   pub trace : Content
-  pub legal : IsTraceOf (limits_of s) trace
-  pub rooms : trace.capacities ≡ capacities
+  pub legal : IsTraceOf (limits_of s) capacities trace
   pub stock : trace.bodies ≡ bodies
   pub over : trace.end ≢ Running
   pub has_text : HasText trace

@@ -6,6 +6,7 @@ use Rattle.gmp_base.specs.declared.refusal.Refusal.{Refusal}
 use Rattle.gmp_base.specs.declared.refusal.Refusal.TheVariants as refusal
 use Rattle.gmp_trace.specs.Summary.{summary_text}
 use Rattle.gmp_trace.specs.Text.{Content, end_of, text}
+use Rattle.gmp_trace.specs.Text.Begins.{AtOpening}
 use Rattle.gmp_trace.specs.declared.trace.End.{End}
 use Rattle.gmp_worker.specs.Audit.{AgreesWithLogs, IsMismatch}
 use Rattle.gmp_worker.specs.declared.auditing.Mismatch.{Mismatch}
@@ -17,7 +18,7 @@ use Rattle.gmp_words.specs.Runs.{status_of}
 -- the trace of a report, of a run that was opened with these capacities
 abbrev pub trace_of : {T : Type 0} → List ℕ → Report T → Content
 trace_of capacities r =
-    record { limits = r.limits; bodies = length r.bodies.items; capacities = capacities; entries = r.history.list; end = end_of (Some r.outcome) }
+    record { limits = r.limits; bodies = length r.bodies.items; begins = AtOpening capacities; entries = r.history.list; end = end_of (Some r.outcome) }
 
 -- the trace's text went out where it is asked for, and else its summary
 abbrev pub IsPrinted : Bool → Content → Option (List ℕ) → Option (List ℕ) → Type 0

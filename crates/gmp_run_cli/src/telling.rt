@@ -5,11 +5,11 @@ ghost use Rattle.gmp_base.specs.declared.number.MNo.{MNo};
 ghost use Rattle.gmp_words.specs.Said.{is_before_writing};
 ghost use Rattle.gmp_words.specs.declared.said.Said.TheVariants.{BadLimits, Mismatch, Nothing};
 ghost use Rattle.gmp_run_cli.specs.Told.{IsLeast, IsPrinted, Prints, TellsEnd, is_of_print, is_of_report, is_short, said_of_unrun, trace_of};
-ghost use Rattle.gmp_trace.specs.Text.{content};
+ghost use Rattle.gmp_trace.specs.Text.{IsCounted, begins_at, content};
 
 use gmp_base::Refusal;
 use gmp_run::{Report, Unrun};
-use gmp_trace::{End, Trace, summary, write};
+use gmp_trace::{Beginning, End, Trace, summary, write};
 use gmp_words::{Ended, Settings};
 use gmp_worker::audit;
 use std::alloc::{AllocError, Global};
@@ -46,7 +46,7 @@ fn trace_of<T: Drop>(
     Ok(Trace {
         limits,
         bodies,
-        capacities: copied,
+        beginning: Beginning::Opening(copied),
         entries: history,
         end: End::of(Some(outcome)),
     })
@@ -59,6 +59,7 @@ fn print<W: Write>(
     trace: &Trace,
     writer: &mut W,
 ) -> Result<End, Ended>
+    requires { IsCounted (begins_at trace.now.beginning) }
     ensures written { IfOk result (λ end. (end ≡ trace.now.end) × IsPrinted shows_trace (content trace.now) (W.contents writer.old) (W.contents writer.new)) }
     ensures kinds { IfErr result (λ e. is_of_print e.said ≡ true) }
 {

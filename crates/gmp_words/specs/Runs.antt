@@ -9,6 +9,7 @@ use Rattle.gmp_script.specs.Script.{Commands}
 use Rattle.gmp_trace.specs.declared.trace.End.{End}
 use Rattle.gmp_trace.specs.declared.trace.End.TheVariants.{MainEnded, AllAsleep, BookFull, Running}
 use Rattle.gmp_trace.specs.Text.{Content, end_of}
+use Rattle.gmp_trace.specs.Text.Begins.{AtOpening}
 use Rattle.gmp_words.specs.declared.options.Settings.{Settings}
 
 -- the limits that the command line gives
@@ -22,13 +23,14 @@ status_of AllAsleep = 2
 status_of BookFull = 3
 status_of Running = 4
 
--- The trace of a run that was opened with these limits: its entries are a legal run from the opening state, and its end is the outcome
--- of the state that they lead to, or says that there is none.
-pub record IsTraceOf (limits : Limits) (x : Content) : Type 0 where
+-- The trace of a run that was opened with these limits and capacities: its entries are a legal run from the opening state, and its end is
+-- the outcome of the state that they lead to, or says that there is none.
+pub record IsTraceOf (limits : Limits) (capacities : List ℕ) (x : Content) : Type 0 where
   pub opened : x.limits ≡ limits
-  pub within : AreLimits x.limits x.bodies x.capacities
+  pub begun : x.begins ≡ AtOpening capacities
+  pub within : AreLimits x.limits x.bodies capacities
   pub last : State
-  pub legal : IsLegal x.limits x.bodies x.capacities x.entries last
+  pub legal : IsLegal x.limits x.bodies capacities x.entries last
   pub ended : x.end ≡ end_of last.outcome
 
 -- the script that was read is within the limits

@@ -90,6 +90,11 @@ is_of_check Nothing = true
 is_of_check OutputFailed = true
 is_of_check said = is_of_input said || is_of_trace said
 
+-- what may be said by `cut`
+abbrev pub is_of_cut : Said → Bool
+is_of_cut BadLimits = true
+is_of_cut said = is_of_check said
+
 -- what is wrong is found before anything is written
 abbrev pub is_before_writing : Said → Bool
 is_before_writing (BadLine line) = true

@@ -13,6 +13,7 @@ abbrev pub name_of : Task → List ℕ
 name_of task.Step = codes "step"
 name_of task.Run = codes "run"
 name_of task.Check = codes "check"
+name_of task.Cut = codes "cut"
 
 -- the word behind the program's name is this task's
 abbrev pub is_named : {W : Type 0} → (W → List ℕ) → List W → Task → Bool
@@ -60,3 +61,4 @@ pub record AreSaid {W : Type 0} (text : W → List ℕ) (words : List W) (s : Se
   pub acts : number_given text words (codes "--acts") 10000000 ≡ Some s.acts
   pub random : number_given text words (codes "--random") 0 ≡ Some s.random
   pub trace : s.trace ≡ is_given text words (codes "--trace")
+  pub at : number_given text words (codes "--at") 0 ≡ Some s.at

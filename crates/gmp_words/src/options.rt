@@ -13,6 +13,8 @@ pub enum Task {
     Run,
     /// Reads a trace, checks it, and prints its summary.
     Check,
+    /// Reads a trace, checks it, and prints the part of it from an entry on.
+    Cut,
 }
 
 /// What the command line says: the task, and the number of each option.
@@ -35,6 +37,8 @@ pub struct Settings {
     pub random: u64,
     /// Whether a run in threads prints its trace, and not its summary.
     pub trace: bool,
+    /// The entry from which the part of a trace begins, counted from 0.
+    pub at: u64,
     pub ghost procs_in_range: { (1 ≤ procs) × (procs ≤ 32) },
     pub ghost machines_in_range: { (1 ≤ machines) × (machines ≤ 64) },
     pub ghost channels_in_range: { channels ≤ 1024 },

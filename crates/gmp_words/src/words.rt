@@ -77,11 +77,20 @@ const RANDOM: Numeric = Numeric {
     default: 0,
 };
 
+const AT: Numeric = Numeric {
+    id: "at",
+    option: "--at",
+    help: "The entry from which the part begins, counted from 0 [default: 0]",
+    least: 0,
+    most: u64::MAX,
+    default: 0,
+};
+
 /// The program's version, and that of the traces that it writes and reads.
-const VERSION: &str = "0.1.0 (gmp-trace 1)";
+const VERSION: &str = "0.1.0 (gmp-trace 1, 2)";
 
 const STATUSES: &str =
-    "A script, or for check a trace, comes on standard input; what is asked for goes to standard output.
+    "A script, or for check and cut a trace, comes on standard input; what is asked for goes to standard output.
 
 Exit status:
   0   main ended, the trace is right, or help or the version was asked for
@@ -112,6 +121,13 @@ const CHECK_INPUT: &str =
 
 Exit status: 0 the trace is right, 1 it is not (the first bad line is named), or bad input or output,
 5 out of memory, 64 bad command line.";
+
+const CUT_INPUT: &str =
+    "The trace comes on standard input, and the part of it goes to standard output: a trace that begins at the state
+before entry N, which anybody can check alone.
+
+Exit status: 0 the part was written, 1 the trace is not right (the first bad line is named), or bad input or output,
+5 out of memory, 64 bad command line, or there is no such entry.";
 
 /// The command with these options.
 fn with<'a>(
@@ -157,6 +173,13 @@ fn check<'a>(alloc: Global) -> Command<'a> {
         .after_help(CHECK_INPUT)
 }
 
+fn cut<'a>(alloc: Global) -> Result<Command<'a>, AllocError> {
+    let cut = Command::new(alloc, "cut")
+        .about("Reads a trace, checks it and prints the part from an entry on")
+        .after_help(CUT_INPUT);
+    with(alloc, cut, &[AT])
+}
+
 fn command<'a>(alloc: Global) -> Result<Command<'a>, AllocError> {
     Command::new(alloc, "gmp")
         .version(VERSION)
@@ -167,7 +190,8 @@ fn command<'a>(alloc: Global) -> Result<Command<'a>, AllocError> {
         .subcommand_required(true)
         .subcommand(step(alloc)?)?
         .subcommand(run(alloc)?)?
-        .subcommand(check(alloc))
+        .subcommand(check(alloc))?
+        .subcommand(cut(alloc)?)
 }
 
 /// What a refusal by `clap` ends with: its own text, and for help or the version that was asked for status 0.
@@ -195,6 +219,7 @@ fn task(words: &[String]) -> Option<Task>
         b"step" => Some(Task::Step),
         b"run" => Some(Task::Run),
         b"check" => Some(Task::Check),
+        b"cut" => Some(Task::Cut),
         _ => None,
     }
 }
@@ -223,6 +248,7 @@ fn settings_of(task: Task, words: &[String]) -> Option<Settings>
         acts: ACTS.read(words)? as u32,
         random: RANDOM.read(words)?,
         trace: is_given(words, b"--trace"),
+        at: AT.read(words)?,
     })
 }
 

@@ -1,6 +1,7 @@
 use Rattle.std.proofs.Common.{◌≡◌, List, ℕ, length, ap, ◌∙◌, rules}
 use Rattle.gmp_seq.specs.declared.call.Limits.{Limits}
 use Rattle.gmp_trace.specs.Text.{Content, end_of}
+use Rattle.gmp_trace.specs.Text.Begins.{AtOpening}
 use Rattle.gmp_cli.specs.Plays.{Stage, opening_stage}
 use Rattle.gmp_cli.specs.Staged.{stage}
 use Rattle.gmp_words.specs.Runs.{limits_of}
@@ -11,7 +12,7 @@ pub returns-in-Ok-written-clause-traced : goal.returns-in-Ok-written-clause-trac
 returns-in-Ok-written-clause-traced g c = λ nothing.
     let s = c.args.settings.now in
     let script = c.args.script in
-    let x : Content = record { limits = c.limits-limits.result; bodies = c.len-count.result; capacities = c.deref-2.result.now; entries = c.history.result.now.list; end = c.of-end.result } in
+    let x : Content = record { limits = c.limits-limits.result; bodies = c.len-count.result; begins = AtOpening c.deref-2.result.now; entries = c.history.result.now.list; end = c.of-end.result } in
     let opened : stage c.in-Ok.player ≡ opening_stage (limits_of s) script.capacities.items script.readings.items script.bodies.items =
     c.in-Ok.ensures.stage ∙ ap (λ (l : Limits). opening_stage l c.deref.result.now script.readings.items script.bodies.items) c.limits-limits.ensures
     ∙ ap (λ (cs : List ℕ). opening_stage (limits_of s) cs script.readings.items script.bodies.items) c.deref.ensures.value in
@@ -20,10 +21,9 @@ returns-in-Ok-written-clause-traced g c = λ nothing.
     let ended = c.of-end.ensures ∙ ap end_of c.outcome.ensures in
     record {
       trace = x;
-      legal = is_trace s script.capacities.items script.readings.items script.bodies.items (stage c.in-Ok.player) behind x opened c.play.ensures.same.opened c.history.ensures.headline c.history.ensures.within c.history.ensures.fits c.limits-limits.ensures stock c.deref-2.ensures.value c.history.ensures.entries ended;
-      capacities_are = c.deref-2.ensures.value;
-      run = is_run s script.capacities.items script.readings.items script.bodies.items (stage c.in-Ok.player) behind x opened c.play.ensures.same.opened c.history.ensures.headline c.history.ensures.within c.history.ensures.fits c.limits-limits.ensures stock c.deref-2.ensures.value c.history.ensures.entries ended c.play.ensures.played;
-      has_text = has_text s script.capacities.items script.readings.items script.bodies.items (stage c.in-Ok.player) behind x opened c.play.ensures.same.opened c.history.ensures.headline c.history.ensures.within c.history.ensures.fits c.limits-limits.ensures stock c.deref-2.ensures.value c.history.ensures.entries ended;
+      legal = is_trace s script.capacities.items script.readings.items script.bodies.items (stage c.in-Ok.player) behind x opened c.play.ensures.same.opened c.history.ensures.headline c.history.ensures.within c.history.ensures.fits c.limits-limits.ensures stock (ap AtOpening c.deref-2.ensures.value) c.history.ensures.entries ended;
+      run = is_run s script.capacities.items script.readings.items script.bodies.items (stage c.in-Ok.player) behind x opened c.play.ensures.same.opened c.history.ensures.headline c.history.ensures.within c.history.ensures.fits c.limits-limits.ensures stock (ap AtOpening c.deref-2.ensures.value) c.history.ensures.entries ended c.play.ensures.played;
+      has_text = has_text s script.capacities.items script.readings.items script.bodies.items (stage c.in-Ok.player) behind x opened c.play.ensures.same.opened c.history.ensures.headline c.history.ensures.within c.history.ensures.fits c.limits-limits.ensures stock (ap AtOpening c.deref-2.ensures.value) c.history.ensures.entries ended;
       written = c.in-Ok-written.ensures.written;
       told = c.traced.ensures.status;
     }

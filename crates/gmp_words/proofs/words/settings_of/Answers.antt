@@ -27,6 +27,7 @@ returns c = record {
   acts = c.in_ok-read-6.ensures.value;
   random = c.in_ok-read-7.ensures.value;
   trace = c.is_given.ensures;
+  at = c.in_ok-read-8.ensures.value;
 }
 
 pub invariant_of-result : goal.invariant_of-result

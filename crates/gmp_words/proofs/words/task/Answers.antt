@@ -8,5 +8,8 @@ returns-in-run c = grind (arith, common_steps)
 pub returns-in-step : goal.returns-in-step
 returns-in-step c = grind (arith, common_steps)
 
+pub returns-in-cut : goal.returns-in-cut
+returns-in-cut c = grind (arith, common_steps)
+
 pub returns-in-check : goal.returns-in-check
 returns-in-check c = grind (arith, common_steps)
