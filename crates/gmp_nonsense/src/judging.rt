@@ -1,6 +1,7 @@
 //! What holds at the end of a run.
 ghost use Rattle.std.specs.Prelude.{IfOk, OnOk, Some};
 ghost use Rattle.gmp_check.specs.Replayed.{EndsWith};
+ghost use Rattle.gmp_seq.specs.State.{opening};
 
 use crate::limits::{BODIES, CAPACITIES, LIMITS, MACHINES};
 use crate::short::Short;
@@ -18,7 +19,7 @@ pub fn replay(
     history: &History,
     outcome: Outcome,
 ) -> Result<(), Short>
-    ensures { OnOk result (EndsWith limits BODIES CAPACITIES history.now.list (Some outcome)) }
+    ensures { OnOk result (EndsWith limits (opening limits BODIES CAPACITIES) history.now.list (Some outcome)) }
 {
     match outcome_of(alloc, limits, BODIES, &CAPACITIES, history) {
         Ok(replayed) if replayed == Some(outcome) => Ok(()),
@@ -29,7 +30,7 @@ pub fn replay(
 
 /// How the run ended, where all holds.
 pub fn judged(alloc: Global, core: &Core<()>) -> Result<Outcome, Short>
-    ensures { IfOk result (λ outcome. EndsWith LIMITS BODIES CAPACITIES core.now.system.book.history (Some outcome)) }
+    ensures { IfOk result (λ outcome. EndsWith LIMITS (opening LIMITS BODIES CAPACITIES) core.now.system.book.history (Some outcome)) }
 {
     let Some(outcome) = core.outcome() else {
         return Err(Short::Endless);

@@ -8,6 +8,7 @@
 //! It prints how many runs ended in which way, or the first run that falls short, and how. How a run by several machines ends varies.
 #![tactic(auto)]
 
+mod cutting;
 mod drawing;
 mod judging;
 mod limits;

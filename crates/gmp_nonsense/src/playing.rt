@@ -1,5 +1,6 @@
 //! One run.
 
+use crate::cutting::cut;
 use crate::drawing::Draw;
 use crate::judging::judged;
 use crate::limits::{BODIES, CAPACITIES, LIMITS, PROCS};
@@ -11,6 +12,9 @@ use std::alloc::Global;
 
 /// How many acts a run has.
 const ACTS: u32 = 100_000;
+
+/// The runs of so many seeds are cut too.
+const CUT: u64 = 5;
 
 /// A core at its opening.
 fn opened(alloc: Global, run: u64) -> Result<Core<()>, Short> {
@@ -46,9 +50,17 @@ pub fn played(alloc: Global, seed: u64) -> Result<Ended, (u32, Short)> {
     };
     let acted = act_all(&mut core, seed);
     let judgement = judged(alloc, &core);
+    let cuts = if seed < CUT {
+        cut(alloc, core.history(), core.outcome())
+    } else {
+        Ok(())
+    };
     let entries = core.history().len();
     core.close();
     acted?;
+    if let Err(short) = cuts {
+        return Err((ACTS, short));
+    }
     match judgement {
         Ok(outcome) => Ok(Ended { outcome, entries }),
         Err(short) => Err((ACTS, short)),

@@ -2,6 +2,7 @@
 
 use gmp_base::Refusal;
 use gmp_check::ReplayError;
+use gmp_cuts::Uncut;
 use std::alloc::AllocError;
 use thiserror::Error;
 
@@ -34,6 +35,8 @@ pub enum Short {
     OtherOpening,
     #[error("{0}: not as it has to be")]
     Wrong(&'static str),
+    #[error("cut at each entry, {0}")]
+    Uncut(Uncut),
     #[error("out of memory")]
     OutOfMemory,
 }

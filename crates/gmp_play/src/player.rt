@@ -1,6 +1,7 @@
 //! What plays a file, line by line.
 
 mod runs;
+mod segments;
 mod turns;
 
 use crate::hand::Hand;
@@ -9,6 +10,7 @@ use crate::short::Short;
 use crate::words::{first, number, short, small};
 use gmp_base::{GNo, PNo, Woke};
 use gmp_book::Book;
+use gmp_history::History;
 use std::alloc::Global;
 
 /// The body of each goroutine and the owner of each processor is its number.
@@ -31,6 +33,8 @@ struct Player {
     tickets: u64,
     /// What chooses among the cases of a select.
     word: u64,
+    /// The entries of the run that the book has handed out.
+    handed_out: History,
 }
 
 /// Plays a file: how many calls it made, or which line fell short and how.
@@ -44,6 +48,7 @@ pub fn played(alloc: Global, text: &str) -> Result<String, (usize, Short)> {
         others: Vec::new(alloc),
         tickets: 0,
         word: 0,
+        handed_out: History::new(alloc),
     };
     match player.file(text) {
         Ok(counts) => Ok(counts),
@@ -95,6 +100,7 @@ impl Player {
                 Ok(())
             }
             "other" => self.other(number(rest)?),
+            "segment" => self.segment(book, rest, line),
             "held" | "called" | "proc" | "pass" => self.forged(word, rest),
             _ => self.numbered(book, line),
         }

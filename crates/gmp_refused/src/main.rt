@@ -8,8 +8,8 @@ mod judging;
 mod texts;
 
 use crate::judging::{Way, judged};
-use crate::texts::{SCRIPT, SUMMARY, TRACE, UNMADE};
-use gmp_check_cli::check;
+use crate::texts::{PART, SCRIPT, SUMMARY, TRACE, UNMADE};
+use gmp_check_cli::{check, cut};
 use gmp_cli::step;
 use gmp_run::Clock;
 use gmp_run_cli::run;
@@ -21,8 +21,11 @@ use std::process::ExitCode;
 use std::sync::Wait;
 use std::thread::Threads;
 
-/// The command line of a run that prints its trace; `step` and `check` have no use for the flag.
+/// The command line of a run that prints its trace; the other commands have no use for the flag.
 const LINE: &str = "gmp run --trace --entries 16";
+
+/// The entry from which `cut` prints.
+const AT: u64 = 4;
 
 /// A clock that stands still.
 struct Stopped;
@@ -75,7 +78,7 @@ struct Command {
     unmade: &'static str,
 }
 
-const COMMANDS: [Command; 3] = [
+const COMMANDS: [Command; 4] = [
     Command {
         name: "step",
         task: Task::Step,
@@ -94,6 +97,12 @@ const COMMANDS: [Command; 3] = [
         whole: SUMMARY,
         unmade: SUMMARY,
     },
+    Command {
+        name: "cut",
+        task: Task::Cut,
+        whole: PART,
+        unmade: PART,
+    },
 ];
 
 impl Command {
@@ -110,6 +119,7 @@ impl Command {
             Task::Step => step(alloc, settings, &mut script, output),
             Task::Run => run(rt, alloc, settings, &mut script, output, &Stopped),
             Task::Check => check(alloc, &mut TRACE.as_bytes(), output, &mut ()),
+            Task::Cut => cut(alloc, AT, &mut TRACE.as_bytes(), output),
         }
     }
 

@@ -43,3 +43,21 @@ exit           1
 make           1
 send           1
 ";
+
+/// The trace from entry 4 on.
+pub const PART: &str = "gmp-trace 2
+limits procs 1 machines 1 bodies 1 channels 16 entries 16
+start 4 now 0 arrivals 0 active 1
+counts 4
+procs 0
+machines awake
+spinning
+marked
+chan 0 1 open
+chan 1 2 open
+g 0 1 running 0
+begin
+4 0.4 send 1 7 -> sent
+5 0.5 exit -> main ended
+end main ended
+";

@@ -2,10 +2,14 @@
 
 use crate::program::{checked, stepped};
 use crate::short::Short;
+use gmp_cuts::cut_everywhere;
 use gmp_trace::{read, write};
 use std::alloc::Global;
 use std::io::ErrorKind;
 use std::{fs, io};
+
+/// A trace is cut at so many entries at most.
+const MOST_CUTS: usize = 2_000;
 
 /// The number of the first line in which two texts differ, if they do.
 fn differs(got: &[u8], want: &[u8]) -> Option<usize> {
@@ -82,6 +86,17 @@ fn judge_check(rt: &HostRuntime, stem: &str, trace: &[u8]) -> Result<(), Short> 
     judge_summary(rt, stem, &ran.written)
 }
 
+/// The trace cut at each entry, and its parts joined.
+fn judge_cuts(alloc: Global, trace: &[u8]) -> Result<(), Short> {
+    match cut_everywhere(alloc, trace, MOST_CUTS) {
+        Ok(_) => Ok(()),
+        Err(uncut) => {
+            let said = format!(in alloc; "{uncut}")?;
+            Err(Short::line(alloc, 0, said.as_str()))
+        }
+    }
+}
+
 /// Runs the script of this name: how many calls its trace has, or what falls short.
 pub fn judged(rt: &HostRuntime, name: &str) -> Result<usize, Short> {
     let stem = name.strip_suffix(".gmp").unwrap_or(name);
@@ -89,5 +104,6 @@ pub fn judged(rt: &HostRuntime, name: &str) -> Result<usize, Short> {
     judge_step(rt, name, trace.as_bytes())?;
     judge_read(rt.alloc(), trace.as_bytes())?;
     judge_check(rt, stem, trace.as_bytes())?;
+    judge_cuts(rt.alloc(), trace.as_bytes())?;
     Ok(trace.matches(" -> ").count())
 }

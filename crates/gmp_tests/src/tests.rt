@@ -2,11 +2,14 @@
 
 mod acting;
 mod auditing;
+mod cutting;
 mod failing;
 mod filling;
 mod parts;
 mod replaying;
 mod scripts;
+mod segmenting;
+mod starting;
 mod stealing;
 mod stepping;
 mod texts;

@@ -6,6 +6,7 @@ use crate::opening::{Line, Opening};
 use crate::short::Short;
 use gmp_base::{Called, Held, MNo, Pass, Proc, Refusal, Ticket, Woke};
 use gmp_book::{Book, Report};
+use gmp_history::History;
 use gmp_seq::Outcome;
 use std::alloc::{AllocError, Global};
 
@@ -79,9 +80,9 @@ impl Opening {
         }
     }
 
-    /// The plain scheduler takes the history for one with the book's outcome.
-    fn replayed(&self, alloc: Global, book: &Desk) -> Result<(), Short> {
-        if self.outcome(alloc, book.history())? == book.outcome() {
+    /// The plain scheduler takes these entries for a history with the book's outcome.
+    fn replayed(&self, alloc: Global, entries: &History, book: &Desk) -> Result<(), Short> {
+        if self.outcome(alloc, entries)? == book.outcome() {
             Ok(())
         } else {
             Err(Short::EndsOtherwise)
@@ -153,6 +154,7 @@ impl Player {
         self.others = std::mem::replace(&mut self.hands, hands);
         self.tickets = self.run;
         self.word = 0;
+        self.handed_out = History::new(self.alloc);
         Ok(())
     }
 
@@ -168,7 +170,7 @@ impl Player {
         passes.destroy_empty();
     }
 
-    /// Plays the lines, has the plain scheduler replay the history, and gives back what the machines have where the run is over.
+    /// Plays the lines, has the plain scheduler replay all entries, and gives back what the machines have where the run is over.
     fn through(
         &mut self,
         book: &mut Desk,
@@ -179,7 +181,8 @@ impl Player {
             self.at = *at;
             self.line(book, line)?;
         }
-        opening.replayed(self.alloc, book)?;
+        self.keeps(book.history())?;
+        opening.replayed(self.alloc, &self.handed_out, book)?;
         let outcome = book.outcome();
         let entries = book.history().len();
         if outcome.is_some() {

@@ -34,7 +34,7 @@ impl Player {
         }
         let m = number(word)?;
         let (_, calls, _) = self.hand(m)?.pass;
-        let entry = format!(in self.alloc; "{} {m}.{calls} {rest}", book.history().len())?;
+        let entry = format!(in self.alloc; "{} {m}.{calls} {rest}", self.entries(book))?;
         self.asks(book, m, rest, entry.as_str())?;
         self.is_told(m, told)
     }
@@ -120,7 +120,9 @@ impl Player {
             return Err(Short::Says(said));
         }
         let history = book.history();
-        let want = turn.before.after(self.run, reply, history.len() as u64);
+        let want = turn
+            .before
+            .after(self.run, reply, self.entries(book) as u64);
         let woke = turn.after.woke;
         let is_left = turn.after == Hand { woke, ..want };
         match history.last() {
@@ -132,9 +134,9 @@ impl Player {
     /// The last entry, as a trace writes it.
     fn last_line(&self, book: &Desk) -> Result<String, Short> {
         let mut text = Vec::new(self.alloc);
-        let history = book.history();
-        if let Some(entry) = history.last() {
-            put_entry(&mut text, history.len() as u64 - 1, &entry)?;
+        if let Some(entry) = book.history().last() {
+            let number = (self.entries(book) as u64).wrapping_sub(1);
+            put_entry(&mut text, number, &entry)?;
         }
         line_of(text)
     }

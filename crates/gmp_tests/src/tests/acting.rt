@@ -5,7 +5,7 @@ use gmp_check_cli::check;
 use gmp_core::{Core, Want};
 use gmp_script::{Script, ScriptBody};
 use gmp_seq::Limits;
-use gmp_trace::{End, TraceView, write_view};
+use gmp_trace::{BeginningView, End, TraceView, write_view};
 use gmp_words::script;
 use std::alloc::Global;
 use std::process::Abort;
@@ -184,7 +184,7 @@ fn trace_of(
     let trace = TraceView {
         limits: limits_of(row),
         bodies: u16::try_from(bodies).ok().unwrap_or(0),
-        capacities: &[],
+        beginning: BeginningView::Opening(&[]),
         entries: core.history(),
         end: End::of(core.outcome()),
     };
@@ -196,7 +196,12 @@ fn trace_of(
 }
 
 /// The text with another line of this number.
-fn changed(alloc: Global, text: &str, number: usize, line: &str) -> Result<String, Fail> {
+pub(super) fn changed(
+    alloc: Global,
+    text: &str,
+    number: usize,
+    line: &str,
+) -> Result<String, Fail> {
     let mut changed = String::new(alloc);
     for (before, own) in text.split_inclusive('\n').enumerate() {
         if before == number.saturating_sub(1) {
@@ -210,7 +215,7 @@ fn changed(alloc: Global, text: &str, number: usize, line: &str) -> Result<Strin
 }
 
 /// What `gmp check` says of a trace: nothing where it is right.
-fn said(alloc: Global, text: &str) -> Result<String, Fail> {
+pub(super) fn said(alloc: Global, text: &str) -> Result<String, Fail> {
     let mut summary = Vec::new(alloc);
     let ended = check(alloc, &mut text.as_bytes(), &mut summary, &mut ());
     Ok(format!(in alloc; "{}", ended.said)?)

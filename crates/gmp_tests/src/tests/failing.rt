@@ -1,6 +1,6 @@
 //! Readers that fail at each of their reads, and writers that fail behind each number of bytes.
 use super::words::settings_of;
-use gmp_check_cli::check;
+use gmp_check_cli::{check, cut};
 use gmp_cli::step;
 use gmp_trace::{WriteError, read, summary, write};
 use gmp_words::{Ended, Said, Settings, Task};
@@ -35,10 +35,30 @@ claim          1
 exit           1
 ";
 
+/// The trace, as one that begins at a state.
+const PART: &str = "gmp-trace 2
+limits procs 1 machines 1 bodies 1 channels 16 entries 10000
+start 0 now 0 arrivals 0 active 1
+counts 0
+procs idle
+machines awake
+spinning
+marked
+g 0 1 shelf first
+begin
+0 0.0 acquire -> proc 0
+1 0.1 take -> ticket 0.1
+2 0.2 claim 0.1 -> held
+3 0.3 exit -> main ended
+end main ended
+";
+
 /// A command line, with what the command reads and what it writes.
-const COMMANDS: [(&str, &str, &str); 2] = [
+const COMMANDS: [(&str, &str, &str); 4] = [
     ("gmp step", SCRIPT, TRACE),
     ("gmp check", TRACE, SUMMARY),
+    ("gmp check", PART, SUMMARY),
+    ("gmp cut --at 0", TRACE, PART),
 ];
 
 /// A reader that gives a byte at each read, so many in all, and then fails.
@@ -67,6 +87,7 @@ fn ended<R: Read>(
 ) -> Ended {
     match settings.task {
         Task::Check => check(alloc, input, output, &mut ()),
+        Task::Cut => cut(alloc, settings.at, input, output),
         _ => step(alloc, settings, input, output),
     }
 }
@@ -124,12 +145,14 @@ fn output_may_fail_behind_each_byte(rt: HostRuntime) -> Result<(), Fail> {
     Ok(())
 }
 
-#[test]
-fn a_trace_and_its_summary_may_fail_behind_each_byte(rt: HostRuntime) -> Result<(), Fail> {
-    let alloc = rt.alloc();
-    let trace = read(alloc, TRACE.as_bytes()).ok().ok_or("the trace")?;
+/// Writing the trace of the text, or its summary, fails where there is room for fewer bytes.
+fn are_short(rt: &impl Abort, alloc: Global, text: &str) {
+    let trace = match read(alloc, text.as_bytes()) {
+        Ok(trace) => trace,
+        Err(bad) => panic!(rt; "{bad}"),
+    };
     let mut written = [0u8; 1024];
-    for room in 0..TRACE.len() {
+    for room in 0..text.len() {
         let mut output = &mut written[..room.min(1024)];
         assert_eq!(rt;
             write(alloc, &trace, &mut output),
@@ -145,5 +168,10 @@ fn a_trace_and_its_summary_may_fail_behind_each_byte(rt: HostRuntime) -> Result<
             "{room}"
         );
     }
-    Ok(())
+}
+
+#[test]
+fn a_trace_and_its_summary_may_fail_behind_each_byte(rt: HostRuntime) {
+    are_short(&rt, rt.alloc(), TRACE);
+    are_short(&rt, rt.alloc(), PART);
 }

@@ -1,4 +1,6 @@
 //! A trace is read, written and summed up where there is memory.
+ghost use Rattle.gmp_trace.specs.Text.{IsCounted, begins_at};
+
 use gmp_trace::{Bad, Trace, Why, WriteError, read, summary, write};
 use std::alloc::Global;
 use std::process::Abort;
@@ -19,7 +21,9 @@ select         1
 ";
 
 // The texts fit, so that nothing but memory may be wanting.
-fn is_written(rt: &impl Abort, alloc: Global, trace: &Trace) {
+fn is_written(rt: &impl Abort, alloc: Global, trace: &Trace)
+    requires { IsCounted (begins_at trace.now.beginning) }
+{
     let mut written = [0u8; 168];
     match write(alloc, trace, &mut &mut written[..]) {
         Ok(()) => assert_eq!(rt; &written[..], TEXT.as_bytes()),
