@@ -128,7 +128,8 @@ fn begun(
 /// The outcome of a right trace, or the first bad line: of an entry that is no step, or of the end, where it is not the outcome.
 ///
 /// Limits or capacities that no run may have are bad lines too, and so is `begin` behind a state that no run may go on from; what was read
-/// has none of these. Memory is wanted by the beginning and by a make.
+/// has none of these. Of a start it tests the sizes and that its parts fit together; that its numbers are within the limits of their lines
+/// `read` tests. Memory is wanted by the beginning and by a make.
 pub fn check(alloc: Global, trace: &Trace) -> Result<Option<Outcome>, Bad>
     ensures right { IfOk result (IsRight (content trace.now)) }
     ensures wrong { IfErr result (IsFirstBad (content trace.now)) }

@@ -15,6 +15,13 @@ pub record WritesPart (at : ℕ) (input old new : Option (List ℕ)) : Type 0 wh
   pub right_too : IsRightTrace part
   pub written : Appends old new (text part)
 
+-- they are the text of a right trace that has a part from this entry on
+pub record HasPart (at : ℕ) (bytes : List ℕ) : Type 0 where
+  pub trace : Content
+  pub right : IsRightTrace trace
+  pub read : IsRead bytes trace
+  pub within : IsPast trace at → ⊥
+
 -- they are the text of a right trace that has no part from this entry on
 pub record HasNoPart (at : ℕ) (bytes : List ℕ) : Type 0 where
   pub trace : Content

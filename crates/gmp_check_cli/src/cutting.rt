@@ -3,9 +3,9 @@
 ghost use Rattle.std.specs.Prelude.{◌≡◌, ◌≢◌, ◌↔◌, ◌<◌, ◌≤◌, true, false, length, IfSome};
 ghost use Rattle.gmp_trace.specs.declared.bad.Bad.{Bad};
 ghost use Rattle.gmp_check_cli.specs.Check.{HasNoRightTrace, IsBadLine};
-ghost use Rattle.gmp_check_cli.specs.Cut.{HasNoPart, WritesPart};
+ghost use Rattle.gmp_check_cli.specs.Cut.{HasNoPart, HasPart, WritesPart};
 ghost use Rattle.gmp_words.specs.Said.{is_before_writing, is_of_cut, is_of_input};
-ghost use Rattle.gmp_words.specs.declared.said.Said.TheVariants.{BadLimits, BadTrace, InputTooLong, Nothing};
+ghost use Rattle.gmp_words.specs.declared.said.Said.TheVariants.{BadLimits, BadTrace, InputTooLong, Nothing, OutputFailed};
 
 use crate::checking::traced;
 use gmp_check::{SplitError, split};
@@ -17,7 +17,7 @@ use std::io::{Read, Write};
 /// Reads a trace, checks it, and writes the part of it from entry `at` on, counted from 0 at the trace's own first entry: a trace that begins
 /// at the state before that entry.
 ///
-/// It ends with what is wrong where something is: the input, the first bad line, no such entry, the output, or memory.
+/// It ends with what is wrong where something is: the input, the first bad line, no such part, the output, or memory.
 pub fn cut<R: Read, W: Write>(alloc: Global, at: u64, reader: &mut R, writer: &mut W) -> Ended
     ensures passed { result.said ≡ Nothing → WritesPart at (R.remaining reader.old) (W.contents writer.old) (W.contents writer.new) }
     ensures status { result.status ≡ 0 ↔ result.said ≡ Nothing }
@@ -26,6 +26,7 @@ pub fn cut<R: Read, W: Write>(alloc: Global, at: u64, reader: &mut R, writer: &m
     ensures kinds { is_of_cut result.said ≡ true }
     ensures quiet { is_before_writing result.said ≡ true → W.contents writer.new ≡ W.contents writer.old }
 
+    ensures failed { result.said ≡ OutputFailed → IfSome (R.remaining reader.old) (HasPart at) }
     ensures past { result.said ≡ BadLimits → IfSome (R.remaining reader.old) (HasNoPart at) }
     ensures first { (bad : Bad) → result.said ≡ BadTrace bad → IfSome (R.remaining reader.old) (λ all. IsBadLine all bad) }
     ensures too_long { result.said ≡ InputTooLong → IfSome (R.remaining reader.old) (λ all. MAX_TRACE < length all) }

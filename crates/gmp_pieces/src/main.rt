@@ -18,9 +18,15 @@ use std::alloc::Global;
 /// So many entries go out at a time.
 const EACH: usize = 10_000;
 
+/// There are fewer pieces.
+const PIECES: usize = 10;
+
 /// The goroutine takes its turns, until it has so many entries or the run is over.
 fn fill(book: &mut Book<(), ()>, pass: &mut Pass) -> Result<(), Short> {
-    while book.history().len() < EACH {
+    for _ in 0..EACH {
+        if EACH <= book.history().len() {
+            break;
+        }
         match turn(book, pass) {
             Ok(()) => {}
             Err(Refusal::Over) => break,
@@ -49,7 +55,10 @@ fn next(alloc: Global, book: &mut Book<(), ()>, pass: &mut Pass) -> Result<Optio
 
 /// Prints the summary of each piece.
 fn pieces(rt: &impl Print, alloc: Global, book: &mut Book<(), ()>, pass: &mut Pass) -> Result<()> {
-    while let Some(summary) = next(alloc, book, pass)? {
+    for _ in 0..PIECES {
+        let Some(summary) = next(alloc, book, pass)? else {
+            break;
+        };
         print!(rt; "{}", str::from_utf8(&summary).unwrap_or("?"))?;
     }
     Ok(())

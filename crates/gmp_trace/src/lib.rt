@@ -1,8 +1,9 @@
 //! The trace: a run of the scheduler as a text.
 //!
-//! Line 1 is `gmp-trace 1`, line 2 has the limits, and line 3 the capacities of the channels at the opening.
-//! Then each entry has a line, `N M.K CALL -> REPLY`: its number from 0, its machine, how many entries that
-//! machine made before, the call, and the reply. The last line says how the run ended.
+//! Line 1 is `gmp-trace 1` or `gmp-trace 2`, and line 2 has the limits. In version 1 line 3 has the capacities of the channels at the
+//! opening; in version 2 lines 3 to that with `begin` have the state at which the run goes on. Then each entry has a line,
+//! `N M.K CALL -> REPLY`: its number in the run, from 0, its machine, how many entries that machine made before, the call, and the reply. The
+//! last line says how the run ended.
 //!
 //! The text is ASCII. Each line ends with a line feed, and its words are parted by one space. A number is decimal,
 //! with no leading zero. A moment, as of `tick` or `sleep`, is in nanoseconds.

@@ -47,8 +47,8 @@ fn send<W: Write>(out: &mut Vec<u8>, writer: &mut W) -> Result<(), WriteError>
 
 /// Writes the text of a trace.
 ///
-/// It takes room for some 64 KiB once, and needs no more for a trace whose limits are in range, however long
-/// it is. `Device` comes only where the writer failed, and `OutOfMemory` only where memory was refused.
+/// It takes room for some 64 KiB once, and of a start for its lines, and needs no more for a trace whose limits are in range, however
+/// long it is. `Device` comes only where the writer failed, and `OutOfMemory` only where memory was refused.
 pub fn write<W: Write>(alloc: Global, trace: &Trace, writer: &mut W) -> Result<(), WriteError>
     requires counted { IsCounted (begins_at trace.now.beginning) }
     ensures written { OnOk result (Appends (W.contents writer.old) (W.contents writer.new) (text (content trace.now))) }

@@ -80,7 +80,7 @@ const RANDOM: Numeric = Numeric {
 const AT: Numeric = Numeric {
     id: "at",
     option: "--at",
-    help: "The entry from which the part begins, counted from 0 [default: 0]",
+    help: "The entry from which the part begins, 0 to 18446744073709551615 [default: 0]",
     least: 0,
     most: u64::MAX,
     default: 0,
@@ -127,7 +127,7 @@ const CUT_INPUT: &str =
 before entry N, which anybody can check alone.
 
 Exit status: 0 the part was written, 1 the trace is not right (the first bad line is named), or bad input or output,
-5 out of memory, 64 bad command line, or there is no such entry.";
+5 out of memory, 64 bad command line, or there is no such part.";
 
 /// The command with these options.
 fn with<'a>(
