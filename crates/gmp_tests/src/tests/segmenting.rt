@@ -50,9 +50,10 @@ fn opened(rt: &impl Abort, alloc: Global) -> Result<Book<(), ()>, Fail> {
     match Book::open(alloc, RUN, LIMITS, &[], bodies, owners) {
         Ok((book, passes)) => {
             let mut passes = passes;
-            while let Some(pass) = passes.pop() {
+            if let Some(pass) = passes.pop() {
                 pass.open();
             }
+            assert!(rt; passes.is_empty(), "there is one machine");
             passes.destroy_empty();
             Ok(book)
         }

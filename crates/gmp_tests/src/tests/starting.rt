@@ -41,25 +41,26 @@ enum Edit {
 }
 
 /// The text with this edit of its line of this number, from 1.
-fn edited(alloc: Global, number: usize, edit: Edit) -> Result<String, AllocError> {
-    let mut text = String::new(alloc);
-    let mut held = "";
+fn edited(alloc: Global, number: usize, edit: Edit) -> Result<Vec<u8>, AllocError> {
+    let mut text = Vec::new(alloc);
+    let mut held: &[u8] = b"";
     for (before, line) in TEXT.split_inclusive('\n').enumerate() {
+        let line = line.as_bytes();
         if before != number.saturating_sub(1) {
-            text.push_str(line)?;
-            text.push_str(held)?;
-            held = "";
+            text.extend_from_slice(line)?;
+            text.extend_from_slice(held)?;
+            held = b"";
             continue;
         }
         match edit {
             Edit::Line(new) => {
-                text.push_str(new)?;
-                text.push('\n')?;
+                text.extend_from_slice(new.as_bytes())?;
+                text.push(b'\n')?;
             }
             Edit::Without => {}
             Edit::Twice => {
-                text.push_str(line)?;
-                text.push_str(line)?;
+                text.extend_from_slice(line)?;
+                text.extend_from_slice(line)?;
             }
             Edit::Swapped => held = line,
         }
@@ -68,8 +69,8 @@ fn edited(alloc: Global, number: usize, edit: Edit) -> Result<String, AllocError
 }
 
 /// The first bad line of a text, with what is wrong; none where it is right.
-fn fault(alloc: Global, text: &str) -> Option<Bad> {
-    match read(alloc, text.as_bytes()) {
+fn fault(alloc: Global, text: &[u8]) -> Option<Bad> {
+    match read(alloc, text) {
         Ok(trace) => check(alloc, &trace).err(),
         Err(bad) => Some(bad),
     }
@@ -102,7 +103,7 @@ const LINES: [[(u64, Why); 3]; 19] = [
 #[test]
 fn each_line_stands_once_in_its_place(rt: HostRuntime) -> Result<(), Fail> {
     let alloc = rt.alloc();
-    assert_eq!(rt; fault(alloc, TEXT), None);
+    assert_eq!(rt; fault(alloc, TEXT.as_bytes()), None);
     for (before, wants) in LINES.iter().enumerate() {
         let number = before.wrapping_add(1);
         for (edit, want) in [Edit::Without, Edit::Twice, Edit::Swapped]
@@ -111,11 +112,7 @@ fn each_line_stands_once_in_its_place(rt: HostRuntime) -> Result<(), Fail> {
         {
             let text = edited(alloc, number, *edit)?;
             let (line, why) = *want;
-            assert_eq!(rt;
-                fault(alloc, text.as_str()),
-                Some(Bad { line, why }),
-                "{text}"
-            );
+            assert_eq!(rt; fault(alloc, &text), Some(Bad { line, why }), "{number}");
         }
     }
     Ok(())
@@ -341,7 +338,7 @@ fn a_start_has_numbers_up_to_their_limits(rt: HostRuntime) -> Result<(), Fail> {
     let alloc = rt.alloc();
     for (number, line) in RIGHT {
         let text = edited(alloc, number, Edit::Line(line))?;
-        assert_eq!(rt; fault(alloc, text.as_str()), None, "{line}");
+        assert_eq!(rt; fault(alloc, &text), None, "{line}");
     }
     Ok(())
 }
@@ -352,11 +349,7 @@ fn a_start_past_its_limits_is_bad(rt: HostRuntime) -> Result<(), Fail> {
     for (number, edit, line) in WRONG {
         let text = edited(alloc, number, Edit::Line(edit))?;
         let why = Why::Start;
-        assert_eq!(rt;
-            fault(alloc, text.as_str()),
-            Some(Bad { line, why }),
-            "{edit}"
-        );
+        assert_eq!(rt; fault(alloc, &text), Some(Bad { line, why }), "{edit}");
     }
     Ok(())
 }
