@@ -1,20 +1,24 @@
-//! How far a check is, on one line of standard error.
+//! How far a check is, on one line of standard error, which is written over and gone at the end.
+//! Shown only where standard error is a terminal and the input is long: what goes into a file has no such line.
 
 use gmp_check_cli::Progress;
 use gmp_trace::{Watch, Work};
 
-/// An input of more bytes is worth a line.
+/// An input of more bytes takes long enough for a line.
 const LONG: usize = 16 * 1024 * 1024;
 
 /// The line, which is shown where standard error is a terminal and the input is long, and gone at the end.
 #[derive(Drop)]
 pub struct Line<'a, E> {
     rt: &'a E,
+    /// Whether standard error is a terminal.
     is_terminal: bool,
+    /// Whether there is a line to be written over.
     is_shown: bool,
 }
 
 impl<'a, E> Line<'a, E> {
+    /// A line that is not shown yet: whether it is, the input's length says.
     pub fn on(rt: &'a E, is_terminal: bool) -> Self {
         Line {
             rt,

@@ -1,4 +1,12 @@
-//! The program `gmp`: runs scripts of goroutines, in one thread or in several, and prints what was done; and checks what was printed.
+//! The program `gmp`: runs scripts of goroutines, in one thread (`step`) or in several (`run`), and prints what was done; and checks what
+//! was printed (`check`), and cuts it (`cut`).
+//!
+//! It hands the commands what the host has: standard input and output, the memory, the threads and the clock. What each command promises
+//! stands in its crate (gmp_cli, gmp_run_cli, gmp_check_cli), what the command line may say in gmp_words.
+//!
+//! Each way out is an `Ended`: a status, and a text that goes to standard error, or to standard output where the status is 0. Nothing is
+//! refused here that the commands don't refuse. Where even the last words can't be written the status stays, so that a script that calls
+//! the program can rely on it.
 #![tactic(auto)]
 
 mod line;
@@ -6,7 +14,7 @@ mod line;
 use crate::line::Line;
 use gmp_check_cli::{check, cut};
 use gmp_cli::step;
-use gmp_clock::Since;
+use gmp_host::Since;
 use gmp_run_cli::run;
 use gmp_words::{Ended, Task, arguments, settings};
 use std::io::{self, IsTerminal};
@@ -25,6 +33,7 @@ fn finish(rt: &(impl Print + Eprint), ended: &Ended) -> ExitCode {
     ExitCode::from(ended.status)
 }
 
+/// Reads the command line, does what it says, and ends with what came of it.
 fn main(rt: HostRuntime) -> ExitCode {
     let alloc = rt.alloc();
     let words = match arguments(&rt) {

@@ -1,12 +1,14 @@
-//! Values that must be spent: each has to be handed to a call, or opened. None can be copied, and none can be let go.
+//! Values that must be spent: each has to be handed to a call, or opened. None can be copied, and none can be let go. `Ticket` is the right
+//! to claim a ready goroutine, `Held` a goroutine that runs, `Called` one in its blocking call, `Proc` a processor.
 //!
-//! The book gives them out and takes them back. `of` and `open` are for the crates that keep their parts.
+//! The book gives them out and takes them back. `of` and `open` are for the crates that keep their parts. Fields are public: private ones
+//! would hide nothing, since `of` and `open` are, and no contract could name them. A value that nobody gave out is refused by the book.
 ghost use Rattle.std.specs.Prelude.{◌≡◌};
 
 use crate::ask::Woke;
 use crate::number::{GNo, PNo, Readiness};
 
-/// The right to claim a ready goroutine, once.
+/// The right to claim a ready goroutine, once. The epoch says which time of being ready is meant, so that an old ticket opens nothing.
 pub struct Ticket {
     /// The run that it is of.
     pub run: u64,
@@ -17,6 +19,7 @@ pub struct Ticket {
 impl Ticket {
     ghost use Rattle.gmp_base.specs.Values.{readiness_of, ticket_by};
 
+    /// A ticket of these parts. Whether it is given out is the book's to know.
     pub fn of(run: u64, g: GNo, epoch: u64) -> Self
         ensures { result ≡ record { run = run; g = g; epoch = epoch } }
     {
@@ -49,7 +52,8 @@ impl Ticket {
     }
 }
 
-/// A goroutine that a machine runs, with its body and what the body is to be told.
+/// A goroutine that a machine runs, with its body and what the body is to be told next. It is spent by each call of the goroutine, and
+/// handed back where the goroutine goes on.
 pub struct Held<T> {
     /// The run that it is of.
     pub run: u64,
@@ -59,6 +63,7 @@ pub struct Held<T> {
 }
 
 impl<T> Held<T> {
+    /// A goroutine of these parts, which the book takes only from the machine that runs it.
     pub fn of(run: u64, g: GNo, woke: Woke, body: T) -> Self
         ensures { result ≡ record { run = run; g = g; woke = woke; body = body } }
     {
@@ -74,7 +79,7 @@ impl<T> Held<T> {
     }
 }
 
-/// A goroutine whose blocking call a machine makes, with its body.
+/// A goroutine whose blocking call a machine makes, with its body. The machine that makes the call hands it to `leave`.
 pub struct Called<T> {
     /// The run that it is of.
     pub run: u64,
@@ -83,6 +88,7 @@ pub struct Called<T> {
 }
 
 impl<T> Called<T> {
+    /// A goroutine of these parts, which the book takes only from the machine that makes its call.
     pub fn of(run: u64, g: GNo, body: T) -> Self
         ensures { result ≡ record { run = run; g = g; body = body } }
     {
@@ -98,7 +104,8 @@ impl<T> Called<T> {
     }
 }
 
-/// A processor that a machine holds, with its owner: what goes along with the processor, as the own end of its queue.
+/// A processor that a machine holds (Scalable Go Scheduler Design Doc, Processors), with its owner: what goes along with the processor, as
+/// the own end of its queue. An owner may be of any type; nobody but its host looks into it.
 pub struct Proc<Q> {
     /// The run that it is of.
     pub run: u64,
@@ -107,6 +114,7 @@ pub struct Proc<Q> {
 }
 
 impl<Q> Proc<Q> {
+    /// A processor of these parts, which the book takes only from the machine that holds it.
     pub fn of(run: u64, p: PNo, owner: Q) -> Self
         ensures { result ≡ record { run = run; p = p; owner = owner } }
     {

@@ -22,11 +22,11 @@ use Rattle.gmp_seq.specs.State.{State}
 use Rattle.gmp_seq.specs.Step.{Deals, Effect, Selects, is_wait, ticket_in}
 use Rattle.gmp_seq.specs.Table.{Table}
 use Rattle.gmp_seq.specs.Needs.{WantsMemory}
-use Rattle.gmp_ledger.specs.Grants.{NeedsMemory}
-use Rattle.gmp_ledger.specs.Handed.{by_held, names_other}
-use Rattle.gmp_ledger.specs.Known.{known_by}
-use Rattle.gmp_ledger.specs.Refusals.{Says}
-use Rattle.gmp_ledger.proofs.Saying.{says_alone}
+use Rattle.gmp_journal.specs.Grants.{NeedsMemory}
+use Rattle.gmp_journal.specs.Handed.{by_held, names_other}
+use Rattle.gmp_journal.specs.Known.{known_by}
+use Rattle.gmp_journal.specs.Refusals.{Says}
+use Rattle.gmp_journal.proofs.Saying.{says_alone}
 use Rattle.gmp_book.specs.declared.values.Values.{Values}
 use Rattle.gmp_book.specs.declared.values.Way.{Way}
 use Rattle.gmp_book.specs.declared.values.Way.TheVariants as way

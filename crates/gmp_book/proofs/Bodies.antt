@@ -1,7 +1,7 @@
 -- Bodies and owners are in the book but for what is held, where one thing changes.
 use Rattle.std.proofs.Common.{◌≡◌, ℕ, zero, suc, Bool, true, false, not, Option, None, Some, List, [], ◌∷◌, map, set, slice_get, is_some, refl, sym, ap, ◌∙◌}
 use Rattle.gmp_seq.specs.declared.status.Goroutine.{Goroutine}
-use Rattle.gmp_slots.specs.Slots.{is_filled, is_vacant, all_filled}
+use Rattle.gmp_book.specs.Slots.{is_filled, is_vacant, all_filled}
 use Rattle.gmp_seq.specs.Table.{is_held}
 
 -- a row whose body is in

@@ -12,10 +12,10 @@ use Rattle.gmp_seq.specs.declared.call.Call.TheVariants as call
 use Rattle.gmp_seq.specs.Machines.{Holds, Machines}
 use Rattle.gmp_seq.specs.State.{State}
 use Rattle.gmp_seq.specs.Table.{IsCalling, IsRunning, Table}
-use Rattle.gmp_ledger.specs.declared.handed.Handed.{Handed}
+use Rattle.gmp_journal.specs.declared.handed.Handed.{Handed}
 use Rattle.gmp_book.specs.declared.values.Values.{Values}
-use Rattle.gmp_ledger.specs.Grants.{Grants, Suits}
-use Rattle.gmp_ledger.specs.Handed.{goroutine_in, held_handed, nothing_handed, processor_in, ticket_handed}
+use Rattle.gmp_journal.specs.Grants.{Grants, Suits}
+use Rattle.gmp_journal.specs.Handed.{goroutine_in, held_handed, nothing_handed, processor_in, ticket_handed}
 use Rattle.gmp_book.specs.Hands.{handed_of}
 use Rattle.gmp_book.specs.Kinds.{hands_called, hands_held, hands_proc}
 use Rattle.gmp_base.specs.declared.number.Readiness.{Readiness}

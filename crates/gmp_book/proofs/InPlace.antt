@@ -13,7 +13,7 @@ use Rattle.gmp_seq.specs.declared.call.Reply.TheVariants as reply
 use Rattle.gmp_seq.specs.Machines.{Machines}
 use Rattle.gmp_seq.specs.State.{State}
 use Rattle.gmp_seq.specs.Step.{Effect, woke_after}
-use Rattle.gmp_ledger.specs.Known.{known_by}
+use Rattle.gmp_journal.specs.Known.{known_by}
 use Rattle.gmp_base.specs.declared.value.Held.{Held}
 use Rattle.gmp_seq.specs.Table.{Table}
 use Rattle.gmp_book.specs.declared.values.Way.{Way}

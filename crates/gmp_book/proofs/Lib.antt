@@ -1,3 +1,4 @@
+pub mod Filled
 pub mod Bodies
 pub mod OpeningBook
 pub mod Moves

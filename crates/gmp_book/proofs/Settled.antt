@@ -19,11 +19,11 @@ use Rattle.gmp_seq.specs.Machines.{Holds, IsIdle, Machines}
 use Rattle.gmp_seq.specs.State.{State}
 use Rattle.gmp_seq.specs.Table.{IsHeld, Table, is_held, status_at}
 use Rattle.gmp_seq.proofs.OneEach.{row_at}
-use Rattle.gmp_slots.specs.Slots.{is_filled, is_vacant}
+use Rattle.gmp_book.specs.Slots.{is_filled, is_vacant}
 use Rattle.gmp_base.specs.declared.pass.Pass.{Pass}
-use Rattle.gmp_ledger.specs.Grants.{Grants, Suits}
-use Rattle.gmp_ledger.specs.Handed.{goroutine_in, processor_in}
-use Rattle.gmp_ledger.specs.Log.{Log, Records}
+use Rattle.gmp_journal.specs.Grants.{Grants, Suits}
+use Rattle.gmp_journal.specs.Handed.{goroutine_in, processor_in}
+use Rattle.gmp_journal.specs.Log.{Log, Records}
 use Rattle.gmp_book.specs.declared.values.Values.{Values}
 use Rattle.gmp_book.specs.declared.values.Way.{Way}
 use Rattle.gmp_book.specs.declared.values.Way.TheVariants as way

@@ -14,10 +14,10 @@ use Rattle.gmp_seq.specs.declared.call.Entry.{Entry}
 use Rattle.gmp_seq.specs.Run.{IsLegal, Run}
 use Rattle.gmp_seq.specs.State.{opening}
 use Rattle.gmp_seq.specs.Table.{Table, is_held}
-use Rattle.gmp_slots.specs.Slots.{all_filled}
+use Rattle.gmp_book.specs.Slots.{all_filled}
 use Rattle.gmp_book.specs.declared.report.Report.{Report}
-use Rattle.gmp_ledger.specs.Log.{Log, opening_log}
-use Rattle.gmp_ledger.specs.Refusals.{Line, refusal_line}
+use Rattle.gmp_journal.specs.Log.{Log, opening_log}
+use Rattle.gmp_journal.specs.Refusals.{Line, refusal_line}
 
 -- the run, and the bodies and owners that are in the book
 pub record BookContents (T Q : Type 0) : Type 0 where

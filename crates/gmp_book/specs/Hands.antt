@@ -17,9 +17,9 @@ use Rattle.gmp_seq.specs.declared.call.Call.TheVariants as call
 use Rattle.gmp_seq.specs.declared.call.Reply.{Reply}
 use Rattle.gmp_seq.specs.declared.call.Reply.TheVariants as reply
 use Rattle.gmp_seq.specs.Step.{ticket_in, woke_after}
-use Rattle.gmp_slots.specs.Slots.{is_filled, is_vacant}
-use Rattle.gmp_ledger.specs.declared.handed.Handed.{Handed}
-use Rattle.gmp_ledger.specs.Known.{known_by}
+use Rattle.gmp_book.specs.Slots.{is_filled, is_vacant}
+use Rattle.gmp_journal.specs.declared.handed.Handed.{Handed}
+use Rattle.gmp_journal.specs.Known.{known_by}
 use Rattle.gmp_book.specs.declared.values.Values.{Values}
 use Rattle.gmp_book.specs.declared.values.Way.{Way}
 use Rattle.gmp_book.specs.declared.values.Way.TheVariants.{Stays, Home, OutOfPlace, IntoCall, OutOfCall}

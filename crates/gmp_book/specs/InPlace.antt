@@ -8,7 +8,7 @@ use Rattle.gmp_seq.specs.declared.call.Call.{Call}
 use Rattle.gmp_seq.specs.declared.call.Call.TheVariants as call
 use Rattle.gmp_seq.specs.declared.call.Reply.{Reply}
 use Rattle.gmp_seq.specs.Step.{ticket_in}
-use Rattle.gmp_ledger.specs.declared.handed.Handed.{Handed}
+use Rattle.gmp_journal.specs.declared.handed.Handed.{Handed}
 use Rattle.gmp_book.specs.declared.values.Values.{Values}
 
 -- nothing

@@ -1,3 +1,4 @@
+pub mod Slots
 pub mod Replies
 pub mod Book
 pub mod Kinds

@@ -16,7 +16,7 @@ use Rattle.gmp_book.specs.declared.went.Moved.TheVariants.{On, Waits}
 use Rattle.gmp_book.specs.declared.went.Went.{Went}
 use Rattle.gmp_book.specs.Book.{BookContents, SameValues, TakesBack}
 use Rattle.gmp_goroutines.specs.Choice.{IsChoice}
-use Rattle.gmp_ledger.specs.Log.{Log, Records}
+use Rattle.gmp_journal.specs.Log.{Log, Records}
 use Rattle.gmp_book.specs.declared.values.Way.TheVariants.{Stays, Home}
 use Rattle.gmp_book.specs.Hands.{way_of}
 

@@ -1,8 +1,9 @@
-//! What becomes of who exits or parks.
+//! What becomes of who exits or parks: `Exited` is of a goroutine, `Parking` of a machine.
 
 /// What became of a goroutine that exits.
 #[derive(Clone, Copy, Debug, PartialEq, Eq)]
 pub enum Exited {
+    /// It is dead, and the run goes on.
     Dead,
     /// It was goroutine 0, whose exit ends the run.
     MainEnded,

@@ -11,12 +11,12 @@ ghost use Rattle.gmp_seq.specs.Table.{is_shelved};
 ghost use Rattle.gmp_table.specs.Kept.{IsListing};
 ghost use Rattle.std.specs.Option.{option_map_or};
 ghost use Rattle.gmp_seq.specs.Needs.{WantsMemory};
-ghost use Rattle.gmp_ledger.specs.Grants.{Chooses, Grants, NeedsMemory, Suits};
-ghost use Rattle.gmp_ledger.specs.Done.{IsDoneTo};
-ghost use Rattle.gmp_ledger.specs.Handed.{goroutine_in, names_other, processor_in};
-ghost use Rattle.gmp_ledger.specs.Log.{Records, entries_made};
-ghost use Rattle.gmp_ledger.specs.Refusals.{Says, refusal_in, refusal_of};
-ghost use Rattle.gmp_ledger.specs.Segments.{IsSegment, WhyNoSegment};
+ghost use Rattle.gmp_journal.specs.Grants.{Chooses, Grants, NeedsMemory, Suits};
+ghost use Rattle.gmp_journal.specs.Done.{IsDoneTo};
+ghost use Rattle.gmp_journal.specs.Handed.{goroutine_in, names_other, processor_in};
+ghost use Rattle.gmp_journal.specs.Log.{Records, entries_made};
+ghost use Rattle.gmp_journal.specs.Refusals.{Says, refusal_in, refusal_of};
+ghost use Rattle.gmp_journal.specs.Segments.{IsSegment, WhyNoSegment};
 ghost use Rattle.gmp_book.specs.Hands.{handed_of};
 
 mod asking;
@@ -28,12 +28,12 @@ mod machines;
 
 use crate::opening::{Unopened, first_passes, may_open};
 use crate::settling::{settle_body, settle_owner};
+use crate::slots::Slots;
 use crate::values::{Values, claimed, handed, ticket_out, told_by, way_of};
 use gmp_base::{MNo, Pass, Refusal};
 use gmp_history::History;
-use gmp_ledger::{Ledger, Segment};
+use gmp_journal::{Journal, Segment};
 use gmp_seq::{Call, Limits, Outcome, Reply};
-use gmp_slots::Slots;
 use std::alloc::Global;
 use std::marker::Model;
 
@@ -45,9 +45,10 @@ use std::marker::Model;
 /// Where several refusals hold, a call answers the first of `WrongRun`, `OutOfTurn`, `Behind`, `Over`, `Busy`, `NoProcessor`,
 /// `NotOutstanding`, `NotHeld`; a surrender of `WrongRun`, `NotOver`, and then `NotOutstanding` or `NotHeld`; the report of `NotOver`,
 /// `Busy`.
+// Bodies and owners lie beside the journal and not in it: what a step does is proved once, of plain data.
 #[derive(Drop)]
 pub struct Book<T, Q> {
-    ledger: Ledger,
+    journal: Journal,
     bodies: Slots<T>,
     owners: Slots<Q>,
 }
@@ -57,9 +58,9 @@ impl<T, Q> Model for Book<T, Q> {
 
     ghost Value = { BookContents T Q };
 
-    ghost view = { λ b. record { log = b.ledger; bodies = b.bodies; owners = b.owners } };
+    ghost view = { λ b. record { log = b.journal; bodies = b.bodies; owners = b.owners } };
 
-    ghost invariant = { λ b. IsBook (record { log = b.ledger; bodies = b.bodies; owners = b.owners }) };
+    ghost invariant = { λ b. IsBook (record { log = b.journal; bodies = b.bodies; owners = b.owners }) };
 }
 
 impl<T, Q> Book<T, Q> {
@@ -69,8 +70,8 @@ impl<T, Q> Book<T, Q> {
     /// A book of a run that has made no call, and one pass for each machine, in order.
     ///
     /// It takes memory for the whole history, the shelf, the channels, all who may wait, and all that is counted; but for it only `make`
-    /// and `segment` take any. `capacities` are those of the channels that the run begins with. There is a body for each goroutine, and an owner for
-    /// each processor. Refused, it hands both back.
+    /// and `segment` take any. `capacities` are those of the channels that the run begins with. There is a body for each goroutine, and an
+    /// owner for each processor. Refused, by `BadLimits` or `OutOfMemory`, it hands both back.
     pub fn open(
         alloc: Global,
         run: u64,
@@ -93,7 +94,7 @@ impl<T, Q> Book<T, Q> {
             return Err(Unopened::of(why, bodies, owners));
         };
         let count = bodies.len() as u16;
-        let Ok(ledger) = Ledger::open(alloc, run, limits, count, capacities) else {
+        let Ok(journal) = Journal::open(alloc, run, limits, count, capacities) else {
             return Err(Unopened::of(why, bodies, owners));
         };
         let Ok(room) = Vec::with_capacity(alloc, limits.machines as usize) else {
@@ -116,7 +117,7 @@ impl<T, Q> Book<T, Q> {
         };
         let passes = first_passes(room, run, limits.machines);
         let book = Book {
-            ledger,
+            journal,
             bodies,
             owners,
         };
@@ -138,11 +139,11 @@ impl<T, Q> Book<T, Q> {
         // The shelf has each goroutine on it once, and no other.
         ensures listing { IsListing is_shelved self.now.log.state.table.goroutines self.now.log.shelf }
     {
-        self.ledger.history()
+        self.journal.history()
     }
 
-    /// Hands out the entries since the last segment, with the state before the first of them, and how the run ended, if it did. The start is
-    /// the present state from then on.
+    /// Hands out the entries since the last segment, with the state before the first of them, and how the run ended, if it did. The start
+    /// is the present state from then on.
     ///
     /// It takes no pass and makes no entry. Refused, nothing has changed: `Over` where a segment was taken since the outcome, else
     /// `OutOfMemory`. It leaves room for each entry that may still be made.
@@ -154,7 +155,7 @@ impl<T, Q> Book<T, Q> {
         ensures values { SameValues self.old self.new }
         ensures err { OnErr result (self.new ≡ self.old) }
     {
-        self.ledger.segment(alloc)
+        self.journal.segment(alloc)
     }
 
     /// How the run ended, if it did.
@@ -163,18 +164,19 @@ impl<T, Q> Book<T, Q> {
         // While the run lasts another entry fits.
         ensures ongoing { IfNone result (entries_made self.now.log < self.now.log.limits.entries) }
     {
-        self.ledger.outcome()
+        self.journal.outcome()
     }
 
     /// Whether the machine is parked.
     pub fn is_parked(&self, m: MNo) -> bool
         ensures { result ≡ option_map_or is_parked_mode (slice_get self.now.log.state.machines.modes m.0) false }
     {
-        self.ledger.is_parked(m)
+        self.journal.is_parked(m)
     }
 
     /// The machine of the pass makes the call, with these values, or it is refused and hands them back. A make, and no other call, is given
     /// memory: where that is refused, its goroutine is to be told `NoMemory`. `word` chooses among the cases of a select.
+    // The word is handed in: the book has no generator, so that a run can be made again from its words.
     #[inline(always)]
     pub fn call(
         &mut self,
@@ -199,11 +201,11 @@ impl<T, Q> Book<T, Q> {
     {
         let given = handed(&values);
         let g = claimed(&call);
-        let known = self.ledger.known(&call);
+        let known = self.journal.known(&call);
         let makes = memory.is_some();
         let mut reply = Reply::Done;
         let made = self
-            .ledger
+            .journal
             .call(memory, pass, &call, &given, word, false, &mut reply);
         match made {
             Err(why) => (values.refused(makes, why), Err(why)),
@@ -212,7 +214,7 @@ impl<T, Q> Book<T, Q> {
                 if let Some(ticket) = ticket {
                     ticket.open();
                 }
-                let run = self.ledger.run();
+                let run = self.journal.run();
                 let told = told_by(known, reply);
                 let way = way_of(reply);
                 let (held, called) = settle_body(&mut self.bodies, way, run, g, told, held, called);

@@ -1,5 +1,15 @@
-//! The book: the ledger, with a body for each goroutine and an owner for each processor. Every call is made whole by a pass or refused,
-//! and its history is always a legal run.
+//! The book: a run of the scheduler as a thing to call, with a body for each goroutine and an owner for each processor. A machine calls it
+//! by its pass, with the values that it was handed out: tickets, goroutines with their bodies, processors with their owners.
+//!
+//! A call is made whole and adds one entry, or it is refused: then nothing has changed, and what it was handed comes back. Whatever is
+//! called, with whatever values, the history leads by legal steps from its start to the present state. Each body and each owner has a
+//! place; while the run lasts a place is vacant exactly where its goroutine runs or makes its blocking call, or its processor is held.
+//!
+//! Refused are: a pass or a value of another run; a pass that is not at its machine's count, or has seen entries that were not made; every
+//! call once the run is over; one that the machine's state forbids, as a claim without a processor; a ticket that is not given out; a value
+//! that is not the machine's; and a make that memory is refused. A surrender is refused while the run lasts or where the value's place is
+//! not vacant, the report while the run lasts or a place is vacant. What a goroutine asks in vain is no refusal: it is told a fault, as a
+//! reply.
 //!
 //! What the calls cost:
 //!
@@ -11,8 +21,8 @@
 //!   no row but those of the two.
 //! - `sleep`, and a `select` that waits until a moment, find the place of their deadline by halves, and move those that are sooner; so does
 //!   the end of such a wait.
-//! - `park` answers from counts and the least deadline. `close` and `tick` are constant for each that is woken: who waits first on the channel,
-//!   or has the least deadline.
+//! - `park` answers from counts and the least deadline. `close` and `tick` are constant for each that is woken: who waits first on the
+//!   channel, or has the least deadline.
 //! - `outcome`, `history` and the surrenders are constant.
 //! - `open` takes memory for the limits' entries and all goroutines; `into_report` moves each body and owner once.
 //! - `segment` copies the state twice, and takes memory for these copies and for the entries that may still be made. No call but `open`,
@@ -25,12 +35,13 @@ mod opening;
 mod report;
 mod returned;
 mod settling;
+mod slots;
 mod values;
 mod went;
 
 pub use answers::{Exited, Parking};
 pub use book::Book;
-pub use gmp_ledger::Segment;
+pub use gmp_journal::Segment;
 pub use opening::Unopened;
 pub use report::Report;
 pub use returned::Returned;

@@ -10,7 +10,9 @@ use gmp_seq::Limits;
 pub struct Unopened<T, Q> {
     /// `BadLimits` or `OutOfMemory`.
     pub why: Refusal,
+    /// By goroutine.
     pub bodies: Vec<T>,
+    /// By processor.
     pub owners: Vec<Q>,
 }
 

@@ -4,10 +4,10 @@ ghost use Rattle.gmp_base.specs.declared.number.GNo.{GNo};
 ghost use Rattle.gmp_book.specs.declared.values.Way.TheVariants as Way;
 ghost use Rattle.gmp_book.specs.Hands.{FitsBody, FitsHome, FitsOwner, HandsBody, HandsOwner, with_home};
 
+use crate::slots::Slots;
 use crate::values::{Way, retold, spent};
 use gmp_base::{Called, GNo, Held, Proc, Woke};
 use gmp_seq::Reply;
-use gmp_slots::Slots;
 
 /// The goroutine in its blocking call, into which it goes.
 fn calling<T>(held: Held<T>) -> Called<T>

@@ -1,4 +1,4 @@
-//! The values that a call is handed, and those that it hands out.
+//! The values that a call is handed, and those that it hands out: `Values` is all of them, `Way` where the body among them goes.
 ghost use Rattle.std.specs.Prelude.{◌≡◌, None};
 ghost use Rattle.std.specs.Option.{option_map};
 ghost use Rattle.gmp_base.specs.Values.{ticket_by};
@@ -8,12 +8,14 @@ ghost use Rattle.gmp_book.specs.Hands as hands;
 ghost use Rattle.gmp_book.specs.Hands.{back_where, claimed, handed_back, handed_of, way_of};
 
 use gmp_base::{Called, GNo, Held, Proc, Refusal, Ticket, Woke};
-use gmp_ledger::Handed;
+use gmp_journal::Handed;
 use gmp_seq::{Call, Reply};
 
 /// What a call is handed or hands out: each kind of value once at most. None can be let go.
 pub struct Values<T, Q> {
+    /// The goroutine that runs.
     pub held: Option<Held<T>>,
+    /// The goroutine in its blocking call.
     pub called: Option<Called<T>>,
     pub ticket: Option<Ticket>,
     pub proc: Option<Proc<Q>>,
@@ -103,6 +105,7 @@ fn handed_back<T>(why: Refusal, held: Held<T>) -> Held<T>
 }
 
 /// Where a body goes by a reply.
+// By the reply and not by the call: whoever drives is proved over one relation, and not over one for each call.
 #[derive(Clone, Copy, Debug, PartialEq, Eq)]
 pub enum Way {
     /// It stays with the goroutine that asked.
@@ -117,6 +120,7 @@ pub enum Way {
     OutOfCall,
 }
 
+/// Where the body goes by this reply.
 #[inline(always)]
 pub(crate) fn way_of(reply: Reply) -> Way
     ensures { result ≡ way_of reply }

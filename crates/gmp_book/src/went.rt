@@ -1,4 +1,4 @@
-//! What becomes of a goroutine that asked.
+//! What becomes of a goroutine that asked: `Went` is one that goes on, `Moved` one that goes on or waits.
 ghost use Rattle.std.specs.Prelude.{◌≡◌, None};
 ghost use Rattle.gmp_book.specs.Went.{IsOn, moved_of};
 
@@ -6,13 +6,16 @@ use gmp_base::{Held, Ticket};
 
 /// The goroutine goes on, and is told the answer of its call; a ticket that the call gave out is to be pushed onto a queue.
 pub struct Went<T> {
+    /// What it is to be told is in it.
     pub held: Held<T>,
+    /// Of a goroutine that was started, served or made ready.
     pub push: Option<Ticket>,
 }
 
-/// The goroutine goes on, or waits and is back in the book.
+/// Whether the goroutine goes on.
 pub enum Moved<T> {
     On(Went<T>),
+    /// It waits, and its body is in the book.
     Waits,
 }
 

@@ -1,4 +1,4 @@
-//! Whether offers rise by their cases.
+//! Whether offers rise by their cases, as those of a select do. `wait_on` requires it, and who waits stands in order by it.
 ghost use Rattle.std.specs.Prelude.{◌≡◌};
 ghost use Rattle.gmp_chan.specs.Order.{above, rise};
 
@@ -11,6 +11,7 @@ fn above(case: u8, offers: &[Offer]) -> bool
     offers.iter().all(|offer| case < offer.case)
 }
 
+/// As the definition goes: the first is below all others, and these rise.
 fn slice_rises(offers: &[Offer]) -> bool
     ensures { result ≡ rise offers.now }
 {
@@ -20,7 +21,7 @@ fn slice_rises(offers: &[Offer]) -> bool
     }
 }
 
-/// Whether the offers rise by their cases.
+/// Whether the offers rise by their cases. The cost is at most 28 comparisons, of 8 offers.
 pub fn cases_rise(offers: &Offers) -> bool
     ensures { result ≡ rise offers.now }
 {

@@ -1,4 +1,4 @@
-//! One channel.
+//! One channel: its values, first in first out, and whether it was closed.
 ghost use Rattle.std.specs.Prelude.{◌≡◌, ◌<◌, ◌++◌, [], ◌∷◌, length, drop, nat_lt, true, IfOk};
 ghost use Rattle.gmp_seq.specs.Channels.{new_channel};
 ghost use Rattle.gmp_start.specs.Start.{channel_of};
@@ -8,7 +8,8 @@ use gmp_start::StartChannel;
 use std::alloc::{AllocError, Global};
 use std::marker::Model;
 
-/// Its buffer has room for as many values as its capacity, and never grows.
+/// Its buffer has room for as many values as its capacity, and never grows: a send then wants no memory, and is not refused for another
+/// reason than the definitions'. A closed channel keeps its values, which are still received (Go specification, Close).
 #[derive(Drop)]
 pub(crate) struct Channel {
     items: HeapCircularBuffer<u64>,
@@ -23,6 +24,7 @@ impl Model for Channel {
 
     ghost view = { λ c. record { capacity = c.items.capacity; items = c.items.items; closed = c.closed } };
 
+    // No more values than room, which fits 32 bits.
     ghost invariant = { λ c. (length c.items.items ≤ c.items.capacity) × (c.items.capacity < 2 ^ 32) };
 }
 
@@ -38,7 +40,7 @@ impl Channel {
         })
     }
 
-    /// The same channel for a start.
+    /// The same channel for a start, in memory of its own.
     pub(crate) fn copied(&self, alloc: Global) -> Result<StartChannel, AllocError>
         ensures { IfOk result (λ c. channel_of c ≡ self.now) }
     {
@@ -49,24 +51,28 @@ impl Channel {
         })
     }
 
+    /// Whether it was closed.
     pub(crate) fn is_closed(&self) -> bool
         ensures { result ≡ self.now.closed }
     {
         self.closed
     }
 
+    /// Whether a send proceeds with nobody to receive. An unbuffered channel never has room.
     pub(crate) fn has_room(&self) -> bool
         ensures { result ≡ nat_lt (length self.now.items) self.now.capacity }
     {
         self.items.len() < self.items.capacity()
     }
 
+    /// How many values it holds.
     pub(crate) fn len(&self) -> u64
         ensures { result ≡ length self.now.items }
     {
         self.items.len() as u64
     }
 
+    /// For how many values it has room.
     pub(crate) fn capacity(&self) -> u64
         ensures { result ≡ self.now.capacity }
     {
@@ -90,7 +96,8 @@ impl Channel {
         self.items.pop_front().unwrap()
     }
 
-    /// Puts a value last and takes the first, which may be that value.
+    /// Puts a value last and takes the first, which may be that value. It needs no room beside: on a full buffer one goes before the other
+    /// comes, and on an unbuffered channel the value is itself the first.
     pub(crate) fn relay(&mut self, v: u64) -> u64
         ensures first { self.old.items ++ v ∷ [] ≡ result ∷ drop 1 (self.old.items ++ v ∷ []) }
         ensures rest { self.new ≡ record self.old { items = drop 1 (self.old.items ++ v ∷ []) } }
@@ -103,6 +110,7 @@ impl Channel {
         first
     }
 
+    /// Closes it. Its values stay.
     pub(crate) fn close(&mut self)
         ensures { self.new ≡ record self.old { closed = true } }
     {

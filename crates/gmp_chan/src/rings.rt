@@ -1,12 +1,17 @@
-//! Nodes in rings, linked both ways.
+//! Nodes in rings, linked both ways. Each ring has an end, a node that is no record: a ring with nobody in it is its end, linked with
+//! itself. So no link is ever missing, and neither the first nor the last of a ring is a case of its own.
 ghost use Rattle.std.specs.Prelude.{◌≡◌, ◌<◌, ◌+◌, length, set, get_or, IfOk};
 ghost use Rattle.gmp_chan.specs.Rings.{AreAlone};
 
 use std::alloc::{AllocError, Global};
 
+/// The links lie in vectors beside the records, by key. Queues of a channel and chains of a goroutine are two values of this type, which
+/// knows nothing of either.
 #[derive(Drop)]
 pub(crate) struct Rings {
+    /// The node after each, by number.
     pub(crate) next: Vec<usize>,
+    /// The node before each.
     pub(crate) prev: Vec<usize>,
 }
 
@@ -22,7 +27,7 @@ fn alone(alloc: Global, nodes: usize) -> Result<Vec<usize>, AllocError>
 }
 
 impl Rings {
-    /// So many records and so many ends, each alone.
+    /// So many records and so many ends, each alone. It is refused where memory is, and where the two have no sum.
     pub(crate) fn open(alloc: Global, records: usize, ends: usize) -> Result<Self, AllocError>
         ensures next { IfOk result (λ r. AreAlone (records + ends) r.next.items) }
         ensures prev { IfOk result (λ r. AreAlone (records + ends) r.prev.items) }
@@ -35,7 +40,7 @@ impl Rings {
         Ok(Rings { next, prev })
     }
 
-    /// The first of the ring with this end.
+    /// The first of the ring with this end, which is the end itself where the ring has nobody.
     pub(crate) fn first(&self, end: usize) -> usize
         requires { end < length self.now.next.items }
         ensures { result ≡ get_or self.now.next.items end 0 }
@@ -43,7 +48,8 @@ impl Rings {
         self.next[end]
     }
 
-    /// Takes node i out of its ring: its neighbours are linked.
+    /// Takes node i out of its ring: its neighbours are linked. What it was linked with itself stays written, and is not read again before
+    /// `link_last`.
     pub(crate) fn unlink(&mut self, i: usize)
         requires node { i < length self.old.next.items }
         requires node_back { i < length self.old.prev.items }
@@ -67,6 +73,7 @@ impl Rings {
         ensures next { self.new.next.items ≡ set (set self.old.next.items (get_or self.old.prev.items end 0) i) i end }
         ensures prev { self.new.prev.items ≡ set (set self.old.prev.items i (get_or self.old.prev.items end 0)) end i }
     {
+        // The end is linked with the last, which is the end itself where the ring has nobody: the four lines fit both.
         let last = self.prev[end];
         self.next[last] = i;
         self.next[i] = end;

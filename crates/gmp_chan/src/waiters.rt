@@ -1,4 +1,8 @@
-//! Who waits on channels: each offer is a record of a slab, linked with the others of its channel and direction, and with those of its goroutine.
+//! Who waits on channels. `Store` has each offer as a record of a slab, linked with the others of its channel and direction and with those
+//! of its goroutine; `Waiters` is what a contract sees of it, one list in order.
+//!
+//! Rejected: a list of all who wait, at which each send would look; a fixed cell for each goroutine and case, of which 8 are looked at
+//! where one is used.
 ghost use Rattle.std.specs.Prelude.{◌≡◌, ◌<◌, ◌+◌, ◌*◌, ◌++◌, [], ◌∷◌, true, None, Some, IsSome, count_by, find, nat_lt, set, get_or, IfSome, IfNone, IfOk};
 ghost use Rattle.gmp_seq.specs.declared.status.Waiter.{Waiter};
 ghost use Rattle.gmp_seq.specs.Waits.{as_waiters, first_on, is_on};
@@ -17,7 +21,8 @@ use std::alloc::{AllocError, Global};
 use std::marker::Model;
 
 /// The records, and their links by key. Nodes are the slab's slots, and then the ends: of the queues two for each channel, and of the
-/// chains one for each goroutine. A queue has the offers on a channel in a direction, in order, and a chain those of a goroutine.
+/// chains one for each goroutine. A queue has the offers on a channel in a direction, in order, and a chain those of a goroutine: so who is
+/// served is found by the queue, and all of its offers are taken out by the chain.
 #[derive(Drop)]
 struct Store {
     records: Slab<Waiter>,
@@ -27,6 +32,7 @@ struct Store {
     channels: u16,
 }
 
+/// The number of a queue's end among those of the queues.
 fn queue_end(c: CNo, direction: Direction) -> usize
     ensures { result ≡ queue_end c direction }
 {
@@ -38,7 +44,7 @@ fn queue_end(c: CNo, direction: Direction) -> usize
 }
 
 impl Store {
-    /// Removes the record under this key, and links its neighbours.
+    /// Removes the record under this key, and links its neighbours in its queue and in its chain.
     fn take_out(&mut self, key: usize)
         requires kept { IsStored self.old }
         requires there { IsSome (get_or self.old.records.slots key None) }
@@ -53,7 +59,8 @@ impl Store {
         let _ = self.records.remove(key);
     }
 
-    /// Puts in a record, last in its queue and in its chain.
+    /// Puts in a record, last in its queue and in its chain: whoever begins to wait arrived later than all others, so no place has to be
+    /// looked for.
     fn put_in(&mut self, w: Waiter)
         requires kept { IsStored self.old }
         requires known { w.g.0 < self.old.bodies }
@@ -65,6 +72,7 @@ impl Store {
         ensures bodies { self.new.bodies ≡ self.old.bodies }
         ensures channels { self.new.channels ≡ self.old.channels }
     {
+        // Nodes up to the capacity are slots, and the ends come behind.
         let base = self.records.capacity();
         let queue = base + queue_end(w.offer.channel, w.offer.deal.direction());
         let chain = base + w.g.0 as usize;
@@ -73,7 +81,7 @@ impl Store {
         self.chains.link_last(key, chain);
     }
 
-    /// Who is first in the queue of the channel in this direction.
+    /// Who is first in the queue of the channel in this direction. The end's own node stands for nobody: it is no key of a record.
     fn first_in_queue(&self, c: CNo, direction: Direction) -> Option<Waiter>
         requires { IsStored self.now }
         ensures some { IfSome result (λ w. IsFirstSlot (is_on c direction) self.now.records.slots w) }
@@ -83,6 +91,7 @@ impl Store {
             return None;
         }
         let end = self.records.capacity() + queue_end(c, direction);
+        // Of an empty ring this is the end, under which the slab has no record.
         let key = self.queues.first(end);
         self.records.get(key).copied()
     }
@@ -105,7 +114,7 @@ impl Store {
     }
 }
 
-/// The earlier of two, by arrival, and then by case.
+/// The earlier of two, by arrival, and then by case. One select may wait in both directions on a channel, with one arrival.
 fn earlier_of(a: Option<Waiter>, b: Option<Waiter>) -> Option<Waiter>
     ensures { result ≡ earlier_of a b }
 {
@@ -138,11 +147,14 @@ impl Model for Waiters {
 
     ghost view = { λ w. record { list = in_order w.store.records.slots; bodies = w.store.bodies; channels = w.store.channels } };
 
+    // Each record is in the queue of its channel and direction and in the chain of its goroutine, in order, and nothing else is; a
+    // goroutine has 8 at most.
     ghost invariant = { λ w. IsStored w.store };
 }
 
 impl Waiters {
-    /// Nobody waits. There is room for 8 offers of each of so many goroutines, on any of so many channels.
+    /// Nobody waits. There is room for 8 offers of each of so many goroutines, on any of so many channels: a goroutine waits once at a
+    /// time, so no offer ever wants memory.
     pub(crate) fn open(alloc: Global, bodies: u16, channels: u16) -> Result<Self, AllocError>
         ensures { IfOk result (λ w. w ≡ record { list = []; bodies = bodies; channels = channels }) }
     {
@@ -172,6 +184,7 @@ impl Waiters {
     pub(crate) fn first_at(&self, c: CNo) -> Option<Waiter>
         ensures { result ≡ find (is_at c) self.now.list }
     {
+        // Each queue is in order, so the first of both is one of two.
         let sender = self.store.first_in_queue(c, Direction::Sending);
         let receiver = self.store.first_in_queue(c, Direction::Receiving);
         earlier_of(sender, receiver)
@@ -191,7 +204,7 @@ impl Waiters {
         self.store.first_in_chain(g).is_some()
     }
 
-    /// Whether this arrival is later than all. It looks at all records.
+    /// Whether this arrival is later than all. It looks at all records, and serves as a test for those who can't know.
     pub(crate) fn is_later(&self, arrival: u64) -> bool
         ensures { result ≡ is_later arrival self.now.list }
     {
@@ -202,7 +215,7 @@ impl Waiters {
         })
     }
 
-    /// Goroutine g begins to wait.
+    /// Goroutine g begins to wait: each of its offers goes last in its queue.
     pub(crate) fn add(&mut self, g: GNo, arrival: u64, kind: Kind, offers: &Offers)
         requires known { g.0 < self.old.bodies }
         requires fresh { count_by (is_of g) self.old.list ≡ 0 }
@@ -223,12 +236,13 @@ impl Waiters {
         }
     }
 
-    /// Goroutine g waits no more.
+    /// Goroutine g waits no more: its offers are taken out one by one, 8 at most, each in constant time.
     pub(crate) fn withdraw(&mut self, g: GNo)
         ensures list { self.new.list ≡ without g self.old.list }
         ensures bodies { self.new.bodies ≡ self.old.bodies }
         ensures channels { self.new.channels ≡ self.old.channels }
     {
+        // Each turn takes one out, so the loop ends with the last of g's.
         while let Some(key) = self.store.first_in_chain(g) {
             self.store.take_out(key);
         }

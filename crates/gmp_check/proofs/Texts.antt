@@ -7,16 +7,16 @@ use Rattle.gmp_seq.proofs.Sizes.{legal_sizes}
 use Rattle.gmp_seq.specs.declared.call.Entry.{Entry}
 use Rattle.gmp_seq.specs.declared.call.Limits.{Limits}
 use Rattle.gmp_seq.specs.declared.call.Outcome.{Outcome}
-use Rattle.gmp_seq.specs.Fits.{Fits, FitsCall}
+use Rattle.gmp_seq.specs.Fits.{AreLimits, Fits, FitsCall}
 use Rattle.gmp_seq.specs.Laws.{HasSizes}
-use Rattle.gmp_seq.specs.Run.{Run}
+use Rattle.gmp_seq.specs.Run.{IsLegal, Run}
 use Rattle.gmp_seq.specs.State.{State, opening}
 use Rattle.gmp_start.proofs.Active.{sizes_run}
 use Rattle.gmp_trace.proofs.Numbered.{legal_text, run_text}
 use Rattle.gmp_trace.proofs.StartBack.{legal_start, run_start}
 use Rattle.gmp_trace.specs.HasText.{HasText, IsBeginning}
 use Rattle.gmp_trace.specs.StartWhole.{IsStart}
-use Rattle.gmp_trace.specs.Text.{Begins, Content, IsCounted}
+use Rattle.gmp_trace.specs.Text.{Begins, Content, IsCounted, end_of}
 use Rattle.gmp_trace.specs.Text.Begins.{AtOpening, AtState}
 use Rattle.gmp_check.proofs.Beginning.{starts_begin}
 use Rattle.gmp_check.proofs.Checking.{in_range, starts_consistent}
@@ -24,6 +24,7 @@ use Rattle.gmp_check.proofs.Keeping.{run_keeps}
 use Rattle.gmp_check.proofs.Parting.{is_second, lasts}
 use Rattle.gmp_check.specs.Checked.{IsRight, IsRightPart, MayGoOn, MayStart, part, part_of, start_at, start_of}
 use Rattle.gmp_check.specs.Parts.{IsJoined, IsPart, IsSecond, Meets}
+use Rattle.gmp_check.specs.Replayed.{EndsWith}
 
 -- Right traces
 
@@ -136,3 +137,19 @@ join_has_text x y z o has has_too right joined = by_end right.run.ends where
       subst HasText (sym joined.whole)
       (has_text (record x { entries = x.entries ++ y.entries; end = y.end }) x.begins t refl has.beginning (joined_run x y t joined.meets run)
       (All-append Fits x.entries y.entries has.fits has_too.fits))
+
+-- A segment of a legal run
+
+module _ (x : Content) (capacities : List ℕ) (h : List Entry) (start s : State) (range : AreLimits x.limits x.bodies capacities) (fit : All Fits h)
+    (legal : IsLegal x.limits x.bodies capacities h start) (none : start.outcome ≡ None) (begun : x.begins ≡ AtState start) (run : Run x.limits start x.entries s) where
+  pub segment_right : x.end ≡ end_of s.outcome → IsRight x s.outcome
+  segment_right told =
+      record {
+        range = subst (MayStart x.limits x.bodies) (sym begun) (in_range x.limits x.bodies (AtOpening capacities) range, goes_on x.limits x.bodies (AtOpening capacities) h start range legal none);
+        run = record { ends = subst (λ (b : Begins). EndsWith x.limits (start_at x.limits x.bodies b) x.entries s.outcome) (sym begun) (s, run, refl); told = told };
+      }
+
+  pub segment_has_text : All Fits x.entries → HasText x
+  segment_has_text fits =
+      has_text x (AtState start) s begun
+      (in_range x.limits x.bodies (AtOpening capacities) range, leads_to_start x.limits x.bodies (AtOpening capacities) h start range (calls_fit h fit) legal none) run fits

@@ -1,4 +1,5 @@
-//! What a goroutine that waited is told.
+//! What a goroutine that waited is told. `Cause` is what makes several ready at once: a close and a tick are one effect, as in the
+//! definitions.
 ghost use Rattle.std.specs.Prelude.{◌≡◌};
 ghost use Rattle.std.specs.Option.{option_map};
 ghost use Rattle.gmp_seq.specs.Waits.{closed_answer, first_offer_on};

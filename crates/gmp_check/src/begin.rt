@@ -1,4 +1,4 @@
-//! A run that begins at a start, and the starts of its parts.
+//! A run that begins at a start, and the starts of its parts. A state is found by playing the entries before it: no entry says it.
 ghost use Rattle.std.specs.Prelude.{◌≡◌, ◌↔◌, ◌≤◌, None, length, take, IfOk, IsTrue};
 ghost use Rattle.gmp_seq.specs.Run.{Run};
 ghost use Rattle.gmp_seq.specs.State.{State};

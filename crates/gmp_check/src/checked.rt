@@ -1,4 +1,5 @@
-//! Whether a trace is right.
+//! Whether a trace is right: each entry a step, and the end the outcome. Bad lines are numbered as in the text, so the lines before the
+//! first entry are counted here.
 ghost use Rattle.std.specs.Prelude.{◌≡◌, ◌↔◌, ◌+◌, ◌≤◌, ◌<◌, ◌^◌, [], length, IfErr, IfOk, IsTrue, Option};
 ghost use Rattle.gmp_seq.specs.declared.call.Outcome.{Outcome};
 ghost use Rattle.gmp_seq.specs.Fits.{AreLimits};

@@ -1,4 +1,4 @@
-//! A run in two parts, and two parts as one run.
+//! A run in two parts, and two parts as one run, over histories; `pieces` does the same of traces.
 ghost use Rattle.std.specs.Prelude.{◌≡◌, ◌++◌, Option, drop, IfErr, IfOk, OnOk};
 ghost use Rattle.gmp_seq.specs.declared.call.Outcome.{Outcome};
 ghost use Rattle.gmp_seq.specs.Run.{Run};

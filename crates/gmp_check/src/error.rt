@@ -1,4 +1,5 @@
-//! Why a history is not replayed.
+//! Why a history is not replayed: `OutOfMemory` of a step, `OpenError` of an opening, `ReplayError` of a whole history, `SplitError` and
+//! `JoinError` of parts. `Stop` is a `ReplayError` without an opening, within the crate.
 ghost use Rattle.std.specs.Prelude.{◌≡◌};
 ghost use Rattle.gmp_check.specs.declared.error.JoinError.TheVariants as join_error;
 ghost use Rattle.gmp_check.specs.declared.error.OpenError.TheVariants as open_error;

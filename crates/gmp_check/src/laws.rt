@@ -1,15 +1,16 @@
 //! Laws of what a replay keeps, and of what is wrong with a trace. Each is the contract of a function that does nothing.
-ghost use Rattle.std.specs.Prelude.{◌≡◌, ◌≢◌, ℕ, Option, List};
+ghost use Rattle.std.specs.Prelude.{◌≡◌, ◌≢◌, ℕ, All, List, Option, None};
 ghost use Rattle.gmp_seq.specs.declared.call.Entry.{Entry};
 ghost use Rattle.gmp_seq.specs.declared.call.Limits.{Limits};
 ghost use Rattle.gmp_seq.specs.declared.call.Outcome.{Outcome};
-ghost use Rattle.gmp_seq.specs.Fits.{AreLimits};
-ghost use Rattle.gmp_seq.specs.Run.{IsStep, Run};
+ghost use Rattle.gmp_seq.specs.Fits.{AreLimits, Fits};
+ghost use Rattle.gmp_seq.specs.Run.{IsLegal, IsStep, Run};
 ghost use Rattle.gmp_seq.specs.State.{State, opening};
 ghost use Rattle.gmp_trace.specs.declared.bad.Bad.{Bad};
 ghost use Rattle.gmp_trace.specs.declared.bad.Why.TheVariants.{OutOfMemory};
 ghost use Rattle.gmp_trace.specs.HasText.{HasText};
-ghost use Rattle.gmp_trace.specs.Text.{Content};
+ghost use Rattle.gmp_trace.specs.Text.{Content, end_of};
+ghost use Rattle.gmp_trace.specs.Text.Begins.{AtState};
 ghost use Rattle.gmp_check.specs.Checked.{IsFirstBad, IsRight};
 ghost use Rattle.gmp_check.specs.Consistent.{IsConsistentUnder, MayBegin};
 ghost use Rattle.gmp_check.specs.Parts.{IsJoined, IsPart};
@@ -42,4 +43,14 @@ pub fn parts_have_text()
 /// So has one trace of two that have texts, where the second is right.
 pub fn joins_have_text()
     ensures { (x y z : Content) (o : Option Outcome) → HasText x → HasText y → IsRight y o → IsJoined x y z → HasText z }
+{}
+
+/// A segment of a legal run whose numbers are within their types, as the book hands it out: its trace is right, and has a text.
+pub fn segments_are_right()
+    ensures right { (x : Content) (capacities : List ℕ) (h : List Entry) (start s : State) → AreLimits x.limits x.bodies capacities → All Fits h
+        → IsLegal x.limits x.bodies capacities h start → start.outcome ≡ None → x.begins ≡ AtState start → Run x.limits start x.entries s
+        → x.end ≡ end_of s.outcome → IsRight x s.outcome }
+    ensures text { (x : Content) (capacities : List ℕ) (h : List Entry) (start s : State) → AreLimits x.limits x.bodies capacities → All Fits h
+        → IsLegal x.limits x.bodies capacities h start → start.outcome ≡ None → x.begins ≡ AtState start → Run x.limits start x.entries s
+        → All Fits x.entries → HasText x }
 {}

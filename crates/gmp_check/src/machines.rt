@@ -1,5 +1,5 @@
 //! Processors and machines, in plain tables: who holds each processor, how many are active, what each machine does, which of them spin, and
-//! which are marked.
+//! which are marked. No masks and no counts: each question is a look through the lists.
 ghost use Rattle.std.specs.Prelude.{◌≡◌, ◌↔◌, false, None, drop, length, map, replicate, slice_set, take, IsTrue, IfOk};
 ghost use Rattle.std.specs.List.{list_any};
 ghost use Rattle.gmp_seq.specs.declared.status.Mode.{Mode};
@@ -47,6 +47,7 @@ fn set<T: Copy>(list: &mut [T], place: usize, x: T)
     }
 }
 
+/// Whether m is this holder.
 fn is_held_by(m: MNo, holder: Option<MNo>) -> bool
     ensures { result ≡ is_held_by m holder }
 {
@@ -56,6 +57,7 @@ fn is_held_by(m: MNo, holder: Option<MNo>) -> bool
     }
 }
 
+/// Whether a machine with this mode is awake.
 fn is_awake_mode(mode: Mode) -> bool
     ensures { result ≡ is_awake_mode mode }
 {
@@ -145,18 +147,21 @@ impl Machines {
         matches!(self.modes.get(m.0 as usize), Some(Mode::Parked))
     }
 
+    /// Whether nobody holds the processor, be it active or not.
     pub(crate) fn is_idle(&self, p: PNo) -> bool
         ensures { IsTrue result ↔ IsIdle self.now p }
     {
         matches!(self.holders.get(p.0 as usize), Some(None))
     }
 
+    /// Whether the processor may be given out: it is idle, and active.
     pub(crate) fn is_open(&self, p: PNo) -> bool
         ensures { IsTrue result ↔ IsOpen self.now p }
     {
         self.is_idle(p) && p.0 < self.active
     }
 
+    /// Whether m holds this processor.
     pub(crate) fn holds(&self, m: MNo, p: PNo) -> bool
         ensures { IsTrue result ↔ Holds self.now m p }
     {
@@ -166,6 +171,7 @@ impl Machines {
         }
     }
 
+    /// Whether m holds some processor, active or not.
     pub(crate) fn has_processor(&self, m: MNo) -> bool
         ensures { result ≡ has_processor self.now m }
     {
@@ -184,6 +190,7 @@ impl Machines {
         self.marked.get(m.0 as usize).copied().unwrap_or(false)
     }
 
+    /// Whether m holds a processor that is active.
     fn holds_below(&self, m: MNo) -> bool
         ensures { result ≡ list_any (is_held_by m) (take self.now.active self.now.holders) }
     {
@@ -193,6 +200,7 @@ impl Machines {
             .any(|holder| is_held_by(m, *holder))
     }
 
+    /// Whether m holds a processor that is not active.
     fn holds_above(&self, m: MNo) -> bool
         ensures { result ≡ list_any (is_held_by m) (drop self.now.active self.now.holders) }
     {
@@ -203,6 +211,7 @@ impl Machines {
     }
 
     /// Whether m holds a processor that is active, or one that is not.
+    /// Two looks decide a keep: to find m's processor first would need that it holds one at most.
     fn holds_some(&self, m: MNo, active: bool) -> bool
         ensures { IsTrue result ↔ HoldsSo self.now m active }
     {
@@ -213,12 +222,14 @@ impl Machines {
         }
     }
 
+    /// Whether so many processors may be active.
     fn is_good_number(&self, n: u8) -> bool
         ensures { result ≡ is_good_number self.now n }
     {
         1 <= n && n as usize <= self.holders.len()
     }
 
+    /// Whether some processor may be given out.
     pub(crate) fn has_idle(&self) -> bool
         ensures { result ≡ some_idle self.now }
     {
@@ -234,36 +245,42 @@ impl Machines {
         self.modes.iter().any(|mode| matches!(mode, Mode::Parked))
     }
 
+    /// Whether m is awake, holds no processor and doesn't spin, as a park asks.
     pub(crate) fn is_bare(&self, m: MNo) -> bool
         ensures { IsTrue result ↔ IsBare self.now m }
     {
         self.is_awake(m) && !self.has_processor(m) && !self.spins(m)
     }
 
+    /// Counted anew each time.
     fn how_many_spin(&self) -> usize
         ensures { result ≡ how_many_spin self.now }
     {
         self.spinning.iter().filter(|spins| **spins).count()
     }
 
+    /// Whether m may begin to spin: it doesn't, and fewer do than processors are active.
     fn may_spin(&self, m: MNo) -> bool
         ensures { result ≡ may_spin self.now m }
     {
         !self.spins(m) && self.how_many_spin() < self.active as usize
     }
 
+    /// Whether a poke wakes somebody: nobody spins, a processor is idle, and a machine is parked.
     fn wants_poke(&self) -> bool
         ensures { result ≡ wants_poke self.now }
     {
         self.how_many_spin() == 0 && self.has_idle() && self.has_parked()
     }
 
+    /// Who holds the processor from now on.
     pub(crate) fn set_holder(&mut self, p: PNo, holder: Option<MNo>)
         ensures { self.new ≡ set_holder self.old p holder }
     {
         set(&mut self.holders, p.0 as usize, holder);
     }
 
+    /// What m does from now on. Both lists are written, so that who is awake is one look.
     pub(crate) fn set_mode(&mut self, m: MNo, mode: Mode)
         ensures { self.new ≡ set_mode self.old m mode }
     {
@@ -280,6 +297,7 @@ impl Machines {
         set(&mut self.spinning, m.0 as usize, spinning);
     }
 
+    /// m is marked no more.
     fn unmark(&mut self, m: MNo)
         ensures { self.new ≡ unmarked self.old m }
     {

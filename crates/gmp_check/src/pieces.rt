@@ -1,4 +1,5 @@
-//! A trace in two parts, and two traces as one.
+//! A trace in two parts, and two traces as one. Both sides of a cut are right where the whole is, and the whole is right where both parts
+//! are and the second begins at the state to which the first leads.
 ghost use Rattle.std.specs.Prelude.{◌≡◌, ◌↔◌, ◌<◌, Option, IfErr, IfOk, IsTrue};
 ghost use Rattle.gmp_seq.specs.declared.call.Outcome.{Outcome};
 ghost use Rattle.gmp_start.specs.Start.{state_of};
@@ -40,6 +41,7 @@ fn is_past(entries: &History, end: End, n: u64) -> bool
     len < n || (len == n && end != End::Running)
 }
 
+/// The beginning once more.
 fn copied(alloc: Global, beginning: &Beginning) -> Result<Beginning, AllocError>
     ensures { IfOk result (λ b. begins_at b ≡ begins_at beginning.now) }
 {

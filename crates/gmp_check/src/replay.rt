@@ -1,4 +1,5 @@
-//! A replay of a history.
+//! A replay of a history: one entry after another, each taken where it is a step. Nothing of the entries is kept, so a replay takes no
+//! memory for them.
 ghost use Rattle.std.specs.Prelude.{◌≡◌, None, IfErr, IfOk, OnErr, OnOk};
 ghost use Rattle.gmp_seq.specs.Fits.{AreLimits};
 ghost use Rattle.gmp_seq.specs.Run.{IsStep};
@@ -40,6 +41,7 @@ impl Model for Replay {
 
 impl Replay {
     /// A run that begins, with so many bodies, and channels of these capacities. `BadLimits` exactly where a run may not have these.
+    /// With others the numbers of a legal run might not fit their types, and a trace with them is none.
     pub fn open(
         alloc: Global,
         limits: Limits,

@@ -1,4 +1,5 @@
-//! The state of the scheduler.
+//! The state of the scheduler: table, channels, machines, counts and outcome, and the step from one to the next. `state/effect` has each
+//! call, `channel_calls` and `transfers` those on channels.
 ghost use Rattle.std.specs.Prelude.{◌≡◌, ◌<◌, ◌^◌, length, slice_get, sum, IfOk, OnErr};
 ghost use Rattle.gmp_seq.specs.Run.{IsStep};
 ghost use Rattle.gmp_seq.specs.State.{opening};

@@ -1,4 +1,7 @@
-//! The status table as a plain list of goroutines.
+//! The status table as a plain list of goroutines, and the latest moment and the number of waits that began. `table/calls` has the calls,
+//! `waking` changes of many, `waiting` who waits on a channel.
+//! Who was last at each machine is noted beside the rows: with a look through all of them for whom a machine has, a check of 4,096
+//! goroutines took seven times as long.
 ghost use Rattle.std.specs.Prelude.{◌≡◌, ◌↔◌, ◌<◌, ◌^◌, ◌∷◌, ◌-◌, Some, None, Option, option_copied, replicate, length, slice_get, slice_set, IfOk, IfSome, IfNone};
 ghost use Rattle.gmp_base.specs.declared.ask.Woke.{Woke};
 ghost use Rattle.gmp_base.specs.declared.number.GNo.{GNo};
@@ -123,18 +126,21 @@ impl Table {
         &self.goroutines
     }
 
+    /// How many waits began: the number of the next.
     pub(crate) fn arrivals(&self) -> u64
         ensures { result ≡ self.now.arrivals }
     {
         self.arrivals
     }
 
+    /// The latest moment that was told.
     pub(crate) fn clock(&self) -> u64
         ensures { result ≡ self.now.clock }
     {
         self.clock
     }
 
+    /// The row of a goroutine, if it is there.
     fn get(&self, g: GNo) -> Option<&Goroutine>
         ensures { option_copied result ≡ slice_get self.now.goroutines g.0 }
     {
@@ -150,6 +156,7 @@ impl Table {
         }
     }
 
+    /// The latest epoch of a goroutine, and 0 of one that isn't there.
     fn epoch(&self, g: GNo) -> u64
         ensures { result ≡ epoch_at self.now g }
     {
@@ -173,6 +180,7 @@ impl Table {
         }
     }
 
+    /// Whether some ticket is on the shelf.
     pub(crate) fn has_shelved(&self) -> bool
         ensures { result ≡ some_status is_shelved self.now }
     {
@@ -186,6 +194,7 @@ impl Table {
         self.goroutines.iter().any(|row| row.status.is_astir())
     }
 
+    /// Whether some goroutine is ready or runs, by a look at all.
     fn has_ready_or_running(&self) -> bool
         ensures { result ≡ some_status is_ready_or_running self.now }
     {
@@ -194,6 +203,7 @@ impl Table {
             .any(|row| row.status.is_ready_or_running())
     }
 
+    /// Whether m runs a goroutine.
     pub(crate) fn runs_some(&self, m: MNo) -> bool
         ensures { result ≡ some_status (is_running_on m) self.now }
     {
@@ -235,6 +245,7 @@ impl Table {
         }
     }
 
+    /// Writes a row, and notes who is at which machine. To wake many needs no note: it brings nobody to a machine.
     fn set(&mut self, g: GNo, row: Goroutine)
         requires { IsAlone self.old g row.status }
         ensures { self.new ≡ record self.old { goroutines = slice_set self.old.goroutines g.0 row } }
@@ -247,6 +258,7 @@ impl Table {
         self.goroutines[place] = row;
     }
 
+    /// The goroutine does this from now on, in its present epoch.
     pub(crate) fn set_status(&mut self, g: GNo, status: Status)
         requires { IsAlone self.old g status }
         ensures { self.new ≡ set_status self.old g status }
@@ -255,6 +267,7 @@ impl Table {
         self.set(g, Goroutine { status, epoch });
     }
 
+    /// The goroutine's ticket is at this place, with a new epoch, and this is stored for it.
     pub(crate) fn make_ready(&mut self, g: GNo, place: Place, woke: Woke)
         requires { epoch_at self.old g < 2 ^ 63 }
         ensures { self.new ≡ made_ready self.old g place woke }
@@ -264,6 +277,7 @@ impl Table {
         self.set(g, Goroutine { status, epoch });
     }
 
+    /// The goroutine waits with these offers, and is one more that began to.
     pub(crate) fn make_wait(&mut self, g: GNo, kind: Kind, offers: Offers, until: Option<u64>)
         requires { self.old.arrivals < 2 ^ 63 }
         ensures { self.new ≡ made_wait self.old g kind offers until }

@@ -1,4 +1,4 @@
-//! The check of a trace.
+//! The check of a trace, and the reading that it shares with `cut`.
 
 ghost use Rattle.std.specs.Prelude.{◌≡◌, ◌≢◌, ◌↔◌, ◌<◌, ◌≤◌, ◌||◌, true, false, length, IfErr, IfOk, IfSome};
 ghost use Rattle.gmp_trace.specs.declared.bad.Bad.{Bad};
@@ -28,7 +28,8 @@ fn judged<P: Progress>(alloc: Global, bytes: &[u8], progress: &mut P) -> Result<
 }
 
 /// Reads a right trace.
-pub(crate) fn traced<R: Read, P: Progress>(
+/// Progress ends with it, whatever came of it, so that a line that is shown is gone before anything is written.
+pub(crate) fn right_trace<R: Read, P: Progress>(
     alloc: Global,
     reader: &mut R,
     progress: &mut P,
@@ -74,7 +75,7 @@ pub fn check<R: Read, W: Write, P: Progress>(
     ensures short { is_of_input result.said ≡ false → IfSome (R.remaining reader.old) (λ all. length all ≤ MAX_TRACE) }
     ensures exact { (bad : Bad) → result.said ≡ BadTrace bad → IfSome (R.remaining reader.old) HasNoRightTrace }
 {
-    let trace = match traced(alloc, reader, progress) {
+    let trace = match right_trace(alloc, reader, progress) {
         Ok(trace) => trace,
         Err(ended) => return ended,
     };

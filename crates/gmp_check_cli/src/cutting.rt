@@ -1,4 +1,4 @@
-//! A part of a trace.
+//! A part of a trace: it begins at the state before its first entry, so anybody can check it alone.
 
 ghost use Rattle.std.specs.Prelude.{◌≡◌, ◌≢◌, ◌↔◌, ◌<◌, ◌≤◌, true, false, length, IfSome};
 ghost use Rattle.gmp_trace.specs.declared.bad.Bad.{Bad};
@@ -7,15 +7,15 @@ ghost use Rattle.gmp_check_cli.specs.Cut.{HasNoPart, HasPart, WritesPart};
 ghost use Rattle.gmp_words.specs.Said.{is_before_writing, is_of_cut, is_of_input};
 ghost use Rattle.gmp_words.specs.declared.said.Said.TheVariants.{BadLimits, BadTrace, InputTooLong, Nothing, OutputFailed};
 
-use crate::checking::traced;
+use crate::checking::right_trace;
 use gmp_check::{SplitError, split};
 use gmp_trace::write;
 use gmp_words::{Ended, MAX_TRACE};
 use std::alloc::Global;
 use std::io::{Read, Write};
 
-/// Reads a trace, checks it, and writes the part of it from entry `at` on, counted from 0 at the trace's own first entry: a trace that begins
-/// at the state before that entry.
+/// Reads a trace, checks it, and writes the part of it from entry `at` on, counted from 0 at the trace's own first entry: a trace that
+/// begins at the state before that entry.
 ///
 /// It ends with what is wrong where something is: the input, the first bad line, no such part, the output, or memory.
 pub fn cut<R: Read, W: Write>(alloc: Global, at: u64, reader: &mut R, writer: &mut W) -> Ended
@@ -33,12 +33,13 @@ pub fn cut<R: Read, W: Write>(alloc: Global, at: u64, reader: &mut R, writer: &m
     ensures short { is_of_input result.said ≡ false → IfSome (R.remaining reader.old) (λ all. length all ≤ MAX_TRACE) }
     ensures exact { (bad : Bad) → result.said ≡ BadTrace bad → IfSome (R.remaining reader.old) HasNoRightTrace }
 {
-    let trace = match traced(alloc, reader, &mut ()) {
+    let trace = match right_trace(alloc, reader, &mut ()) {
         Ok(trace) => trace,
         Err(ended) => return ended,
     };
     let part = match split(alloc, &trace, at) {
         Ok(part) => part,
+        // No such part is an error of the command line, and not of the trace.
         Err(SplitError::Past) => return Ended::bad_limits(),
         Err(SplitError::OutOfMemory) => return Ended::out_of_memory(),
     };

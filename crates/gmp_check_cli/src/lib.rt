@@ -1,4 +1,13 @@
-//! The commands `gmp check` and `gmp cut` as functions: read a trace, check it, and write its summary, or the part of it from an entry on.
+//! The commands `gmp check` and `gmp cut` as functions: each reads a trace, has the plain scheduler check it, and then writes its summary,
+//! or the part of it from an entry on.
+//!
+//! They stand on nothing of the book: what made the trace is not what judges it, and a trace may come from anywhere.
+//!
+//! **Invariant**: a status and a text go together (`Ended`), and nothing is written before the trace is found right. Whatever is wrong ends
+//! the command with its own text: an input that is longer than 1 GiB or can't be read, the first bad line, no such part, an output that
+//! fails, and want of memory.
+//!
+//! Long inputs take a while, so a caller may be told how far the check is (`Progress`); what is found doesn't depend on it.
 #![tactic(auto)]
 
 mod checking;

@@ -1,4 +1,4 @@
-//! Who is told how far a check is.
+//! Who is told how far a check is: `Watch` hears of entries, `Progress` of the input's length and of the end besides.
 
 use gmp_trace::Watch;
 

@@ -1,4 +1,5 @@
-//! The clock of a machine: what it reads is given beforehand.
+//! The clock of a script's run: what it reads is given beforehand, and one clock serves all machines. Not the machine's own: the trace of a
+//! script is the same each time, and a script can show a clock that goes back.
 
 use std::marker::Model;
 
@@ -8,7 +9,9 @@ use std::marker::Model;
 #[derive(Drop)]
 pub(crate) struct Clock {
     readings: Vec<u64>,
+    /// The place of the next reading; the number of readings once all are spent.
     next: usize,
+    /// Over all readings so far, those of minded deadlines too.
     greatest: u64,
 }
 

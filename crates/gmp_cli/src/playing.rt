@@ -1,4 +1,6 @@
 //! A run of a script over the core: the machines act in turn, and what their bodies and the clock say is the script's.
+//! Not an order that is drawn or written in the script, and not a machine that acts until it has nothing to do: in this one machines come
+//! between one another's acts.
 ghost use Rattle.std.specs.Prelude.{◌≡◌, ◌<◌, ◌≤◌, ◌⊎◌, ◌↔◌, ◌%◌, ◌+◌, ℕ, true, false, IsTrue, IfOk, All, IfErr, IfSome, None, length};
 ghost use Rattle.gmp_base.specs.declared.refusal.Refusal.TheVariants.{BadLimits, OutOfMemory};
 ghost use Rattle.gmp_base.specs.declared.number.MNo.{MNo};
@@ -28,7 +30,7 @@ pub(crate) struct Player {
     choice: Choice,
     /// How many machines there are.
     machines: u8,
-    /// The machine whose turn it is; behind the last comes the first.
+    /// The machine whose turn it is, or the number behind the last one: behind the last comes the first.
     turn: u8,
 }
 
@@ -65,6 +67,8 @@ impl Player {
 
     /// Acts in turn until the run is over and each machine that isn't parked is done, or so many acts were made, or all are parked. Each
     /// choice draws this word.
+    /// No law says that each run comes to an outcome, so acts are counted: where memory is refused makes can come again and again without
+    /// an entry.
     pub(crate) fn play(&mut self, acts: u32, word: u64)
         requires manned { IsManned self.old }
         ensures played { IsPlayed acts word (stage self.old) (stage self.new) }
@@ -97,6 +101,8 @@ impl Player {
     }
 
     /// The first machine that isn't parked, from the one whose turn it is on.
+    /// A parked machine's one act is to ask whether it was woken, an entry that says nothing: with a turn of its own it would fill the
+    /// history. A machine that is done has its turn all the same: so who is next is a question of the book alone.
     fn next(&self) -> Option<MNo>
         requires manned { IsManned self.now }
         ensures next { IfSome result (HasTurn (stage self.now)) }
@@ -112,6 +118,7 @@ impl Player {
     }
 
     /// Whether the run has an outcome, and each machine that isn't parked is done.
+    /// Who is parked then stays so: nobody pokes any more.
     fn is_over(&self) -> bool
         requires manned { IsManned self.now }
         ensures { IsTrue result ↔ IsOver self.now.core.system }
@@ -149,6 +156,7 @@ impl Player {
         ensures turn { self.new.turn ≡ self.old.turn }
     {
         self.choice.word = word;
+        // What goes wrong between threads doesn't here: no push is refused, and no steal loses a race.
         self.choice.push_refused = false;
         self.choice.unsure = false;
         match self.core.wants(m) {

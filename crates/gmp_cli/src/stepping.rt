@@ -1,4 +1,4 @@
-//! One run of a script.
+//! One run of a script: read, played, written. A script with limits out of range is refused once all its lines are read.
 
 ghost use Rattle.std.specs.Prelude.{◌≡◌, ◌<◌, ◌≤◌, ℕ, true, false, length, IfSome};
 ghost use Rattle.gmp_words.specs.declared.said.Said.TheVariants.{BadLine, InputTooLong, BadLimits, OutputFailed};
@@ -39,6 +39,7 @@ fn run<W: Write>(alloc: Global, settings: &Settings, script: Script, writer: &mu
     };
     player.play(settings.acts, settings.word);
     let end = End::of(player.outcome());
+    // The history is written where it lies: a copy would take as much memory again.
     let trace = TraceView {
         limits,
         bodies: count as u16,
@@ -49,7 +50,7 @@ fn run<W: Write>(alloc: Global, settings: &Settings, script: Script, writer: &mu
     let written = write_view(alloc, trace, writer);
     player.close();
     match written {
-        Ok(()) => Ended::traced(end),
+        Ok(()) => Ended::written(end),
         Err(error) => Ended::from(error),
     }
 }

@@ -13,7 +13,7 @@ use Rattle.gmp_seq.specs.declared.call.Entry.{Entry}
 use Rattle.gmp_seq.specs.declared.call.Reply.{Reply}
 use Rattle.gmp_seq.specs.Table.{is_outstanding, is_shelved}
 use Rattle.gmp_table.specs.Kept.{IsListing}
-use Rattle.gmp_ledger.specs.Grants.{Chooses}
+use Rattle.gmp_journal.specs.Grants.{Chooses}
 use Rattle.gmp_book.specs.Book.{BookContents}
 use Rattle.gmp_driver.specs.declared.act.Act.{Act}
 use Rattle.gmp_driver.specs.declared.act.Act.TheVariants as act

@@ -8,7 +8,7 @@ use Rattle.gmp_seq.specs.declared.call.Reply.{Reply}
 use Rattle.gmp_seq.specs.Needs.{WantsMemory}
 use Rattle.gmp_seq.specs.Table.{is_shelved}
 use Rattle.gmp_table.specs.Kept.{IsListing}
-use Rattle.gmp_ledger.specs.Grants.{Chooses}
+use Rattle.gmp_journal.specs.Grants.{Chooses}
 use Rattle.gmp_core.specs.declared.want.Want.{Want}
 use Rattle.gmp_core.specs.declared.want.Want.TheVariants as want
 use Rattle.gmp_driver.specs.declared.act.Act.{Act}

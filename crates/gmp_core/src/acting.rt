@@ -1,4 +1,5 @@
-//! One act of a machine.
+//! One act of a machine: a row of the driver's table, made at the book, at a queue, at the body or at the clock.
+//! Frequent acts are asked for and made by a way of their own, and any other by `any_act`.
 ghost use Rattle.std.specs.Prelude.{◌≡◌, ◌<◌, ℕ, [], IsSome, Some, length, slice_index_or};
 ghost use Rattle.gmp_base.specs.declared.number.PNo.{PNo};
 ghost use Rattle.gmp_base.specs.declared.number.Readiness.{Readiness};
@@ -41,6 +42,7 @@ pub(crate) fn act<T>(
         Frequent::Push => push(driver, queues, choice.push_refused),
         Frequent::Resume => driver.tell_asked(copied_ask(&choice.ask)),
         Frequent::Other => any_act(alloc, driver, book, queues, m, choice),
+        // The six calls that come most often. Whom to wake is of no use here, where nobody waits in a thread.
         which => {
             let _ = frequent_turn(driver, book, which, choice.word);
         }
@@ -101,6 +103,7 @@ fn act_next<T>(
         Act::Drain => pop(driver, queues, true),
         Act::Push => push(driver, queues, choice.push_refused),
         Act::Hunt => {
+            // The first victim is drawn; those after it follow by number, so all queues are looked at.
             let victim = driver.first_victim(choice.word);
             steal(driver, queues, Some(choice.word), victim, choice.unsure);
         }

@@ -1,10 +1,11 @@
 //! The same ask once more, which takes no memory.
+//! An ask is plain data but for a select's cases, which lie in it, eight at most.
 ghost use Rattle.std.specs.Prelude.{◌≡◌};
 ghost use Rattle.gmp_acts.specs.Acts.{HasFewCases};
 
 use gmp_base::Ask;
 
-/// A select has at most 8 cases: its type holds no more.
+/// A select has at most 8 cases: its type holds no more. It does nothing; its contract tells the definitions what the type knows.
 pub(crate) fn has_few(ask: &Ask)
     ensures { HasFewCases ask.now }
 {

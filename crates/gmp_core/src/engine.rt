@@ -1,4 +1,6 @@
-//! The core.
+//! The core as a value: opened, acted upon, read, and closed.
+//! The calls that machines made have no list here: they are those of the history, each with the reply that its machine was told. A list
+//! beside it would copy each call once more.
 ghost use Rattle.std.specs.Borrow.{sem};
 ghost use Rattle.std.specs.Prelude.{◌≡◌, All, Some, false, is_some, length, map, slice_get, IfErr, IfOk, IfSome, IsSome, OnOk};
 ghost use Rattle.std.specs.Option.{option_map_or};
@@ -28,8 +30,10 @@ use std::marker::Model;
 /// A contract sees the state of all together, and the stock of bodies, wherever each body is.
 pub struct Core<T> {
     alloc: Global,
+    /// Its owners are nothing: the queues lie beside it, and not in the hands of who holds a processor.
     book: Book<T, ()>,
     queues: Queues,
+    /// Machine m is at place m.
     drivers: Vec<Driver<T, ()>>,
 }
 
@@ -67,6 +71,7 @@ fn wanted_next<T>(driver: &Driver<T, ()>) -> Want
     requires { IsSome driver.now.pass }
     ensures { result ≡ wanted_by (next_act driver.now) }
 {
+    // The 16 bytes of `Frequent` first: an act holds a whole call, which is written each time that somebody asks for it.
     match driver.frequent() {
         Frequent::Resume => Want::Ask,
         Frequent::Other => wanted_of_any(driver),
@@ -74,6 +79,7 @@ fn wanted_next<T>(driver: &Driver<T, ()>) -> Want
     }
 }
 
+/// By the act itself, which is wide. Apart: of a frequent act nobody makes it.
 #[inline(never)]
 fn wanted_of_any<T>(driver: &Driver<T, ()>) -> Want
     requires { IsSome driver.now.pass }
@@ -93,6 +99,7 @@ impl<T> Core<T> {
 
     /// Machines that have made no act, each at its start with nothing in hand. There is a body for each goroutine. It takes all the memory
     /// that acts need, but for a make. Refused, it hands the bodies back.
+    /// `BadLimits` comes before `OutOfMemory`. With other limits numbers of the history might not fit their types.
     pub fn open(
         alloc: Global,
         run: u64,
@@ -110,6 +117,7 @@ impl<T> Core<T> {
             return Err(Refused::of(Refusal::BadLimits, bodies));
         }
         let why = Refusal::OutOfMemory;
+        // All that can want memory comes before the book, which takes the bodies.
         let Ok(queues) = Queues::open(alloc, limits.procs, bodies.len() as u16) else {
             return Err(Refused::of(why, bodies));
         };
@@ -135,6 +143,8 @@ impl<T> Core<T> {
     }
 
     /// One act of machine m, which the place of its program names. An act of a machine that isn't there changes nothing.
+    /// What the body, its blocking call or the clock is to say, `wants` tells beforehand; of the rest it reads the word, and what is to go
+    /// wrong. A make that is refused memory is told to the body, and the run goes on.
     #[inline(always)]
     pub fn act(&mut self, m: MNo, choice: &Choice)
         ensures acts { Acts self.old.system m choice.now self.new.system }
@@ -189,11 +199,12 @@ impl<T> Core<T> {
     pub fn held(&self, m: MNo) -> Option<Woke>
         ensures { result ≡ held_at (machine_at self.now.system m).place (machine_at self.now.system m).hand.held }
     {
-        self.drivers.get(m.0 as usize)?.held()
+        self.drivers.get(m.0 as usize)?.woke()
     }
 
     /// Lends the body in the machine's hand, exactly where `held` is some. Whatever is left behind the loan, the state stays, and the
     /// stock has that body in this one's place.
+    /// Its `resumed` and `blocked` are for whoever drives to call: the core knows no trait of bodies.
     pub fn body(&mut self, m: MNo) -> Option<&mut T>
         ensures* lends { sem 𝓛 (lends_body T.row self.entry m result) }
         ensures some { is_some result ≡ is_some (held_at (machine_at self.old.system m).place (machine_at self.old.system m).hand.held) }
@@ -202,7 +213,8 @@ impl<T> Core<T> {
         self.drivers.get_mut(m.0 as usize)?.body()
     }
 
-    /// What the machine's next act reads of a choice: an ask or a number exactly where a body is in hand. One that isn't there reads nothing.
+    /// What the machine's next act reads of a choice: an ask or a number exactly where a body is in hand. One that isn't there reads
+    /// nothing.
     pub fn wants(&self, m: MNo) -> Want
         ensures wants { result ≡ wanted_by (next_act (machine_at self.now.system m)) }
         ensures body { is_of_body result ≡ is_some (held_at (machine_at self.now.system m).place (machine_at self.now.system m).hand.held) }
@@ -213,14 +225,15 @@ impl<T> Core<T> {
         }
     }
 
-    /// Whether the book has parked the machine.
+    /// Whether the book has parked the machine. Its one act is then to ask whether it was woken, so a driver may pass it over.
     pub fn parked(&self, m: MNo) -> bool
         ensures { result ≡ option_map_or is_parked_mode (slice_get self.now.system.book.state.machines.modes m.0) false }
     {
         self.book.is_parked(m)
     }
 
-    /// Whether the machine's program is done. That of one that isn't there is not.
+    /// Whether the machine's program is done: the run has its outcome, and the machine has given back all that it held. That of one that
+    /// isn't there is not.
     pub fn done(&self, m: MNo) -> bool
         ensures { result ≡ is_done (machine_at self.now.system m).place }
     {
@@ -230,8 +243,8 @@ impl<T> Core<T> {
         }
     }
 
-    /// Every call that the book accepted with its reply, in order: each machine's are those that it made, with the replies that it was told.
-    /// Its numbers are within their types.
+    /// Every call that the book accepted with its reply, in order: each machine's are those that it made, with the replies that it was
+    /// told. Its numbers are within their types.
     pub fn history(&self) -> &History
         ensures entries { result.now.list ≡ self.now.system.book.history }
         ensures own { map made_of result.now.list ≡ self.now.system.own }
@@ -252,6 +265,7 @@ impl<T> Core<T> {
 
 impl<T: Drop> Core<T> {
     /// Lets all go, and tells how the run ended, if it did. It takes no memory.
+    /// No report as of a book: bodies and tickets may be out then, and nobody is to be made to bring them back.
     pub fn close(self) -> Option<Outcome>
         ensures { result ≡ self.system.book.state.outcome }
     {

@@ -1,4 +1,6 @@
 //! Acts of a machine on local queues, and what it is told of its body and of the clock.
+//! Each is made where the machine holds what it holds: taking all out of the driver and putting it back would cost far more than a pop that
+//! finds nothing.
 ghost use Rattle.std.specs.Prelude.{◌≡◌, ◌<◌, [], Some, length, slice_index_or, IsSome};
 ghost use Rattle.gmp_base.specs.declared.number.PNo.{PNo};
 ghost use Rattle.gmp_base.specs.declared.number.Readiness.{Readiness};
@@ -28,6 +30,7 @@ pub(crate) fn tell<T>(driver: &mut Driver<T, ()>, what: Told)
 }
 
 /// The machine takes the first ticket of its own queue, which is one to claim, or one to store, or finds none.
+/// Which of the two the caller says by `is_to_store`: a drain sends what it finds to the shelf.
 pub(crate) fn pop<T>(driver: &mut Driver<T, ()>, queues: &mut Queues, is_to_store: bool)
     requires next { next_act driver.old ≡ pop_for is_to_store }
     requires fits { SuitsPlace driver.old.place driver.old.hand }
@@ -37,6 +40,7 @@ pub(crate) fn pop<T>(driver: &mut Driver<T, ()>, queues: &mut Queues, is_to_stor
     ensures pass { driver.new.pass ≡ driver.old.pass }
     ensures room { queues.new.room ≡ queues.old.room }
 {
+    // Who pops has a processor, by its place.
     let Some(p) = driver.processor() else {
         unreachable!()
     };
@@ -48,6 +52,7 @@ pub(crate) fn pop<T>(driver: &mut Driver<T, ()>, queues: &mut Queues, is_to_stor
 
 /// The machine takes the first ticket of a victim's queue, or finds none, or loses the race. The queue's length before is told with the
 /// ticket.
+/// A lost race is the choice's `unsure`: no other machine acts meanwhile, so the race is told and not run.
 pub(crate) fn steal<T>(
     driver: &mut Driver<T, ()>,
     queues: &mut Queues,
@@ -68,6 +73,7 @@ pub(crate) fn steal<T>(
         return;
     }
     let has_to_claim = driver.has_to_claim();
+    // Before the pop: a thief of threads reads the length first, too.
     let hint = queues.len(victim);
     match queues.pop(victim) {
         Some(r) => {
@@ -79,6 +85,7 @@ pub(crate) fn steal<T>(
 }
 
 /// The machine's ticket to store goes last on its own queue, unless the push is refused.
+/// A refused push is the choice's `push_refused`: the ticket then stays in hand, to be put onto the shelf.
 pub(crate) fn push<T>(driver: &mut Driver<T, ()>, queues: &mut Queues, refused: bool)
     requires next { next_act driver.old ≡ Act.Push }
     requires fits { SuitsPlace driver.old.place driver.old.hand }

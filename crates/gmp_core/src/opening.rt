@@ -1,4 +1,5 @@
 //! The machines at their start, and at their end.
+//! Passes must be spent and drivers hold them, so both loops go on until their list is empty.
 ghost use Rattle.std.specs.Prelude.{◌≡◌, ◌≤◌, [], All, IsSome, length, map, vec_capacity};
 ghost use Rattle.gmp_driver.specs.Machine.{Machine};
 ghost use Rattle.gmp_core.specs.Opening.{at_start};
@@ -7,6 +8,7 @@ use gmp_base::Pass;
 use gmp_driver::Driver;
 
 /// A program at its start for each pass, in order, in room that is there.
+/// They come off the end, so the list is turned round at last.
 pub(crate) fn starting<T>(
     room: Vec<Driver<T, ()>>,
     passes: Vec<Pass>,

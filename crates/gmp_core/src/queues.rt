@@ -1,4 +1,5 @@
-//! The local queues.
+//! The local queues: one ring of tickets for each processor.
+//! Not those of gmp_queue, which are for threads: here one act comes after another, so a ring will do, and its contract says what it holds.
 ghost use Rattle.std.specs.Prelude.{◌≡◌, ◌<◌, [], ◌∷◌, ◌++◌, drop, length, replicate, slice_get, slice_index_or, slice_set, IfOk};
 ghost use Rattle.circular_buffer.specs.Buffer.{buffer};
 ghost use Rattle.gmp_core.specs.Queues.{Pops};
@@ -13,7 +14,10 @@ use std::marker::Model;
 /// All its memory is taken in `open`.
 #[derive(Drop)]
 pub(crate) struct Queues {
+    /// Processor p's is at place p. Tickets in them are plain parts and go with them: one that is out keeps nothing back, so none is
+    /// surrendered at the end.
     rings: Vec<HeapCircularBuffer<Readiness>>,
+    /// Of each: as many as there are bodies, so no push finds a full queue.
     room: u16,
 }
 
@@ -43,6 +47,7 @@ fn put_last(ring: &mut HeapCircularBuffer<Readiness>, r: Readiness)
     requires { length ring.old.items < ring.old.capacity }
     ensures { ring.new ≡ buffer (ring.old.items ++ r ∷ []) ring.old.capacity }
 {
+    // There is room, so no error comes.
     ring.try_push_back(r).unwrap();
 }
 
@@ -63,6 +68,7 @@ impl Queues {
     pub(crate) fn len(&self, p: PNo) -> u32
         ensures { result ≡ length (slice_index_or self.now.queues p.0 []) }
     {
+        // Of a number that no processor has the queue is empty.
         let place = p.0 as usize;
         if place < self.rings.len() {
             self.rings[place].len() as u32

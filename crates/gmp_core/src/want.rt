@@ -1,6 +1,7 @@
 //! What an act needs of whoever makes it.
 
 /// What the next act of a machine reads of a choice.
+/// Asked by `Core::wants` before the act; the other fields of a choice are its word, and what is to go wrong.
 #[derive(Clone, Copy, Debug, PartialEq, Eq)]
 pub enum Want {
     /// What its body asks.

@@ -1,4 +1,5 @@
-//! The rows of the table that say where an act at a local queue leads.
+//! The rows of the table that say where an act at a local queue leads. Apart from table.rt, since they are told by `QueueTold`, and an act
+//! at a queue made in place needs no other row.
 ghost use Rattle.std.specs.Prelude.{◌≡◌, ◌≤◌};
 ghost use Rattle.gmp_driver.specs.Hunt as hunt;
 ghost use Rattle.gmp_driver.specs.Local.{told_of};
@@ -34,17 +35,20 @@ fn scan_on(here: &mut Place, seen: Seen, v: PNo)
     *here = scanned(seen.procs, v);
 }
 
-/// Goes where what came of an act at a local queue leads.
+/// Goes where what came of an act at a local queue leads. What isn't in the row of the place leaves it: a scan that lost its race looks
+/// into the same queue again.
 #[inline(always)]
 pub(crate) fn go_on_at_queue(here: &mut Place, seen: Seen, told: QueueTold)
     requires { 1 ≤ seen.procs }
     ensures { here.new ≡ table.next_place seen here.old (told_of told) }
 {
     match (&*here, told) {
+        // The own queue: what was found is claimed, or stored where the processor is given up.
         (Place::Look, QueueTold::Popped(false)) => *here = Place::Claim,
         (Place::Look, QueueTold::Empty) => *here = Place::Global,
         (Place::Drain, QueueTold::Popped(true)) => *here = Place::PutDrain,
         (Place::Drain, QueueTold::Empty) => *here = Place::Drop,
+        // A hunt: its first act told the word that it drew, and every other knows its round.
         (Place::Hunt(None), QueueTold::Stole(Some(word), tried)) => {
             hunt_on(here, seen, seen.begin(word), tried);
         }
@@ -52,6 +56,7 @@ pub(crate) fn go_on_at_queue(here: &mut Place, seen: Seen, told: QueueTold)
             let round = *round;
             hunt_on(here, seen, round, tried);
         }
+        // More of the same victim. A race that is lost ends it, since one ticket to claim is in hand.
         (Place::More(v, goal), QueueTold::Stole(None, Tried::Got(_))) => {
             let (v, goal) = (*v, *goal);
             *here = Place::StoreMore(v, goal.saturating_sub(1));
@@ -67,6 +72,7 @@ pub(crate) fn go_on_at_queue(here: &mut Place, seen: Seen, told: QueueTold)
         }
         (Place::Store, QueueTold::Pushed) => *here = Place::Poke,
         (Place::Store, QueueTold::PushRefused) => *here = Place::PutStore,
+        // The last look, without a processor.
         (Place::Scan(_), QueueTold::Stole(None, Tried::Got(_))) => *here = Place::Have,
         (Place::Scan(v), QueueTold::Stole(None, Tried::Empty)) => {
             let v = *v;

@@ -1,4 +1,6 @@
-//! A machine's program, and what the machine holds.
+//! A machine's program, and what the machine holds: `Driver`. An act is made in one of three ways. `give` hands out a load and `got` takes
+//! it back; `give_pass` with `got_reply` and its like leaves all else in the registers, for calls that move one value; `tell` is for acts
+//! that change no value. Acts at a queue, made in place, stand in driver/own_queue.rt.
 ghost use Rattle.std.specs.Prelude.{◌≡◌, ◌≤◌, None, Some, IfSome, IsNone, IsSome, false, is_some};
 ghost use Rattle.std.specs.Borrow.{sem};
 ghost use Rattle.std.specs.Option.{option_copied_mut, option_map};
@@ -22,11 +24,16 @@ use std::marker::Model;
 ///
 /// It keeps the plain parts of values. While nothing is given out it holds what its place says.
 pub struct Driver<T, Q> {
+    /// All values in hand are of this run.
     run: u64,
+    /// The number of processors, 1 to 32.
     procs: u8,
     place: Place,
+    /// Whether another machine is to be woken before the next claim.
     fresh: bool,
+    /// Claims since the last tick, up to 16.
     turns: u8,
+    /// None while an act has it.
     pass: Option<Pass>,
     hand: Registers<T, Q>,
 }
@@ -39,6 +46,8 @@ impl<T, Q> Model for Driver<T, Q> {
 
     ghost view = { λ d. record { run = d.run; procs = d.procs; place = d.place; fresh = d.fresh; turns = d.turns; pass = d.pass; hand = d.hand } };
 
+    // There are 1 to 32 processors and 16 turns at most, the pass is of the run, and while the pass is in, exactly what the place needs is
+    // in hand.
     ghost invariant = { λ d. IsDriver (record { run = d.run; procs = d.procs; place = d.place; fresh = d.fresh; turns = d.turns; pass = d.pass; hand = d.hand }) };
 }
 
@@ -71,7 +80,7 @@ impl<T, Q> Driver<T, Q> {
         }
     }
 
-    /// What the machine does next.
+    /// What the machine does next. It makes nothing, and may be asked as often as one likes.
     // Inlined, here and below: whoever looks at one kind of act alone pays for no other.
     #[inline(always)]
     pub fn next(&self) -> Act
@@ -82,7 +91,8 @@ impl<T, Q> Driver<T, Q> {
         act_at(&self.place, self.seen())
     }
 
-    /// What the machine does next, in few bytes where it is one of the acts that come most often.
+    /// What the machine does next, in few bytes where it is one of the acts that come most often. `Other` says only that it is none of
+    /// these, and `next` what it is.
     #[inline(always)]
     pub fn frequent(&self) -> Frequent
         ensures value { result ≡ frequent_of (next_act self.now) }
@@ -92,14 +102,15 @@ impl<T, Q> Driver<T, Q> {
         frequent_at(&self.place, self.fresh, self.turns, self.hand.to_claim)
     }
 
-    /// The first victim of a hunt that begins by this word.
+    /// The first victim of a hunt that begins by this word, which the first act of the hunt draws.
     pub fn first_victim(&self, word: u64) -> PNo
         ensures { result ≡ victim_of self.now.procs (begun (seen self.now) word) }
     {
         victim_of(self.procs, self.seen().begin(word))
     }
 
-    /// Whether it holds a ticket to claim. A ticket that is stolen then is to store.
+    /// Whether it holds a ticket to claim. A ticket that is stolen then is to store: the first is claimed, the others wait in the own
+    /// queue.
     pub fn has_to_claim(&self) -> bool
         ensures { result ≡ is_some self.now.hand.to_claim }
     {
@@ -107,7 +118,7 @@ impl<T, Q> Driver<T, Q> {
     }
 
     /// What the body of the goroutine that runs is to be told, at Run; at Block Done, which has no meaning.
-    pub fn held(&self) -> Option<Woke>
+    pub fn woke(&self) -> Option<Woke>
         ensures { result ≡ held_at self.now.place self.now.hand.held }
     {
         match (&self.place, &self.hand.held) {
@@ -125,13 +136,14 @@ impl<T, Q> Driver<T, Q> {
         self.hand.body(&self.place)
     }
 
-    /// Whether there is nothing left to do.
+    /// Whether there is nothing left to do: the run is over, and every value was given back.
     pub fn is_done(&self) -> bool
         ensures { result ≡ is_done self.now.place }
     {
         matches!(self.place, Place::Done)
     }
 
+    /// What the table looks at beside the place.
     #[inline(always)]
     fn seen(&self) -> Seen
         ensures { result ≡ seen self.now }
@@ -265,6 +277,7 @@ impl<T, Q> Driver<T, Q> {
         ensures used { result ≡ load_of self.old.run result.pass (used (next_act self.old) self.old.hand) }
         ensures left { self.new ≡ record self.old { pass = None; hand = unused (next_act self.old) self.old.hand } }
     {
+        // The act says what is used, so that whoever takes the load need not.
         let act = self.next();
         let pass = self.pass.take().unwrap();
         self.hand.take_used(self.run, pass, &act)
@@ -287,7 +300,7 @@ impl<T, Q> Driver<T, Q> {
 }
 
 impl<T: Drop, Q: Drop> Driver<T, Q> {
-    /// The pass. All else is let go.
+    /// The pass. All else is let go, which only types of bodies and owners that may be dropped allow. At Done nothing else is held.
     pub fn into_pass(self) -> Pass
         requires { IsSome self.pass }
         ensures { self.pass ≡ Some result }

@@ -1,4 +1,5 @@
-//! From whom a machine steals, and how many tickets.
+//! From whom a machine steals, and how many tickets (Scalable Go Scheduler Design Doc, Scheduling: a random victim, and half of what it
+//! has). A steal takes one ticket; the goal says how many follow.
 ghost use Rattle.std.specs.Prelude.{◌≡◌, ◌≤◌, ◌<◌};
 ghost use Rattle.gmp_driver.specs.Hunt as hunt;
 
@@ -7,7 +8,8 @@ use crate::place::{Place, Round};
 use crate::seen::Seen;
 use gmp_base::PNo;
 
-/// How many tickets are stolen from a queue that is said to have so many: half of them, rounded up, at least one, and 16 at most.
+/// How many tickets are stolen from a queue that is said to have so many: half of them, rounded up, at least one, and 16 at most. The hint
+/// may be old, so the goal is a wish; the bound of 16 is the project's own.
 pub fn steal_goal(hint: u32) -> u8
     ensures goal { result ≡ hunt.steal_goal hint }
     ensures some { 1 ≤ result }
@@ -16,7 +18,7 @@ pub fn steal_goal(hint: u32) -> u8
     ((u64::from(hint) + 1) / 2).min(16).max(1) as u8
 }
 
-/// The victim of this number in a hunt's order.
+/// The victim of this number in a hunt's order. It is below the number of processors, by the last remainder.
 fn victim(procs: u8, word: u64, number: u8) -> PNo
     requires { 1 ≤ procs }
     ensures { result ≡ hunt.victim procs word number }
@@ -68,7 +70,7 @@ impl Seen {
         }
     }
 
-    /// The hunt goes on at this number of its order, and ends after the last.
+    /// The hunt goes on at this number of its order, and ends after the last: then it found nothing.
     fn hunt_on(self, word: u64, number: u8) -> Place
         requires { 1 ≤ self.procs }
         ensures { result ≡ hunt.hunt_on self word number }
@@ -84,7 +86,8 @@ impl Seen {
         }
     }
 
-    /// Where a try of a hunt leads.
+    /// Where a try of a hunt leads: with a ticket to more of the same victim, with none to the next one. A race that was lost is tried
+    /// again, since it says nothing of whether the queue is empty; it was lost to one who has the ticket.
     pub(crate) fn hunted(self, round: Round, tried: Tried) -> Place
         requires { 1 ≤ self.procs }
         ensures { result ≡ hunt.hunted self round tried }

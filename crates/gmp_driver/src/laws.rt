@@ -12,7 +12,8 @@ ghost use Rattle.gmp_driver.specs.Registers.{AreFilledOnce, joined, unused, used
 ghost use Rattle.gmp_driver.specs.Table.{after, next_act};
 ghost use Rattle.gmp_driver.specs.Uses.{Uses};
 
-/// A call that a machine is to make finds the registers that it uses filled, and those that its reply fills free.
+/// A call that a machine is to make finds the registers that it uses filled, and those that its reply fills free. So no call is refused for
+/// a value that isn't there.
 pub fn calls_find_what_they_use<T, Q>()
     ensures { (x : Machine T Q) (call : Call) → next_act x ≡ Act.Call call → SuitsPlace x.place x.hand → Uses call x.hand }
 {}
@@ -23,8 +24,9 @@ pub fn nothing_is_lost<T, Q>()
     ensures whole { (act : Act) (hand : Registers T Q) → joined (used act hand) (unused act hand) ≡ hand }
 {}
 
-/// What came of a pop, a push, a steal, a resumed body, a blocking call or a reading of the clock can be told: it fills no register twice, and the machine holds then what its next place says.
-/// Bodies and owners may have changed meanwhile. `holds` is the same of an act that is made in place.
+/// What came of a pop, a push, a steal, a resumed body, a blocking call or a reading of the clock can be told: it fills no register twice,
+/// and the machine holds then what its next place says. Bodies and owners may have changed meanwhile. `holds` is the same of an act that is
+/// made in place.
 pub fn acts_lead_on<T, Q>()
     ensures apart { (x : Machine T Q) (what : Told) (came : Registers T Q) → SuitsPlace x.place x.hand → MayCome (next_act x) what
         → filled came ≡ come_back what (is_some x.hand.to_claim) (filled (used (next_act x) x.hand))

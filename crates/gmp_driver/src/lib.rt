@@ -1,7 +1,16 @@
-//! One machine's program as a value: which act comes next, what the act is handed, and where the machine stands after what came of it.
-//! It keeps what the machine holds.
+//! One machine's program as a value (the loop of an M in the Scalable Go Scheduler Design Doc, Vyukov, 2012): which act comes next, what
+//! the act is handed, and where the machine stands after what came of it. It keeps what the machine holds.
 //!
-//! Nothing here takes memory, waits or calls the book: whoever runs the driver makes the act, and tells what came of it.
+//! The program is a table of places, one act each (`Place`, table.rt): look into the own queue, the shelf, others' queues; claim, resume
+//! the body, make the call of what it asked; with nothing to do give the processor up, look once more, park. The order is the design
+//! document's (Scheduling; Syscalls/M Parking and Unparking); what differs is told where it stands.
+//!
+//! The invariant: while nothing is given out, exactly those registers are filled that the place needs, and the pass and all values are of
+//! one run. So no value is lost, and no call finds that it lacks one.
+//!
+//! Nothing here takes memory, waits or calls the book: whoever runs the driver makes the act, and tells what came of it. So one program is
+//! run act by act, in any order of machines, and by threads. It refuses nothing: to tell what can't have come of the act leaves the place
+//! as it is.
 #![tactic(auto)]
 
 mod act;

@@ -10,7 +10,8 @@ use crate::registers::{CalledParts, HeldParts, ProcParts, Registers, fill_if};
 use gmp_base::{Called, Held, Pass, Proc, Readiness, Ticket};
 use gmp_seq::Call;
 
-/// The pass, and the values that an act uses; afterwards those that it left, or was answered. `fill` adds a value.
+/// The pass, and the values that an act uses; afterwards those that it left, or was answered. `fill` adds a value. It can't be dropped, so
+/// whoever makes the act brings it back.
 pub struct Load<T, Q> {
     pub pass: Pass,
     pub held: Option<Held<T>>,
@@ -75,7 +76,8 @@ impl<T, Q> Registers<T, Q> {
         load
     }
 
-    /// Puts what came into its registers, and answers the pass.
+    /// Puts what came into its registers, and answers the pass. Each register is empty, or nothing comes for it: else a value would be
+    /// lost.
     #[inline(always)]
     pub(crate) fn take_back(&mut self, load: Load<T, Q>) -> Pass
         requires { AreFilledOnce self.old (parts_of load) }

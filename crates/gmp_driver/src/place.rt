@@ -1,9 +1,18 @@
-//! Where a machine stands in its program.
+//! Where a machine stands in its program: `Place`, with `Round` for where a hunt stands. The sources named are sections of the Scalable Go
+//! Scheduler Design Doc; where none is named the place is the project's own.
+//!
+//! Go's runtime (1.19, proc.go) has the like: Look to Hunt are `schedule` with `findRunnable`, Unspin and the fresh poke `resetspinning`
+//! with `wakep`, Drop and Scan `releasep`, `pidleput` and `checkRunqsNoP`, Park and Rest `stopm` with `mPark`, Store `runqput`.
+//!
+//! What differs: tickets are stolen one at a time; the clock is read after 16 claims, and not at each look; the shelf is looked into only
+//! where the own queue is empty, where Go does so at each 61st look as well; a queue that refuses gives one ticket to the shelf, where
+//! `runqputslow` gives half.
 
 use gmp_base::{Ask, PNo};
 
-/// Where a hunt stands in its order of victims, which is the processors `word mod np`, `word mod np + 1` and so on, modulo np. The own one
-/// is skipped and keeps its number.
+/// Where a hunt stands in its order of victims, which is the processors `word mod np`, `word mod np + 1` and so on, modulo np, the number
+/// of processors. A drawn word begins it, so that thieves don't meet; an order tries each once. The own one is skipped and keeps its
+/// number.
 #[derive(Clone, Copy, Debug, PartialEq, Eq)]
 pub struct Round {
     /// The word that its first act drew.
@@ -12,64 +21,68 @@ pub struct Round {
     pub number: u8,
 }
 
-/// A place of the program. At each there is one act.
+/// A place of the program. At each there is one act. Numbers and asks stand in the place and not in a register, so that what is filled
+/// follows from the place.
 #[derive(Debug, Drop)]
 pub enum Place {
-    /// Takes a processor.
+    /// Takes a processor, without which no goroutine runs (Processors).
     Start,
-    /// Reads the clock after 16 claims, else pops its own queue.
+    /// Reads the clock after 16 claims, else pops its own queue, where its data are likely near (Scheduling). Deadlines so pass while
+    /// goroutines are ready as well.
     Look,
     /// Tells the book this moment, in nanoseconds.
     Ticking(u64),
-    /// Asks whether it may keep its processor.
+    /// Asks whether it may keep its processor, after a tick, where there are several.
     Keep,
-    /// Pops its own queue, before it gives its processor up.
+    /// Pops its own queue, before it gives up a processor that is active no more: its tickets go to the shelf, where everybody finds them.
     Drain,
     /// Puts the ticket onto the shelf.
     PutDrain,
-    /// Takes from the shelf.
+    /// Takes from the shelf, once the own queue is empty.
     Global,
-    /// Asks whether it may look for work at others.
+    /// Asks whether it may look for work at others: as many do at most as processors are active (Syscalls/M Parking and Unparking).
     Spin,
-    /// Steals from one victim after another; before its first act it has drawn no word.
+    /// Steals from one victim after another (Scheduling); before its first act it has drawn no word.
     Hunt(Option<Round>),
-    /// Steals once more from this victim, and so many tickets at most.
+    /// Steals once more from this victim, and so many tickets at most: half of what it had, one by one.
     More(PNo, u8),
     /// Pushes the ticket to store, and goes on with `More`.
     StoreMore(PNo, u8),
     /// Puts it onto the shelf, where the push was refused.
     PutMore(PNo, u8),
-    /// Looks for work no more.
+    /// Looks for work no more. Before the claim, so that it doesn't count as spinning when it wakes another.
     Unspin,
-    /// Wakes another machine where it is fresh, and then claims the ticket.
+    /// Wakes another machine where it is fresh, and then claims the ticket (Syscalls/M Parking and Unparking: who goes from idle to busy
+    /// sees to it that another looks).
     Claim,
     /// Resumes the body.
     Run,
     /// Makes the book call of what the body asked.
     Do(Ask),
-    /// Pushes the ticket to store.
+    /// Pushes the ticket to store: what a goroutine readies goes to the own queue (Scheduling).
     Store,
-    /// Puts it onto the shelf, where the push was refused.
+    /// Puts it onto the shelf, where the push was refused: a full queue refuses, and no ticket is lost.
     PutStore,
-    /// Wakes another machine, and goes on with the body.
+    /// Wakes another machine for what was readied, and goes on with the body.
     Poke,
-    /// Runs the body's blocking call.
+    /// Runs the body's blocking call, with no processor.
     Block,
     /// Comes back from it with this number.
     Leave(u64),
-    /// Gives its processor up.
+    /// Gives its processor up, with nothing found.
     Drop,
-    /// Says that it holds none.
+    /// Says that it holds none, and looks at all queues next.
     Bare,
-    /// Steals from every queue once, this one next, before it parks.
+    /// Steals from every queue once, this one next, before it parks: a ticket may have come into one after the hunt passed it, and who
+    /// pushed it may have seen this machine as one that still looks (Syscalls/M Parking and Unparking).
     Scan(PNo),
-    /// Has a ticket, and takes a processor for it.
+    /// Has a ticket, and takes a processor for it anew.
     Have,
     /// Puts the ticket onto the shelf, where there was no processor.
     PutHave,
-    /// Has nothing to do.
+    /// Has nothing to do. It may be told of work, of a deadline, or to look again.
     Park,
-    /// Is parked, until it is woken.
+    /// Is parked, and asks whether it was woken. A thread sleeps here, until a `poke` or an `enter` of another wakes it.
     Rest,
     /// Has nothing to do before this deadline, in nanoseconds.
     Mind(u64),

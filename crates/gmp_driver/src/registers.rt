@@ -1,4 +1,5 @@
-//! What a machine holds, in plain parts.
+//! What a machine holds, in plain parts: `Registers` has a place for each kind of value, `ProcParts`, `HeldParts` and `CalledParts` are
+//! such values without their run. The run is the driver's and stands once; who hands a value out makes it anew.
 ghost use Rattle.std.specs.Prelude.{◌≡◌, ◌⊎◌, IsNone, Some};
 ghost use Rattle.std.specs.Borrow.{sem};
 ghost use Rattle.std.specs.Option.{option_copied_mut};
@@ -32,16 +33,20 @@ pub struct CalledParts<T> {
 }
 
 /// The registers for values: the processor, the goroutine that runs or is in its blocking call, a ticket to claim and a ticket to store.
+/// Which of them are filled follows from the place.
 #[derive(Drop)]
 pub struct Registers<T, Q> {
     pub processor: Option<ProcParts<Q>>,
     pub held: Option<HeldParts<T>>,
     pub called: Option<CalledParts<T>>,
+    /// The ticket that is claimed next.
     pub to_claim: Option<Readiness>,
+    /// The ticket that goes to the own queue or the shelf next.
     pub to_store: Option<Readiness>,
 }
 
-/// Puts a value into its register, which is empty.
+/// Puts a value into its register, which is empty. Written so since a value can't be dropped: an assignment would drop what was there,
+/// which the `requires` excludes.
 #[inline(always)]
 pub fn fill<X>(register: &mut Option<X>, value: X)
     requires { IsNone register.old }
@@ -69,6 +74,7 @@ impl<T, Q> Registers<T, Q> {
     ghost use Rattle.gmp_driver.specs.Bodies.{body_at, lends_at};
     ghost use Rattle.gmp_driver.specs.Own.{lends_owner_held, owner_held, with_found};
 
+    /// What a machine holds at its start.
     pub(crate) fn empty() -> Self
         ensures { result ≡ nothing }
     {
@@ -81,7 +87,7 @@ impl<T, Q> Registers<T, Q> {
         }
     }
 
-    /// The first value that is there, in the order in which they are given back.
+    /// The first value that is there, in the order in which they are given back at the end: goroutines, tickets, and the processor last.
     pub(crate) fn first_value(&self) -> Option<Value>
         ensures { result ≡ first_value self.now }
     {
@@ -100,7 +106,7 @@ impl<T, Q> Registers<T, Q> {
         }
     }
 
-    /// Which value an act uses, beside the processor.
+    /// Which value an act uses, beside the processor. An `enter` and a push use two: theirs, and the processor.
     #[inline(always)]
     pub(crate) fn one_used(&self, act: &Act) -> Option<Value>
         ensures { result ≡ one_used act.now self.now }
@@ -135,7 +141,7 @@ impl<T, Q> Registers<T, Q> {
         }
     }
 
-    /// Lends the body that is in hand at this place.
+    /// Lends the body that is in hand at this place: bodies stay in their register while they are resumed, and don't move.
     pub(crate) fn body(&mut self, here: &Place) -> Option<&mut T>
         ensures* lends { sem 𝓛 (lends_at T.row Q.row self.entry here.now result) }
         ensures body { option_copied_mut result ≡ body_at here.now self.old }
@@ -153,7 +159,7 @@ impl<T, Q> Registers<T, Q> {
         }
     }
 
-    /// Lends the owner of the processor that is in hand.
+    /// Lends the owner of the processor that is in hand, for an act at the queue in place.
     #[inline(always)]
     pub(crate) fn owner(&mut self) -> Option<&mut Q>
         ensures* lends { sem 𝓛 (lends_owner_held T.row Q.row self.entry result) }

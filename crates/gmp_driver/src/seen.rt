@@ -6,12 +6,13 @@ use crate::act::Value;
 use crate::registers::Registers;
 use gmp_base::{PNo, Readiness};
 
-/// What the table looks at beside the place.
+/// What the table looks at beside the place. Plain and copied, so that the table has neither bodies nor owners in it, and no type
+/// parameter.
 #[derive(Clone, Copy, Debug, PartialEq, Eq)]
 pub struct Seen {
     /// The number of processors.
     pub procs: u8,
-    /// Whether another machine is to be woken for what was found.
+    /// Whether another machine is to be woken for what was found, before the next claim.
     pub fresh: bool,
     /// Claims since the last tick, up to 16.
     pub turns: u8,
@@ -24,6 +25,7 @@ pub struct Seen {
 }
 
 impl Seen {
+    /// What is to be seen of these registers.
     #[inline(always)]
     pub(crate) fn of<T, Q>(procs: u8, fresh: bool, turns: u8, hand: &Registers<T, Q>) -> Self
         ensures { result ≡ seen_of procs fresh turns hand.now }

@@ -1,4 +1,7 @@
-//! The table of a machine's program.
+//! The table of a machine's program: the act at each place (`act_at`), where what came of it leads (`go_on`, with `go_on_by` for a reply),
+//! and what becomes of `fresh` and `turns`. Each row is an equation with the definition's.
+//!
+//! Rows write the place where it stands, and don't answer one: a place may carry a select's cases, and to answer it copies all of them.
 ghost use Rattle.std.specs.Prelude.{◌≡◌, ◌≤◌};
 ghost use Rattle.gmp_base.specs.declared.ask.Ask.{Ask};
 ghost use Rattle.gmp_driver.specs.declared.act.Told.TheVariants as Told;
@@ -15,7 +18,7 @@ use crate::seen::Seen;
 use gmp_base::{Ask, PNo, Readiness, Refusal};
 use gmp_seq::{Call, Reply};
 
-/// The call that stands for an ask.
+/// The call that stands for an ask. Each ask is one call; the calls that are left are the machine's own.
 #[inline(always)]
 fn call_for(ask: &Ask) -> Call
     ensures { result ≡ table.call_for ask.now }
@@ -43,7 +46,7 @@ fn call_for(ask: &Ask) -> Call
     }
 }
 
-/// Puts this ticket onto the shelf.
+/// Puts this ticket onto the shelf. That there is one follows from the place.
 #[inline(always)]
 fn put_call(ticket: Option<Readiness>) -> Act
     ensures { result ≡ table.put_call ticket }
@@ -54,7 +57,7 @@ fn put_call(ticket: Option<Readiness>) -> Act
     }
 }
 
-/// Claims this ticket.
+/// Claims this ticket. That there is one follows from the place.
 #[inline(always)]
 fn claim_call(ticket: Option<Readiness>) -> Act
     ensures { result ≡ table.claim_call ticket }
@@ -73,6 +76,7 @@ pub(crate) fn act_at(here: &Place, seen: Seen) -> Act
 {
     match here {
         Place::Start => Act::Call(Call::Acquire),
+        // Counted in claims: to count in time a machine would have to read the clock at each look.
         Place::Look if seen.turns >= 16 => Act::Clock(None),
         Place::Look => Act::Pop,
         Place::Ticking(now) => Act::Call(Call::Tick(*now)),
@@ -156,7 +160,7 @@ pub(crate) fn ask_on(here: &mut Place, ask: Ask)
     }
 }
 
-/// Whether more processors are active than before.
+/// Whether more processors are active than before: then there may be work that waited for one.
 fn raised(before: u64, ask: &Ask) -> bool
     ensures { result ≡ table.raised before ask.now }
 {
@@ -173,6 +177,7 @@ fn go_on_asked(here: &mut Place, reply: &Reply)
     ensures { (asked : Ask) → here.old ≡ Place.Do asked → here.new ≡ table.after_ask asked reply.now }
 {
     match (&*here, reply) {
+        // The goroutine is gone from this machine, or goes on: with a ticket to store, with somebody to wake, or as it was.
         (_, Reply::Waits | Reply::Shelved(_) | Reply::Dead) => *here = Place::Look,
         (_, Reply::MainEnded) => *here = Place::Over,
         (_, Reply::Entered(_, _)) => *here = Place::Block,
@@ -194,7 +199,7 @@ pub(crate) fn scanned(procs: u8, v: PNo) -> Place
     }
 }
 
-/// Goes where this reply leads.
+/// Goes where this reply leads. A reply that is none of the row's leaves the place; none comes.
 #[inline(always)]
 pub(crate) fn go_on_by(here: &mut Place, seen: Seen, reply: &Reply)
     ensures { here.new ≡ table.next_place seen here.old (Told.Replied reply.now) }
@@ -202,6 +207,7 @@ pub(crate) fn go_on_by(here: &mut Place, seen: Seen, reply: &Reply)
     match (&*here, reply) {
         (Place::Start, Reply::Proc(_)) => *here = Place::Look,
         (Place::Start, Reply::Nothing) => *here = Place::Bare,
+        // With one processor that one is always active, and there is nobody to steal from: no Keep, and no Hunt below.
         (Place::Ticking(_), Reply::Woke(_)) if seen.procs == 1 => *here = Place::Look,
         (Place::Ticking(_), Reply::Woke(_)) => *here = Place::Keep,
         (Place::Global, Reply::Ticket(_)) => *here = Place::Claim,
@@ -216,6 +222,7 @@ pub(crate) fn go_on_by(here: &mut Place, seen: Seen, reply: &Reply)
             let (v, goal) = (*v, *goal);
             steal_on(here, v, goal);
         }
+        // A hunt ends here with or without a ticket.
         (Place::Unspin, Reply::Done) if seen.to_claim.is_some() => *here = Place::Claim,
         (Place::Unspin, Reply::Done) => *here = Place::Drop,
         (Place::Claim, Reply::Wakes(_) | Reply::Nothing) => *here = Place::Claim,
@@ -225,11 +232,13 @@ pub(crate) fn go_on_by(here: &mut Place, seen: Seen, reply: &Reply)
         (Place::Poke, Reply::Wakes(_) | Reply::Nothing) => *here = Place::Run,
         (Place::Leave(_), Reply::Runs(_)) => *here = Place::Run,
         (Place::Leave(_), Reply::Shelved(_)) => *here = Place::Bare,
+        // Both ways of having no processor lead to the last look at all queues.
         (Place::Drop, Reply::Idle(_)) => *here = Place::Scan(PNo(0)),
         (Place::Bare, Reply::Done) => *here = Place::Scan(PNo(0)),
         (Place::Have, Reply::Proc(_)) => *here = Place::Claim,
         (Place::Have, Reply::Nothing) => *here = Place::PutHave,
         (Place::PutHave, Reply::Shelf) => *here = Place::Bare,
+        // Work, a deadline and a mark each keep the machine awake: only `Parked` leads to Rest.
         (Place::Park, Reply::Parked) => *here = Place::Rest,
         (Place::Park, Reply::Work) => *here = Place::Start,
         (Place::Park, Reply::Mind(deadline)) => *here = Place::Mind(*deadline),
@@ -242,7 +251,8 @@ pub(crate) fn go_on_by(here: &mut Place, seen: Seen, reply: &Reply)
     }
 }
 
-/// Goes where what came of the act leads.
+/// Goes where what came of the act leads. From every place a call that is refused since the run is over leads to Over. A make that had no
+/// memory goes on with the body, which is told so.
 #[inline(always)]
 pub(crate) fn go_on(here: &mut Place, seen: Seen, told: Told)
     requires { 1 ≤ seen.procs }
@@ -274,7 +284,7 @@ pub(crate) fn go_on(here: &mut Place, seen: Seen, told: Told)
     *here = there;
 }
 
-/// Whether another machine is to be woken for what this one found.
+/// Whether another machine is to be woken for what this one found. Only a reply changes it.
 #[inline(always)]
 pub(crate) fn next_fresh(here: &Place, seen: Seen, told: &Told) -> bool
     ensures { result ≡ table.next_fresh seen here.now told.now }
@@ -285,7 +295,8 @@ pub(crate) fn next_fresh(here: &Place, seen: Seen, told: &Told) -> bool
     }
 }
 
-/// Whether another machine is to be woken for what this one found, by a reply.
+/// Whether another machine is to be woken for what this one found, by a reply: it was idle, or found more than it runs itself, or its tick
+/// woke somebody onto the shelf. A poke clears it.
 #[inline(always)]
 pub(crate) fn fresh_by(here: &Place, seen: Seen, reply: &Reply) -> bool
     ensures { result ≡ table.next_fresh seen here.now (Told.Replied reply.now) }
@@ -302,7 +313,7 @@ pub(crate) fn fresh_by(here: &Place, seen: Seen, reply: &Reply) -> bool
     }
 }
 
-/// Claims since the last tick, up to 16.
+/// Claims since the last tick, up to 16, at which the clock is read. Only a reply changes it.
 #[inline(always)]
 pub(crate) fn next_turns(here: &Place, seen: Seen, told: &Told) -> u8
     requires { seen.turns ≤ 16 }

@@ -1,4 +1,8 @@
-//! The goroutines, the channels on which they wait, and who runs on each machine.
+//! The goroutines, the channels on which they wait, and who runs on each machine: `Goroutines`, with the calls that concern the table and
+//! who is woken. What goroutines do with channels stands in goroutines/communicating.rt.
+//!
+//! Go's runtime (proc.go) has the like: `go` is `newproc`, `yield_to` `Gosched`, `exit` `goexit`, `park` `gopark`, `ready` `goready`,
+//! `sleep` `time.Sleep`, `take` `globrunqget`. Goroutines here are numbers and rows: which body each has, and where it is, is known above.
 ghost use Rattle.std.specs.Prelude.{◌≡◌, ◌<◌, ◌≤◌, ◌^◌, ◌++◌, ◌∷◌, [], true, false, Some, IfOk, map, option_copied, length, slice_get};
 ghost use Rattle.std.specs.Option.{option_map_or};
 ghost use Rattle.gmp_base.specs.declared.number.GNo.{GNo};
@@ -31,11 +35,15 @@ use std::alloc::{AllocError, Global};
 use std::marker::Model;
 
 /// A contract sees the table, the shelf in order, the channels, how many channels there may be, and how many machines there are.
+///
+/// Who waits stands twice, as a status in the table and as offers with the channels: definitions read the statuses, and a send must not
+/// look at goroutines. The invariant ties both.
 #[derive(Drop)]
 pub struct Goroutines {
     table: StatusTable,
     channels: Channels,
-    /// The goroutine that each machine ran last, or 0 where it ran none, so that nobody has to look for the one that it runs.
+    /// The goroutine that each machine ran last, or 0 where it ran none, so that nobody has to look for the one that it runs. A note is
+    /// never taken back: whether it still runs, the row says.
     runners: Vec<GNo>,
 }
 
@@ -48,10 +56,13 @@ impl Model for Goroutines {
 
     ghost view = { λ g. record { table = g.table.table; shelf = g.table.shelf; channels = g.channels.channels; limit = g.channels.limit; machines = length g.runners.items } };
 
+    // Who waits with the channels is who waits by the rows, each wait arrived before the next one, who is parked offers nothing, and
+    // whoever a machine runs is noted at it.
     ghost invariant = { λ g. IsTied g.table.table g.channels.waiters g.channels.bodies g.runners.items };
 }
 
-/// Who is woken next, and what it is told.
+/// Who is woken next, and what it is told. Each is asked of who keeps it in order: of a tick the table, by deadline, and of a close the
+/// channels, by arrival. One look at the table for both would look at all goroutines.
 fn next_to_wake(table: &StatusTable, channels: &Channels, wake: Wake) -> Option<Candidate>
     requires same { channels.now.waiters ≡ waiters table.now.table }
     requires early { IsEarly table.now.table }
@@ -81,7 +92,8 @@ fn last_on(runners: &[GNo], m: MNo) -> Option<GNo>
 }
 
 impl Goroutines {
-    /// Goroutine 0 is on the shelf, all others are dormant, and the channels are open and empty.
+    /// Goroutine 0, which is main, is on the shelf, all others are dormant, and the channels are open and empty. It is refused where memory
+    /// is.
     pub fn open(
         alloc: Global,
         machines: u8,
@@ -100,13 +112,14 @@ impl Goroutines {
         })
     }
 
+    /// What g does and how often it became ready, if there is such a goroutine.
     pub fn get(&self, g: GNo) -> Option<&Goroutine>
         ensures { option_copied result ≡ slice_get self.now.table.goroutines g.0 }
     {
         self.table.get(g)
     }
 
-    /// What is stored for g, where it is ready.
+    /// What is stored for g, where it is ready: what it is told when it runs. Done for any other, which has no meaning.
     pub fn stored(&self, g: GNo) -> Woke
         ensures { result ≡ stored_at self.now.table g }
     {
@@ -130,7 +143,7 @@ impl Goroutines {
         self.table.runs(m, g)
     }
 
-    /// Whether m runs some goroutine.
+    /// Whether m runs some goroutine. One row is looked at, by the note of whom it ran last.
     pub fn runs_some(&self, m: MNo) -> bool
         ensures { result ≡ some_status (is_running_on m) self.now.table }
     {
@@ -184,7 +197,7 @@ impl Goroutines {
         self.table.has_astir()
     }
 
-    /// The least deadline, where nobody is ready or running.
+    /// The least deadline, in nanoseconds, where nobody is ready or running: then a machine has to mind it.
     pub fn minded(&self) -> Option<u64>
         ensures { result ≡ minded self.now.table }
     {
@@ -194,7 +207,7 @@ impl Goroutines {
         self.table.least_deadline()
     }
 
-    /// Gives out the ticket of the goroutine that is on the shelf for longest.
+    /// Gives out the ticket of the goroutine that is on the shelf for longest, or says that there is none. The reply is written in place.
     #[inline(always)]
     pub fn take(&mut self, out: &mut Reply)
         ensures takes { Takes out.new self.old.table self.new.table }
@@ -229,7 +242,8 @@ impl Goroutines {
         self.runners[m.0 as usize] = r.g;
     }
 
-    /// Starts a body, whose ticket is given out.
+    /// Starts a body, whose ticket is given out (Go specification, Go statements). A body that isn't there, or was started before, is a
+    /// fault: each runs once.
     pub fn go(&mut self, body: GNo) -> Reply
         requires young { epoch_at self.old.table body < 2 ^ 63 }
         ensures starts { Starts body result self.old.table self.new.table }
@@ -255,7 +269,7 @@ impl Goroutines {
         self.table.requeue(g, Woke::Done)
     }
 
-    /// g, which runs, ends.
+    /// g, which runs, ends. Of main it is told above: the run is over then (Go specification, Program execution).
     pub fn exit(&mut self, g: GNo)
         requires runs { (m : MNo) × IsRunning self.old.table g m }
         ensures table { self.new.table ≡ set_status self.old.table g Status.Dead }
@@ -264,7 +278,8 @@ impl Goroutines {
         self.table.dead(g);
     }
 
-    /// g, which runs, begins to wait, with these offers, until this moment.
+    /// g, which runs, begins to wait, with these offers, until this moment. The arrival is the table's count, later than all before, so
+    /// that the offers go last.
     fn wait(&mut self, g: GNo, kind: Kind, offers: Offers, until: Option<u64>)
         requires runs { (m : MNo) × IsRunning self.old.table g m }
         requires few { self.old.table.arrivals < 2 ^ 63 }
@@ -280,7 +295,7 @@ impl Goroutines {
         self.table.wait(g, kind, offers, until);
     }
 
-    /// g, which runs, waits until this moment, in nanoseconds.
+    /// g, which runs, waits until this moment, in nanoseconds. A moment that is past ends at the next tick.
     pub fn sleep(&mut self, g: GNo, until: u64)
         requires runs { (m : MNo) × IsRunning self.old.table g m }
         requires few { self.old.table.arrivals < 2 ^ 63 }
@@ -290,7 +305,7 @@ impl Goroutines {
         self.wait(g, Kind::Sleep, Offers::new(), Some(until));
     }
 
-    /// g, which runs, waits until it is made ready.
+    /// g, which runs, waits until it is made ready. A ready that comes before is a fault, and isn't kept for it.
     pub fn park(&mut self, g: GNo)
         requires runs { (m : MNo) × IsRunning self.old.table g m }
         requires few { self.old.table.arrivals < 2 ^ 63 }
@@ -300,12 +315,14 @@ impl Goroutines {
         self.wait(g, Kind::Parked, Offers::new(), None);
     }
 
-    /// Makes a goroutine ready that is parked, to be told Done, or answers the fault. Its ticket is given out.
+    /// Makes a goroutine ready that is parked, to be told Done, or answers the fault. Its ticket is given out. One row is looked at and no
+    /// offer taken out: who is parked has none.
     pub fn ready(&mut self, h: GNo) -> Reply
         requires young { epoch_at self.old.table h < 2 ^ 63 }
         ensures readies { Readies h result self.old.table self.new.table }
         ensures rest { self.new ≡ record self.old { table = self.new.table } }
     {
+        // Who is not there can't be parked: that fault comes first.
         let Some(row) = self.table.get(h) else {
             return Reply::Fault(Fault::NoSuchBody);
         };
@@ -315,7 +332,7 @@ impl Goroutines {
         Reply::Ticket(self.table.ready(h, Woke::Done))
     }
 
-    /// g, which m runs, goes into a blocking call, which m makes.
+    /// g, which m runs, goes into a blocking call, which m makes. Its processor is given up elsewhere.
     pub fn enter(&mut self, m: MNo, g: GNo)
         requires runs { IsRunning self.old.table g m }
         ensures table { self.new.table ≡ set_status self.old.table g (Status.Calling m) }
@@ -324,7 +341,7 @@ impl Goroutines {
         self.table.enter(m, g);
     }
 
-    /// g comes back from the blocking call that m makes, and runs on.
+    /// g comes back from the blocking call that m makes, and runs on, since m found a processor.
     pub fn run_on(&mut self, m: MNo, g: GNo)
         requires calls { IsCalling self.old.table g m }
         requires free { RunsNothing self.old.table m }
@@ -336,7 +353,7 @@ impl Goroutines {
         self.runners[m.0 as usize] = g;
     }
 
-    /// g comes back from the blocking call that m makes, and goes onto the shelf, last, to be told the number.
+    /// g comes back from the blocking call that m makes, and goes onto the shelf, last, to be told the number: m found no processor.
     pub fn come_back(&mut self, m: MNo, g: GNo, number: u64) -> Readiness
         requires calls { IsCalling self.old.table g m }
         requires young { epoch_at self.old.table g < 2 ^ 63 }
@@ -347,7 +364,8 @@ impl Goroutines {
         self.table.requeue(g, Woke::Number(number))
     }
 
-    /// Wakes all these onto the shelf, one after another, and counts them.
+    /// Wakes all these onto the shelf, one after another, and counts them. The next one is asked for each time, so nothing is gathered or
+    /// sorted, and no memory is taken. Each that is woken waits no more, on no channel, so the loop ends.
     fn wake_all(&mut self, wake: Wake) -> u64
         requires young { (g : GNo) → epoch_at self.old.table g < 2 ^ 63 }
         ensures table { self.new.table ≡ all_woken (answer_of wake) self.old.table }
@@ -355,6 +373,7 @@ impl Goroutines {
         ensures order { WokenLast wake self.old.table self.old.shelf self.new.shelf }
         ensures rest { self.new ≡ record self.old { table = self.new.table; shelf = self.new.shelf } }
     {
+        // Each that is woken becomes ready, so the count is at most that of the goroutines, and fits.
         let bodies = u64::from(self.table.len());
         let mut count = 0;
         while let Some(next) = next_to_wake(&self.table, &self.channels, wake) {
@@ -366,14 +385,15 @@ impl Goroutines {
         count
     }
 
-    /// Lets the clock show this moment, in nanoseconds, unless it showed a later one. All that wait until then or a moment before
-    /// go onto the shelf, by their deadlines, and then by their arrivals. It counts them.
+    /// Lets the clock show this moment, in nanoseconds, unless it showed a later one. All that wait until then or a moment before go onto
+    /// the shelf, by their deadlines, and then by their arrivals. It counts them. A sleep is told Done, a select that it is late.
     pub fn tick(&mut self, moment: u64) -> u64
         requires young { (g : GNo) → epoch_at self.old.table g < 2 ^ 63 }
         ensures ticks { Ticks moment (Reply.Woke result) self.old.table self.new.table }
         ensures order { WokenLast (Wake.Due self.new.table.clock) self.old.table self.old.shelf self.new.shelf }
         ensures rest { self.new ≡ record self.old { table = self.new.table; shelf = self.new.shelf } }
     {
+        // By the clock, and not by the moment that was told: an earlier one wakes nobody who wasn't due.
         let now = self.table.advance_clock(moment);
         self.wake_all(Wake::Due(now))
     }

@@ -1,8 +1,9 @@
-//! Calls and replies in 16 bytes.
+//! Calls and replies in 16 bytes each: `BriefCall`, `BriefReply`, the `Row` of an entry, and `Choosing`, what a select asks, which lies
+//! apart. Variants are those of `Call` and `Reply` of gmp_seq, and mean the same.
 
 use gmp_base::{CNo, Cases, Fault, GNo, MNo, PNo};
 
-/// What a select asks.
+/// What a select asks: 136 bytes of cases, and so wider than all else that is asked.
 #[derive(Debug, Drop)]
 pub(crate) struct Choosing {
     pub(crate) cases: Cases,
@@ -10,7 +11,8 @@ pub(crate) struct Choosing {
     pub(crate) until: Option<u64>,
 }
 
-/// A call. Each variant has 16 bytes at most: a readiness is a number and an epoch, side by side.
+/// A call. Each variant has 16 bytes at most: a readiness is a number and an epoch, side by side, since a `Readiness` alone has 16, which
+/// leave no room for the variant's mark.
 #[derive(Clone, Copy, Debug, PartialEq, Eq)]
 pub enum BriefCall {
     Acquire,
@@ -26,7 +28,7 @@ pub enum BriefCall {
     Close(Option<CNo>),
     Len(Option<CNo>),
     Cap(Option<CNo>),
-    /// The number of its choosing.
+    /// The number of its choosing, from 0.
     Select(u32),
     Sleep(u64),
     Procs(u8),
@@ -45,7 +47,7 @@ pub enum BriefCall {
     Tick(u64),
 }
 
-/// A reply. A sender that a receive served has a number of its own.
+/// A reply. A sender that a receive served has a number of its own, from 0, and whether one was served is told by the variant.
 #[derive(Clone, Copy, Debug, PartialEq, Eq)]
 pub enum BriefReply {
     Proc(PNo),
@@ -86,7 +88,7 @@ pub enum BriefReply {
     Fault(Fault),
 }
 
-/// An entry.
+/// An entry: 16 bytes of machine and number, 16 of call, 16 of reply.
 #[derive(Clone, Copy, Debug, PartialEq, Eq)]
 pub(crate) struct Row {
     pub(crate) m: MNo,

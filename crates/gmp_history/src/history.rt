@@ -1,4 +1,4 @@
-//! The history.
+//! The history: its rows, made brief, beside the vectors of what is wide. Entries are added at the end and never changed.
 ghost use Rattle.std.specs.Prelude.{◌≡◌, ◌<◌, ◌≤◌, ◌-◌, ◌^◌, ◌↔◌, IsTrue, [], ◌∷◌, ◌++◌, length, slice_get, true, false, Some, IfNone, IfOk, IfSome, IsOk, OnOk};
 ghost use Rattle.gmp_seq.specs.declared.call.Entry.{Entry};
 ghost use Rattle.gmp_seq.specs.Fits.{Fits};
@@ -14,12 +14,16 @@ use std::marker::Model;
 
 /// A list of entries. A contract sees the list, and for how many there is room.
 ///
-/// Only `with_room`, `make_room` and `of` take memory. What is not written is not touched.
+/// Only `with_room`, `make_room` and `of` take memory. What is not written is not touched: to write to each page at the opening would cost
+/// the same, and a run that ends early would pay for its limit.
 #[derive(Debug, Drop)]
 pub struct History {
     rows: Vec<Row>,
+    /// What selects asked, in order.
     choosings: Vec<Choosing>,
+    /// Whom receives served, in order.
     relays: Vec<Relay>,
+    /// For how many entries there is room, in each of the three.
     room: u32,
 }
 
@@ -32,6 +36,8 @@ impl Model for History {
 
     ghost view = { λ h. record { list = entries_of h.choosings.items h.relays.items h.rows.items; room = h.room } };
 
+    // Each number that a row has is one of its vector, which has no more than there are rows, and in each of the three there is room for as
+    // many entries as `room` says.
     ghost invariant = { λ h. IsHistory h.rows.items h.choosings.items h.relays.items h.room (vec_capacity h.rows) (vec_capacity h.choosings) (vec_capacity h.relays) };
 }
 
@@ -43,7 +49,7 @@ fn row_at(rows: &[Row], place: usize) -> Option<Row>
 }
 
 impl History {
-    /// No entry, and room for so many.
+    /// No entry, and room for so many, whatever they are: as many places for each of the three vectors, 240 bytes an entry.
     pub fn with_room(alloc: Global, room: u32) -> Result<Self, AllocError>
         ensures { IfOk result (λ h. h ≡ record { list = []; room = room }) }
     {
@@ -67,7 +73,7 @@ impl History {
         }
     }
 
-    /// These entries.
+    /// These entries, copied. It is refused where memory is.
     pub fn of(alloc: Global, entries: &[Entry]) -> Result<Self, AllocError>
         ensures { IfOk result (λ h. h.list ≡ entries.now) }
     {
@@ -79,7 +85,8 @@ impl History {
         Ok(history)
     }
 
-    /// Makes room for one more, by memory where that is wanted. It is refused where memory is, and behind 4,294,967,295 entries.
+    /// Makes room for one more, by memory where that is wanted. It is refused where memory is, and behind 4,294,967,295 entries. For
+    /// readers of a trace, which don't know how many come; a book has its room from the opening.
     pub fn make_room(&mut self) -> Result<(), AllocError>
         ensures list { self.new.list ≡ self.old.list }
         ensures ok { OnOk result (length self.new.list < self.new.room) }
@@ -91,6 +98,8 @@ impl History {
         if len >= u32::MAX as usize {
             return Err(AllocError);
         }
+        // Each of the three may be the one that the next entry needs. Refused, some may have more room than before, and no entry has
+        // changed.
         self.rows.reserve(1)?;
         self.choosings.reserve(1)?;
         self.relays.reserve(1)?;
@@ -113,7 +122,7 @@ impl History {
         self.rows.is_empty()
     }
 
-    /// Adds an entry at the end.
+    /// Adds an entry at the end. The parts are copied from where they lie.
     #[inline(always)]
     pub fn push(&mut self, m: MNo, k: u64, call: &Call, reply: &Reply)
         requires { length self.old.list < self.old.room }
@@ -123,7 +132,8 @@ impl History {
         self.add(m, k, call, reply, false);
     }
 
-    /// The same. Of a call that is known to be plain, which is no select, no wide arm is compiled in.
+    /// The same. Of a call that is known to be plain, which is no select, no wide arm is compiled in: told as a constant, `is_plain`
+    /// decides the match when the program is compiled.
     #[inline(always)]
     pub fn add(&mut self, m: MNo, k: u64, call: &Call, reply: &Reply, is_plain: bool)
         requires room { length self.old.list < self.old.room }
@@ -131,6 +141,7 @@ impl History {
         ensures list { self.new ≡ record self.old { list = self.old.list ++ record { m = m; k = k; call = call.now; reply = reply.now } ∷ [] } }
         ensures fits { Fits (record { m = m; k = k; call = call.now; reply = reply.now }) }
     {
+        // What is wide goes first, so that the row has its number.
         let call = brief_call(&mut self.choosings, call, is_plain);
         let reply = brief_reply(&mut self.relays, reply);
         self.rows.push_reserved(Row { m, k, call, reply });
@@ -148,7 +159,8 @@ impl History {
         }
     }
 
-    /// The machine of the last entry, its call and its reply in brief, if there is one.
+    /// The machine of the last entry, its call and its reply in brief, if there is one. For whoever looks at each entry as it is made, and
+    /// needs no cases.
     #[inline(always)]
     pub fn last_brief(&self) -> Option<(MNo, BriefCall, BriefReply)>
         ensures some { IfSome result (λ b. (e : Entry) × (slice_get self.now.list (length self.now.list - 1) ≡ Some e) × IsBriefOf b e) }
@@ -164,10 +176,11 @@ impl History {
     pub fn last(&self) -> Option<Entry>
         ensures { result ≡ slice_get self.now.list (length self.now.list - 1) }
     {
+        // Of none the place is beyond all, where there is no entry.
         self.get(self.rows.len().wrapping_sub(1))
     }
 
-    /// The entry at this place, if there is one.
+    /// The entry at this place, from 0, if there is one. It is made whole, and a select's cases are copied.
     #[inline(always)]
     pub fn get(&self, place: usize) -> Option<Entry>
         ensures { result ≡ slice_get self.now.list place }

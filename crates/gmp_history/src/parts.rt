@@ -1,4 +1,6 @@
-//! A call and a reply made brief, and whole again.
+//! A call and a reply made brief (`brief_call`, `brief_reply`), and whole again (`whole_call`, `whole_reply`): one arm for each variant,
+//! and the second undoes the first. What is wide stands in functions that are not inlined, so that whoever adds or reads a narrow entry
+//! pays for none of it.
 ghost use Rattle.std.specs.Prelude.{◌≡◌, true, false, All, IfSome, ◌<◌, ◌≤◌, ◌^◌, ◌∷◌, ◌++◌, [], length, slice_get, vec_capacity};
 ghost use Rattle.gmp_base.specs.Fits.{IsChannelNumber, IsWord, FitsCase};
 ghost use Rattle.gmp_seq.specs.Fits.{FitsCall, FitsReadiness, FitsRelay, FitsReply, IsGoroutineNumber, IsMachineNumber, IsProcessorNumber};
@@ -8,8 +10,10 @@ use crate::brief::{BriefCall, BriefReply, Choosing};
 use gmp_base::{CNo, Cases, GNo, MNo, PNo, Readiness};
 use gmp_seq::{Call, Relay, Reply, Taken};
 
-// That a number is within its type is known of a value that is handed over, and not of one behind a reference. So each is handed over.
+// That a number is within its type is known of a value that is handed over, and not of one behind a reference. So each is handed over, to
+// one of the functions below, which do nothing else and cost nothing: that entries fit their types is known from here on.
 
+/// A readiness, and that its numbers fit.
 #[inline(always)]
 fn ready(r: Readiness) -> Readiness
     ensures same { result ≡ r }
@@ -34,6 +38,7 @@ fn channel(c: CNo) -> CNo
     c
 }
 
+/// A channel's number or nil, and that it fits.
 #[inline(always)]
 fn channel_or_nil(c: Option<CNo>) -> Option<CNo>
     ensures same { result ≡ c }
@@ -61,6 +66,7 @@ fn machine(m: MNo) -> MNo
     m
 }
 
+/// A machine's number or none, and that it fits.
 #[inline(always)]
 fn machine_or_none(m: Option<MNo>) -> Option<MNo>
     ensures same { result ≡ m }
@@ -72,6 +78,7 @@ fn machine_or_none(m: Option<MNo>) -> Option<MNo>
     }
 }
 
+/// A moment in nanoseconds or none, and that it fits 64 bits.
 #[inline(always)]
 fn moment_or_none(until: Option<u64>) -> Option<u64>
     ensures same { result ≡ until }
@@ -144,6 +151,7 @@ pub(crate) fn brief_call(choosings: &mut Vec<Choosing>, call: &Call, is_plain: b
         Call::Close(c) => BriefCall::Close(channel_or_nil(*c)),
         Call::Len(c) => BriefCall::Len(channel_or_nil(*c)),
         Call::Cap(c) => BriefCall::Cap(channel_or_nil(*c)),
+        // With this line before the next one, a plain call's code has nothing of a select.
         Call::Select(_, _, _) if is_plain => unreachable!(),
         Call::Select(cases, has_default, until) => BriefCall::Select(chosen(
             choosings,
@@ -176,11 +184,12 @@ fn select_in(choosings: &[Choosing], number: u32) -> Call
 {
     match choosings.get(number as usize) {
         Some(x) => Call::Select(x.cases.copied(), x.has_default, x.until),
+        // No row of a history has such a number; the definition says the same, so that the equation holds of any.
         None => Call::Acquire,
     }
 }
 
-/// The call that was made brief.
+/// The call that was made brief. A number of no choosing, which a history doesn't have, is read as some call.
 #[inline(always)]
 pub(crate) fn whole_call(choosings: &[Choosing], brief: BriefCall) -> Call
     ensures { result ≡ call_of choosings.now brief }
@@ -218,7 +227,8 @@ pub(crate) fn whole_call(choosings: &[Choosing], brief: BriefCall) -> Call
     }
 }
 
-/// The number that a sender gets, which goes last among those that were served.
+/// The number that a sender gets, which goes last among those that were served. Apart, since a receive that serves nobody is the common
+/// one.
 #[inline(never)]
 fn numbered(relays: &mut Vec<Relay>, from: Relay) -> u32
     requires room { length relays.old.items < vec_capacity relays.old }
@@ -265,6 +275,7 @@ pub(crate) fn brief_reply(relays: &mut Vec<Relay>, reply: &Reply) -> BriefReply
             let r = ready(*r);
             BriefReply::SentTo(r.g, r.epoch)
         }
+        // A receive that serves nobody takes no number: most do, and then nothing is written beside the row.
         Reply::Got(v, sent, None) => BriefReply::Got(*sent, *v),
         Reply::Got(v, sent, Some(from)) => BriefReply::GotFrom(*sent, numbered(relays, *from), *v),
         Reply::Waits => BriefReply::Waits,

@@ -1,4 +1,9 @@
-//! Machines, the processors that they hold, how many of these are active, and which machines spin.
+//! Machines, the processors that they hold, how many of these are active, and which machines spin or are marked: one value, since most
+//! calls change two of these together.
+//!
+//! Go's runtime (proc.go) has the like: `acquire` is `pidleget` with `acquirep`, `declare` `releasep` with `pidleput`, `poke` `wakep`,
+//! `park` `stopm`, `enter` `entersyscallblock`, `leave` `exitsyscall`, `spin` and `unspin` the count `nmspinning`. Go's lists of idle Ps
+//! and Ms are stacks; here the least number is taken.
 ghost use Rattle.std.specs.Prelude.{◌≡◌, true, ◌⊎◌, ◌≤◌, ◌==◌, ◌&&◌, false, None, Some, ◌<◌, length, is_none, position, replicate, slice_get, IfNone, IfOk, IfSome};
 ghost use Rattle.std.specs.Option.{option_map_or};
 ghost use Rattle.gmp_base.specs.declared.number.Readiness.{Readiness};
@@ -17,13 +22,15 @@ use std::marker::Model;
 
 /// Who holds each processor, how many are active, what each machine does, which of them spin, and which are marked.
 ///
-/// A machine holds one processor at most.
+/// A machine holds one processor at most. Spinning is looking for work at others, which uses a processor's time, so its number is bounded.
+/// A mark says that what a machine saw of the queues may be old: whoever is marked looks once more before it parks.
 #[derive(Drop)]
 pub struct Machines {
     processors: Processors,
     modes: Modes,
     /// Those that hold a processor.
     holding: SmallSet,
+    /// Those that look for work at others.
     spinning: SmallSet,
     /// Those that are to look at all queues once more before they park.
     marked: SmallSet,
@@ -40,6 +47,8 @@ impl Model for Machines {
 
     ghost view = { λ w. record { holders = w.processors; modes = w.modes; spinning = w.spinning; marked = w.marked; active = w.active } };
 
+    // A machine holds one processor where its flag says so, and else none; one in a blocking call holds none; there is a flag of each kind
+    // for each machine.
     ghost invariant = { λ w. HaveFlags w.processors w.modes w.holding w.spinning × (length w.marked ≡ length w.modes) };
 }
 
@@ -145,14 +154,15 @@ impl Machines {
         self.holding.contains(m.0)
     }
 
-    /// Whether an active processor is idle.
+    /// Whether an active processor is idle, so that somebody could be woken to use it.
     pub fn has_idle(&self) -> bool
         ensures { result ≡ some_idle self.now }
     {
         self.processors.has_idle(self.active)
     }
 
-    /// Whether the processor that m holds is active. The cost is linear in the processors.
+    /// Whether the processor that m holds is active. The cost is linear in the processors: it is asked after a tick alone, and no list says
+    /// which one m holds.
     pub fn keep(&self, m: MNo) -> bool
         requires awake { IsAwake self.now m }
         requires holds { has_processor self.now m ≡ true }
@@ -165,10 +175,12 @@ impl Machines {
     fn is_good(&self, n: u8) -> bool
         ensures { result ≡ is_good_number self.now n }
     {
+        // With none active nobody could run the goroutine that asked.
         1 <= n && n as usize <= self.processors.len()
     }
 
-    /// So many processors are active from now on, if there are as many. The answer is how many were.
+    /// So many processors are active from here on, if there are as many and at least one. The answer is how many were. Who holds one that
+    /// is active no more keeps it until it asks (`keep`): nobody is stopped.
     pub fn set_active(&mut self, n: u8) -> Option<u8>
         ensures { Sets n (procs_reply result) self.old self.new }
     {
@@ -180,19 +192,20 @@ impl Machines {
         Some(before)
     }
 
-    /// Lets m, which holds none, hold the least idle processor, where it is active.
+    /// Lets m, which holds none, hold the least idle processor, where it is active. None is an answer, and not a wait.
     pub fn acquire(&mut self, m: MNo) -> Option<PNo>
         requires awake { IsAwake self.old m }
         requires bare { has_processor self.old m ≡ false }
         ensures acquires { Acquires m (acquire_reply result) self.old self.new }
         ensures least { IfSome result (λ p. position is_none self.old.holders ≡ Some p.0) }
     {
+        // Refused, nothing has changed: `holding` is written where there is a processor.
         let p = self.processors.take(m, self.active)?;
         self.holding.insert(m.0);
         Some(p)
     }
 
-    /// Nobody holds p from now on, which m held.
+    /// Nobody holds p from here on, which m held.
     fn release(&mut self, m: MNo, p: PNo)
         requires { Holds self.old m p }
         ensures idle { self.new ≡ set_holder self.old p None }
@@ -211,7 +224,7 @@ impl Machines {
         self.marked.remove(m.0);
     }
 
-    /// m, which holds no processor, is marked no more.
+    /// m, which holds no processor, is marked no more: it is about to look at all queues.
     pub fn bare(&mut self, m: MNo)
         requires { IsBare self.old m }
         ensures { Bares m Reply.Done self.old self.new }
@@ -219,7 +232,7 @@ impl Machines {
         self.unmark(m)
     }
 
-    /// m gives up p, which it holds, and is marked no more.
+    /// m gives up p, which it holds, and is marked no more: it is about to look at all queues.
     pub fn declare(&mut self, m: MNo, p: PNo)
         requires calm { spins self.old m ≡ false }
         requires holds { Holds self.old m p }
@@ -229,7 +242,8 @@ impl Machines {
         self.unmark(m)
     }
 
-    /// m has nothing to do, and is to be woken.
+    /// m has nothing to do, and is to be woken by a `poke` or an `enter`. Whether there is work after all, or m is marked, was asked
+    /// before.
     pub fn park(&mut self, m: MNo)
         requires { IsAwake self.old m }
         ensures { self.new ≡ set_mode self.old m Mode.Parked }
@@ -237,8 +251,9 @@ impl Machines {
         self.modes.put(m, Mode::Parked);
     }
 
-    /// m goes into a blocking call, and gives up p, which it holds. The least parked machine wakes, where one is parked, and all that are awake
-    /// then are marked.
+    /// m goes into a blocking call, and gives up p, which it holds (Scalable Go Scheduler Design Doc, Syscalls/M Parking and Unparking).
+    /// The least parked machine wakes, where one is parked, and all that are awake then are marked, the one that wakes too: m may have
+    /// pushed onto its queue what they have passed.
     pub fn enter(&mut self, m: MNo, p: PNo) -> Option<MNo>
         requires awake { IsAwake self.old m }
         requires holds { Holds self.old m p }
@@ -248,17 +263,20 @@ impl Machines {
         self.release(m, p);
         let woken = self.modes.wake_least();
         self.modes.put(m, Mode::Calling);
+        // One copy, since whoever is marked is awake. To mark the woken one alone would let another park that has looked already.
         self.marked = self.modes.awake();
         woken
     }
 
-    /// m comes back from its blocking call, and holds the least idle processor, where it is active.
+    /// m comes back from its blocking call, and holds the least idle processor, where it is active. Where it gets none it holds none, and
+    /// its goroutine goes onto the shelf.
     pub fn leave(&mut self, m: MNo) -> Option<PNo>
         requires { slice_get self.old.modes m.0 ≡ Some Mode.Calling }
         ensures runs { IfSome result (λ p. Returns m (Reply.Runs p) self.old self.new) }
         ensures shelved { IfNone result ((r : Readiness) → Returns m (Reply.Shelved r) self.old self.new) }
         ensures least { IfSome result (λ p. position is_none self.old.holders ≡ Some p.0) }
     {
+        // Awake first, since only who is awake may hold a processor; without one it stays awake, and looks at the queues.
         self.modes.put(m, Mode::Awake);
         self.acquire(m)
     }
@@ -270,7 +288,8 @@ impl Machines {
         !self.spinning.contains(m.0) && self.spinning.len() < self.active as usize
     }
 
-    /// m begins to look for work, unless it does already or as many do as processors are active. The answer is whether it begins.
+    /// m begins to look for work, unless it does already or as many do as processors are active (Scalable Go Scheduler Design Doc,
+    /// Syscalls/M Parking and Unparking). The answer is whether it begins.
     pub fn spin(&mut self, m: MNo) -> bool
         requires { IsAwake self.old m }
         ensures { Spins m (Reply.Answer result) self.old self.new }
@@ -282,7 +301,7 @@ impl Machines {
         true
     }
 
-    /// m doesn't look for work from now on.
+    /// m doesn't look for work from here on. It need not have.
     pub fn unspin(&mut self, m: MNo)
         requires { IsAwake self.old m }
         ensures { Unspins m Reply.Done self.old self.new }
@@ -297,7 +316,8 @@ impl Machines {
         self.spinning.is_empty() && self.has_idle()
     }
 
-    /// m wakes the least parked machine, where nobody spins and an active processor is idle.
+    /// m wakes the least parked machine, where nobody spins and an active processor is idle. Where somebody spins, that one finds the work.
+    /// A machine that is only about to park isn't told: to wait for it would hold up who has work.
     pub fn poke(&mut self, m: MNo) -> Option<MNo>
         requires { IsAwake self.old m }
         ensures pokes { Pokes m (poke_reply result) self.old self.new }
@@ -309,7 +329,7 @@ impl Machines {
         self.modes.wake_least()
     }
 
-    /// Whether m, which is not in a blocking call, is awake.
+    /// Whether m, which is not in a blocking call, is awake: a parked machine asks it until another has woken it.
     pub fn woken(&self, m: MNo) -> bool
         requires { IsAwake self.now m ⊎ IsParked self.now m }
         ensures { Looks m (Reply.Answer result) self.now self.now }

@@ -1,4 +1,4 @@
-//! Processors, and the machines that hold them.
+//! Processors, and the machines that hold them (Scalable Go Scheduler Design Doc, Processors).
 ghost use Rattle.std.specs.Prelude.{◌≡◌, ◌≤◌, ◌<◌, false, None, is_none, length, replicate, take, slice_get, slice_set, IfOk};
 ghost use Rattle.std.specs.List.{list_any};
 ghost use Rattle.std.specs.Option.{option_map_or};
@@ -28,6 +28,7 @@ impl Model for Processors {
 
     ghost view = { λ w. w.holders.items };
 
+    // Idle are those that nobody holds, and no others.
     ghost invariant = { λ w. w.idle ≡ map is_none w.holders.items };
 }
 
@@ -44,19 +45,21 @@ impl Processors {
         })
     }
 
+    /// The holders, by processor.
     pub(crate) fn as_slice(&self) -> &[Option<MNo>]
         ensures { result.now ≡ self.now }
     {
         &self.holders
     }
 
+    /// How many processors there are, active or not.
     pub(crate) fn len(&self) -> usize
         ensures { result ≡ length self.now }
     {
         self.holders.len()
     }
 
-    /// Whether nobody holds some processor below `active`.
+    /// Whether nobody holds some processor below `active`. The least of all tells it: where that isn't below, none is.
     pub(crate) fn has_idle(&self, active: u8) -> bool
         ensures { result ≡ list_any is_none (take active self.now) }
     {
@@ -86,10 +89,12 @@ impl Processors {
             .any(|holder| matches!(holder, Some(n) if m.0 == n.0))
     }
 
-    /// Lets m hold the least idle processor, where it is below `active`.
+    /// Lets m hold the least idle processor, where it is below `active`. That is the least of the active ones too, which have the least
+    /// numbers.
     pub(crate) fn take(&mut self, m: MNo, active: u8) -> Option<PNo>
         ensures { TakesLeast m active result self.old self.new }
     {
+        // The least of all: where it isn't active, no active one is idle.
         let p = self.idle.least()?;
         if p >= active {
             return None;
@@ -99,7 +104,7 @@ impl Processors {
         Some(PNo(p))
     }
 
-    /// Nobody holds p from now on.
+    /// Nobody holds p from here on.
     pub(crate) fn release(&mut self, p: PNo)
         requires { p.0 < length self.old }
         ensures { self.new ≡ slice_set self.old p.0 None }

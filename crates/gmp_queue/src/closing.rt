@@ -1,4 +1,4 @@
-//! Takes what is left in a queue.
+//! Takes what is left in a queue, once its machines are done. It needs all ends of the queue, so no other thread is at it.
 ghost use Rattle.std.specs.Prelude.{◌≡◌, [], IfErr, IfOk};
 ghost use Rattle.gmp_queue.specs.Queue.{FoundNone};
 ghost use Rattle.gmp_queue.specs.Ends.{owner_view, AreTheEnds, SameOwner};
@@ -8,8 +8,11 @@ use crate::ends::{Owner, Thief};
 use gmp_base::GNo;
 use std::alloc::AllocError;
 
-/// Appends what is left in the queue, in order. Where memory runs out the ends come back, with the rest in the queue, and what
-/// was appended stays.
+/// Appends what is left in the queue, in order. Where memory runs out the ends come back, with the rest in the queue, and what was appended
+/// stays. It waits for nobody, since it has every end.
+///
+/// It drains, takes in what the thieves know, and drains again. To take that in first would leave no thieves to give back where memory is
+/// refused at a ticket.
 pub fn close(
     mut owner: Owner,
     mut thieves: Vec<Thief>,
@@ -30,7 +33,8 @@ pub fn close(
     }
 }
 
-// Takes tickets until the queue is empty or memory runs out.
+// Takes tickets until the queue is empty or memory runs out. The loop ends since nobody pushes: the owner is here. Room for a ticket is
+// there before it is popped, so that none is out of the queue with no place to go.
 fn drain(owner: &mut Owner, out: &mut Vec<(GNo, u64)>) -> Result<(), AllocError>
     ensures same { SameOwner owner.old owner.new }
     ensures drains { Drains (owner_view owner.old) (owner_view owner.new) out.old.items out.new.items }
@@ -46,7 +50,8 @@ fn drain(owner: &mut Owner, out: &mut Vec<(GNo, u64)>) -> Result<(), AllocError>
     }
 }
 
-// The owner takes in all that its thieves have taken, and their parts.
+// The owner takes in all that its thieves have taken, and their parts. The loop ends with the last of them, and waits for none: each was
+// handed over.
 fn gather(owner: &mut Owner, thieves: &mut Vec<Thief>)
     requires { AreTheEnds owner.old thieves.old.items }
     ensures same { SameOwner owner.old owner.new }

@@ -1,4 +1,7 @@
-//! The two ends of a local queue.
+//! The two ends of a local queue: `Owner`, of which there is one, and `Thief`; `Stole` is what a steal answers.
+//!
+//! A ticket's run isn't in the slots, which have goroutine and epoch alone: it is the end's, and a ticket comes out with it. So a ticket of
+//! another run is refused at the push, where its run would else be changed.
 ghost use Rattle.std.specs.Prelude.{◌≡◌, ◌<◌, true};
 ghost use Rattle.crossbeam_deque.specs.Handles.{view, IsPassOf, worker_view, worker_flavor, stealer_deque, stealer_flavor};
 
@@ -9,22 +12,28 @@ use std::alloc::{AllocError, Global};
 use std::sync::Arc;
 use std::sync::atomic::{AtomicU64, Ordering};
 
+/// The deque's back, under the rule, whose tasks are readinesses.
 pub(crate) type Back = Worker<Readiness, Global, View, InOrder>;
 
+/// The deque's front, of which each thief has a handle.
 type Front = Stealer<Readiness, Global, View, InOrder>;
 
-/// The owner's end, which puts tickets at the back and takes them at the front.
+/// The owner's end, which puts tickets at the back and takes them at the front. It has at least one part of the right to know the whole. It
+/// can be dropped, but an end that is takes its parts along, and then `close` can't be called.
 #[derive(Drop)]
 pub struct Owner {
     pub(crate) run: u64,
     pub(crate) worker: Back,
+    /// How many tickets there are, counted up and down beside the deque by whoever puts or takes: to ask the deque itself would be another
+    /// kind of step of the rule.
     pub(crate) length: Arc<AtomicU64>,
     pub ghost first_in_first_out: { worker_flavor worker ≡ 0 },
     pub ghost owns: { (worker_view worker).owner ≡ true },
     pub ghost has_part: { 0 < (worker_view worker).parts },
 }
 
-/// A thief's end, which takes tickets at the front.
+/// A thief's end, which takes tickets at the front. It has its own part of the right to know the whole, and gives it back to the owner at
+/// the close.
 #[derive(Drop)]
 pub struct Thief {
     pub(crate) run: u64,
@@ -39,8 +48,9 @@ pub struct Thief {
 /// What a steal answers.
 pub enum Stole {
     Got(Ticket),
+    /// The queue was empty at one moment.
     Empty,
-    /// Another thread came first, and nothing was taken.
+    /// Another thread came first, and nothing was taken. Whether there are more isn't known.
     Unsure,
 }
 
@@ -57,7 +67,8 @@ impl Owner {
         self.run
     }
 
-    /// Puts a ticket at the back. It comes back where it is of another run or the queue can't grow.
+    /// Puts a ticket at the back. It comes back where it is of another run or the queue can't grow, as for want of memory. It waits for
+    /// nobody: a thief that has not yet cleared a slot is given a bounded time, and then the queue grows or refuses.
     pub fn push(&mut self, ticket: Ticket) -> Result<(), Ticket>
         ensures same { KeepsOwner self.old self.new }
         ensures step { MatchResult result (λ _. (ticket.run ≡ owner_run self.old) × PutLast (owner_view self.old) (readiness_of ticket ∷ []) (owner_view self.new)) (λ back. (back ≡ ticket) × (owner_view self.new ≡ owner_view self.old)) }
@@ -67,6 +78,8 @@ impl Owner {
         }
         match self.worker.push_as::<Push>(ticket.readiness()) {
             Ok(()) => {
+                // The ticket is spent: its readiness is in the queue. The length is counted after, so it may be too small, and never
+                // promises a ticket that isn't there yet.
                 let (_, _, _) = ticket.open();
                 self.length.fetch_add(1, Ordering::SeqCst);
                 Ok(())
@@ -75,7 +88,8 @@ impl Owner {
         }
     }
 
-    /// Takes the first ticket.
+    /// Takes the first ticket. It waits for nobody: it moves the front on by one add, which no thief can make it do again, and where it
+    /// answers none the queue was empty at one moment of the call.
     pub fn pop(&mut self) -> Option<Ticket>
         ensures same { KeepsOwner self.old self.new }
         ensures step { MatchOption result ((owner_view self.new ≡ owner_view self.old) × FoundNone (owner_view self.old)) (λ ticket. (ticket.run ≡ owner_run self.old) × PoppedFirst (owner_view self.old) (readiness_of ticket ∷ []) (owner_view self.new)) }
@@ -85,7 +99,7 @@ impl Owner {
         Some(Ticket::of(self.run, readiness.g, readiness.epoch))
     }
 
-    // An end for one more thief, with a part of the owner's.
+    // An end for one more thief, with a part of the owner's, which keeps at least one. It is refused where memory is.
     pub(crate) fn thief(&mut self) -> Result<Thief, AllocError>
         requires { 1 < (owner_view self.old).parts }
         ensures same { SameOwner self.old self.new }
@@ -102,7 +116,7 @@ impl Owner {
         })
     }
 
-    // Takes in what a thief has taken, and its part.
+    // Takes in what a thief has taken, and its part. The thief is handed over, so its thread uses it no more: nobody is waited for.
     pub(crate) fn absorb(&mut self, thief: Thief)
         requires { IsThiefOf self.old thief }
         ensures same { SameOwner self.old self.new }
@@ -131,7 +145,8 @@ impl Thief {
         self.run
     }
 
-    /// The queue's length that was last published. It may be old.
+    /// The queue's length that was last published, in tickets. It may be old, and is good to say how many to steal, and for nothing else.
+    /// One read, which waits for nobody.
     pub fn hint(&self) -> u32 {
         let length = self.length.load(Ordering::SeqCst);
         // A thief may take a ticket before its owner has published it.
@@ -141,7 +156,8 @@ impl Thief {
         u32::try_from(length).unwrap_or(u32::MAX)
     }
 
-    /// Tries once to take the first ticket.
+    /// Tries once to take the first ticket. It waits for nobody: a race that is lost is answered `Unsure`, and whoever drives the machine
+    /// tries again or goes on. A loop here would hold the thread for as long as others are quicker.
     pub fn steal(&mut self) -> Stole
         ensures same { KeepsThief self.old self.new }
         ensures step { MatchStole result (λ ticket. (ticket.run ≡ thief_run self.old) × StoleFirst (thief_view self.old) (readiness_of ticket ∷ []) (thief_view self.new)) (thief_view self.new ≡ thief_view self.old) (thief_view self.new ≡ thief_view self.old) }

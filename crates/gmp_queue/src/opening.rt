@@ -1,4 +1,5 @@
-//! Opens the local queues of a run.
+//! Opens the local queues of a run, and hands out their ends: owners by processor, thieves by machine and then processor. All thieves are
+//! made here, so that the owner's parts suffice for them, and a close can ask for every one.
 ghost use Rattle.std.specs.Prelude.{◌≡◌, ◌≤◌, [], length, IfOk};
 ghost use Rattle.gmp_queue.specs.Opened.{AddsThief, IsOpened, IsFresh, AreThievesOf};
 
@@ -7,10 +8,11 @@ use std::alloc::{AllocError, Global};
 use std::sync::Arc;
 use std::sync::atomic::AtomicU64;
 
-// The slots that a queue begins with.
+// The slots that a queue begins with. It grows by need: room for a ticket of each goroutine in each queue would mostly stay unused.
 const SLOTS: usize = 64;
 
-/// One owner for each queue, and for each machine one thief for each queue, in order.
+/// One owner for each queue, and for each machine one thief for each queue, in order. All tickets are of this run. It is refused where
+/// memory is, and what was opened then is let go.
 pub fn open(
     alloc: Global,
     run: u64,

@@ -1,25 +1,33 @@
-//! The rule of a local queue, and its five kinds of step: a push, a pop, a pop that finds none, a steal, a steal that finds none.
+//! The rule of a local queue (`InOrder`), and its five kinds of step: a push, a pop, a pop that finds none, a steal, a steal that finds
+//! none. `View` is what a pass knows, with `Taken` for what it took; `Lend` parts and joins passes. A pass is one end's handle on the
+//! deque.
 
 use crossbeam_deque::protocol::{Join, Outcome, Protocol, Split};
 use gmp_base::Readiness;
 use std::collections::LinkedList;
 
-/// A readiness with the position that it was taken from.
+/// A readiness with the position that it was taken from: the number of pushes before its own.
 #[derive(Clone, Copy)]
 pub struct Taken {
     pub at: u64,
     pub readiness: Readiness,
 }
 
-/// What a pass knows: what it has put and taken, and its parts of the right to know the whole. No value of it is made.
+/// What a pass knows: what it has put and taken, and its parts of the right to know the whole. No value of it is made. That all was taken
+/// is a fact over all passes, so it is known to who has every part: the owner, once it has taken in all its thieves. A fact at each pop
+/// that finds none would not be true of a queue from which others take.
 pub struct View {
+    /// Whether it is the one that pushes.
     pub owner: bool,
+    /// Of 66 in all: one for each of 64 thieves at most, and at least two for the owner.
     pub parts: u64,
+    /// What it has put, the first first.
     pub put: LinkedList<Readiness>,
+    /// What it has taken.
     pub took: LinkedList<Taken>,
 }
 
-/// The rule of a queue.
+/// The rule of a queue: the invariant of all passes together, and what the owner and a thief begin with.
 pub struct InOrder;
 
 impl Protocol<Readiness, View> for InOrder {
@@ -33,7 +41,7 @@ impl Protocol<Readiness, View> for InOrder {
     ghost guest = { view_with false 0 [] [] };
 }
 
-// A push.
+// A push: what is put goes last.
 pub(crate) struct Push;
 
 impl Outcome<Readiness, View> for Push {
@@ -53,7 +61,7 @@ impl Outcome<Readiness, View> for Pop {
     ghost empty = { FoundNone };
 }
 
-// A steal, and one that finds none, which tells nothing.
+// A steal, and one that finds none, which tells nothing: another may push at once.
 pub(crate) struct Steal;
 
 impl Outcome<Readiness, View> for Steal {

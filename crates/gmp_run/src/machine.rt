@@ -1,7 +1,8 @@
-//! What the thread of a machine carries.
+//! What the thread of a machine carries (`Machine`), and what bodies it may run (`Runs`).
+//! Both waits of a thief are here, and both are short: they hold no lock, and end by themselves after so many looks.
 ghost use Rattle.std.specs.Prelude.{◌≡◌, ◌≤◌, true, is_some};
 ghost use Rattle.gmp_driver.specs.Table.{next_act};
-ghost use Rattle.gmp_queue_turn.specs.Turns.{IsQueueAct};
+ghost use Rattle.gmp_worker.specs.AtQueue.{IsQueueAct};
 ghost use Rattle.gmp_worker.specs.Local.{IsOfBodyOrClock};
 ghost use Rattle.gmp_run.specs.Counts.{calls_in};
 
@@ -13,8 +14,7 @@ use crossbeam_utils::sync::Parker;
 use gmp_base::{MNo, PNo, Pass};
 use gmp_driver::Driver;
 use gmp_queue::{Owner, Thief};
-use gmp_queue_turn::queue_turn;
-use gmp_worker::{Boxed, PassLog, local_turn};
+use gmp_worker::{Boxed, PassLog, local_turn, queue_turn};
 use rand_pcg::Lcg64Xsh32;
 use std::hint::spin_loop;
 use std::sync::ledger::Share;
@@ -26,6 +26,7 @@ const MOST_LOOKS: u32 = 80;
 /// never yields its thread: beside threads of others that would be a wait of milliseconds.
 const MOST_SPINS: u32 = 7;
 
+/// How often it rests, after the spins.
 const MOST_RESTS: u32 = 3;
 
 /// How long a hunter rests between two looks, in nanoseconds.
@@ -33,11 +34,17 @@ const REST: u64 = 20_000;
 
 /// A machine's driver with its pass, its thieves of all queues, its generator and its parker, beside its share of the calls.
 pub(crate) struct Machine<T, L: RunLedger> {
+    /// Which machine it is, which its pass says too.
     pub m: MNo,
+    /// Its program, with its pass and all that it holds, as parts.
     pub driver: Driver<T, Owner>,
+    /// Its own thief of each processor's queue, at that processor's place.
     pub thieves: Vec<Thief>,
+    /// Its own generator: a select's case and the first victim of a hunt are drawn by it.
     pub random: Lcg64Xsh32,
+    /// Where its thread waits at Rest and at Mind. A token that comes before the wait ends it.
     pub parker: Parker,
+    /// Its part of the sum of all calls: as many as its pass made.
     pub share: Share<L>,
     pub ghost run: { driver.run ≡ L.run },
     pub ghost pass: { is_some driver.pass ≡ true },
@@ -88,6 +95,7 @@ impl<T: Drop, L: RunLedger> Machine<T, L> {
     }
 
     /// Whether this queue has something, and still has after a while. What its owner is about to run isn't there so long.
+    /// A queue is emptied by its owner's pop or by another thief, or the looks are over.
     fn keeps(&self, victim: usize) -> bool {
         let Some(thief) = self.thieves.get(victim) else {
             return false;
@@ -111,8 +119,11 @@ impl<T: Drop, L: RunLedger> Machine<T, L> {
         false
     }
 
-    /// Waits until some queue keeps what it has, or whoever holds the lock calls it for the shelf or the run's end, at most a while. As long as
-    /// it hunts, nobody is woken to hunt.
+    /// Waits until some queue keeps what it has, or whoever holds the lock calls it for the shelf or the run's end, at most a while. As
+    /// long as it hunts, nobody is woken to hunt.
+    /// A push ends it, or the last hold of the lock, by its hint; if neither comes, the looks are over after the last rest, and it steals
+    /// from whom it may, or goes on to its park. Not without a wait: a thief would take what the owner is about to run, and the goroutine
+    /// change its machine.
     pub fn lie_in_wait<C: Clock>(&self, clock: &C, shared: &Shared<T, L>) {
         let pause = Backoff::new();
         for _ in 0..MOST_SPINS {
@@ -137,6 +148,7 @@ impl<T: Drop, L: RunLedger> Machine<T, L> {
     }
 
     /// Makes the act on a queue that the driver names next.
+    /// It tries once and waits for nobody.
     pub fn queue_turn(&mut self)
         requires { IsQueueAct (next_act self.old.driver) }
     {
@@ -150,7 +162,8 @@ impl<T: Drop, L: RunLedger> Machine<T, L> {
     }
 }
 
-/// A body that machines in threads run.
+/// A body that machines in threads run. The threads' code has it as a parameter, and no box: that such threads may be started the check
+/// finds by itself.
 pub(crate) trait Runs: Drop {
     ghost use Rattle.std.specs.Prelude.{◌≡◌, IsSome};
     ghost use Rattle.gmp_driver.specs.Table.{next_act};

@@ -1,4 +1,5 @@
-//! What a run is handed: a clock, and a gate that each act passes.
+//! What a run is handed: a `Clock`, and a `Gate` that each act passes; `Open` is the gate of a run that is not tested.
+//! Both are shared by all threads at once, and neither is ever called with the lock held.
 
 use crossbeam_utils::sync::Parker;
 use gmp_base::MNo;
@@ -11,6 +12,7 @@ pub const MOST_REST: u64 = 10_000_000;
 pub trait Clock {
     ghost use Rattle.std.specs.Prelude.{◌≤◌};
 
+    /// The present reading. It may stand or go back: the book takes the greatest so far.
     fn now(&self) -> u64;
 
     /// Rests for at most so many nanoseconds. A machine that looks for work rests so too, between two looks.
@@ -27,10 +29,11 @@ pub trait Clock {
 
 /// Told of each act before it is made, with no lock held. It may hold the machine up.
 pub trait Gate {
+    /// Machine m makes this act next. It may wait here for acts of other machines, but each of those can be at its park and make none.
     fn before(&self, m: MNo, act: &Act);
 
-    /// Whether it holds nobody up, whatever the act, throughout the run. Then acts may be made of which it isn't told, several under one hold
-    /// of the lock.
+    /// Whether it holds nobody up, whatever the act, throughout the run. Then acts may be made of which it isn't told, several under one
+    /// hold of the lock.
     fn is_open(&self) -> bool {
         false
     }

@@ -1,4 +1,5 @@
-//! Which processors are held, and how many are active.
+//! Which processors are held, and how many are active, as far as entries of the history tell.
+//! A set and not a count: only those below the active number count as idle, so an entry that raises it brings back which ones are held.
 
 use gmp_base::PNo;
 
@@ -18,6 +19,7 @@ impl Processors {
         }
     }
 
+    /// The bit of p, in a word of 64.
     fn bit(p: PNo) -> u64 {
         1u64.wrapping_shl(u32::from(p.0))
     }

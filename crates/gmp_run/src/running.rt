@@ -1,4 +1,6 @@
-//! Runs the machines of a run.
+//! Runs the machines of a run: opens book and queues, seats the machines, starts the threads, and gathers what they leave.
+//! A machine lies in a seat, a mutex of its own, from which its thread takes it and to which it brings it back. Not moved into the thread's
+//! closure: where that can't be started it is dropped with the machine, and its share of the calls would be lost.
 ghost use Rattle.std.specs.Prelude.{◌≡◌, ◌≤◌, [], All, length, vec_capacity, IfErr, IfOk};
 ghost use Rattle.gmp_run.specs.Counts.{all_calls};
 ghost use Rattle.gmp_run.specs.Reports.{AreLogs, IsRunReport, WhyUnrun};
@@ -32,6 +34,8 @@ use std::thread::Threads;
 /// Machine m draws its words from a generator that is seeded by `random + m`, wrapping. A thread that can't be started leaves its machine
 /// out, and the report counts those started. The clock is read by machines that mind a deadline, and every 16 claims. Refused, it hands the
 /// bodies back.
+/// Errors: `BadLimits` for limits, capacities or a number of bodies out of range, `OutOfMemory` for what is taken before the first act.
+/// `run` is the number that all values of this run name.
 pub fn run<R: Threads + Wait + Sync, C: Clock + Sync, G: Gate + Sync>(
     rt: &R,
     alloc: Global,
@@ -107,6 +111,7 @@ fn run_as<L: RunLedger + Send + Sync, R: Threads + Wait + Sync, C: Clock + Sync,
             return Err(Unrun { why, bodies });
         }
     };
+    // A part for each machine, and none left over: once the parts are together again no machine is still counting.
     let (tally, mut all) = blank.open::<L>();
     let seats = seat_all(
         seats,
@@ -127,6 +132,7 @@ fn run_as<L: RunLedger + Send + Sync, R: Threads + Wait + Sync, C: Clock + Sync,
 }
 
 /// A seat for each pass, the last first, in room that is there.
+/// Lists are taken from their end, so the first machine is seated last, and `gather` meets it first of all.
 fn seat_all<L: RunLedger>(
     room: Vec<Seat<Boxed, L>>,
     passes: Vec<Pass>,
@@ -164,6 +170,8 @@ fn seat_all<L: RunLedger>(
 }
 
 /// Whether the gate lets the machine in the seat in.
+/// A gate that leaves machines out stands in for a system that refuses threads: that a closure of a caller's may start threads can't be
+/// shown.
 fn is_admitted<T: Runs, L: RunLedger, R: Wait, G: Gate>(
     rt: &R,
     gate: &G,
@@ -175,6 +183,7 @@ fn is_admitted<T: Runs, L: RunLedger, R: Wait, G: Gate>(
 
 /// Runs the machines in the seats, and says how many were started. One that isn't let in, or whose thread can't be started, is left in its
 /// seat.
+/// It waits for each thread that it started; each of them ends once the run is over.
 fn in_threads<
     T: Runs + Send,
     L: RunLedger + Send + Sync,
@@ -204,6 +213,7 @@ fn in_threads<
                 started = started.saturating_add(1);
             }
         }
+        // Machine 0 needs no thread, so a run goes on wherever none can be started.
         worker(rt, alloc, shared, unparkers, clock, gate, first);
         started
     })
@@ -227,6 +237,7 @@ fn gather<L: RunLedger, R: Wait>(
 {
     let mut logs = room;
     let mut seats = seats;
+    // Every thread has ended here: the scope doesn't end before.
     while let Some(seat) = seats.pop() {
         let Some(machine) = seat.into_inner() else {
             hang(rt)

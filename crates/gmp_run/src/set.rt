@@ -1,4 +1,4 @@
-//! Sets of machines.
+//! Sets of machines, as bits of one word: there are 64 machines at most.
 
 use gmp_base::MNo;
 
@@ -13,6 +13,7 @@ impl Set {
         Set { bits: 0 }
     }
 
+    /// All 64, whichever there are: whoever goes over them stops at the last machine.
     pub fn all() -> Self {
         Set { bits: u64::MAX }
     }
@@ -27,12 +28,14 @@ impl Set {
         self.bits & Set::of(m).bits != 0
     }
 
+    /// The set with m in it, which may be there before.
     pub fn with(self, m: MNo) -> Self {
         Set {
             bits: self.bits | Set::of(m).bits,
         }
     }
 
+    /// The set without m.
     pub fn without(self, m: MNo) -> Self {
         Set {
             bits: self.bits & !Set::of(m).bits,
@@ -47,13 +50,14 @@ impl Set {
         self.bits == 0
     }
 
-    /// Whether machine 0 is in it; then all move down by one.
+    /// Whether machine 0 is in it; then all move down by one. So whoever goes over the machines in order asks for each by one bit.
     pub fn take_first(&mut self) -> bool {
         let first = self.bits & 1 != 0;
         self.bits >>= 1;
         first
     }
 
+    /// The machine with the least number.
     pub fn least(self) -> Option<MNo> {
         if self.bits == 0 {
             return None;

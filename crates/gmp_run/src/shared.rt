@@ -1,4 +1,5 @@
 //! The lock, and how a thread waits for it.
+//! Not by the mutex alone: a thread that misses it sleeps and is handed it some 50 µs later, while an act takes less than one.
 
 use crate::desk::{Bench, RunLedger};
 use crossbeam_utils::CachePadded;
@@ -9,9 +10,10 @@ use std::sync::{Mutex, MutexGuard, Wait};
 /// How often a thread looks for the lock before it sleeps for it. Whoever has it is mostly done within a microsecond.
 const MOST_LOOKS: u32 = 1_600;
 
-/// The pauses between two looks, and those for which the lock has to stay free before a thread that waits tries to take it.
+/// The pauses between two looks.
 const PAUSES: u32 = 4;
 
+/// For so many pauses the lock has to stay free: a machine that let it go for its body's next ask alone is back by then.
 const STAYS_FREE: u32 = 16;
 
 /// A machine makes its acts under the lock.
@@ -24,11 +26,12 @@ const CALLS: u8 = 2;
 #[derive(Drop)]
 pub(crate) struct Shared<T, L: RunLedger> {
     bench: Mutex<CachePadded<Bench<T, L>>>,
-    /// What those who wait and those who hunt look at, apart from the lock's own word: `HELD` and `CALLS`, each where it is so. No more than
-    /// a hint; whoever has the lock writes it.
+    /// What those who wait and those who hunt look at, apart from the lock's own word: `HELD` and `CALLS`, each where it is so. No more
+    /// than a hint; whoever has the lock writes it.
     hints: CachePadded<AtomicU8>,
 }
 
+/// So many spins.
 fn pause(count: u32) {
     for _ in 0..count {
         spin_loop();
@@ -43,6 +46,7 @@ impl<T: Drop, L: RunLedger> Shared<T, L> {
         }
     }
 
+    /// What lay under the lock, once all threads have ended.
     pub fn into_inner(self) -> Bench<T, L> {
         self.bench.into_inner().into_inner()
     }
@@ -54,10 +58,13 @@ impl<T: Drop, L: RunLedger> Shared<T, L> {
             Some(bench) => bench,
             None => self.awaited(rt),
         };
+        // Loaded and stored apart: only who has the lock writes it.
         self.hints.store(self.hints() | HELD, Ordering::SeqCst);
         bench
     }
 
+    /// Lets the lock go, and says to those who look outside that it is free, and whether hunters are called. The hint is written while the
+    /// lock is still held, so the holders write in the order of their holds.
     pub fn let_go(&self, bench: MutexGuard<'_, CachePadded<Bench<T, L>>>) {
         let hints = if bench.watch.calls_hunters() {
             CALLS
@@ -73,14 +80,18 @@ impl<T: Drop, L: RunLedger> Shared<T, L> {
         self.hints() & CALLS != 0
     }
 
+    /// What stands in the hints now.
     fn hints(&self) -> u8 {
         self.hints.load(Ordering::SeqCst)
     }
 
+    /// Whether nobody makes acts under the lock, as far as the hint tells.
     fn is_free(&self) -> bool {
         self.hints() & HELD == 0
     }
 
+    /// Waits for the lock: at first it looks at the hint, and tries where that says free; after so many looks it sleeps on the mutex. Each
+    /// wait ends by the holder's `let_go`, and a holder waits for nothing: under the lock no body runs and nobody parks.
     fn awaited<R: Wait>(&self, rt: &R) -> MutexGuard<'_, CachePadded<Bench<T, L>>> {
         for _ in 0..MOST_LOOKS {
             if self.is_free() {

@@ -5,27 +5,28 @@
 //!
 //! 1. **Note.** An act at the book is noted in the hold that makes it (`note_last`). So a machine counts as one that waits from the very
 //!    entry on that tells it to mind a deadline, before it reads the clock or its thread waits. A ticket that is given out counts as ready
-//!    from its machine's next entry on: by then it is in a queue or on the shelf, and whoever is called for it finds it. A thief may claim it
-//!    before that entry, so tickets that were given out and claims are counted apart.
-//! 2. **Settle: the call.** At the end of the same hold (`settle`) one of those that wait is called, where more goroutines are ready than
-//!    machines look for them, and more active processors are idle than machines that look have none. It waits no more, and counts as one
-//!    that looks from then on, so that it isn't called twice.
+//!    from its machine's next entry on: by then it is in a queue or on the shelf, and whoever is called for it finds it. A thief may claim
+//!    it before that entry, so tickets that were given out and claims are counted apart.
+//! 2. **Settle: the call.** At the end of the same hold (`settle`) one of those that wait is called, where more goroutines are ready
+//!    than machines look for them, and more active processors are idle than machines that look have none. It waits no more, and counts as
+//!    one that looks from then on, so that it isn't called twice.
 //! 3. **Settle: the watch.** Then, where the least deadline that stands is before the watcher's limit, or nobody watches, the watcher is
 //!    told the new limit; where there is none, one of those that wait becomes the watcher, rather the machine itself. This is put off while
 //!    more machines look than goroutines are ready: each of them comes to another act at the book, as it claims, takes a processor, gives
 //!    it up or parks, and that hold is settled again.
-//! 4. **Let go, and then unpark.** Whoever was called or told is unparked once the lock is free. Its token stays in its parker until it is
-//!    taken, so an unpark that comes before the wait ends it, and one that comes late costs a look, or one `woken -> false`.
-//! 5. **Look, and then wait.** A machine at Mind reads the clock, looks under the lock whether it still waits, whether it watches and until
-//!    when (`stays`), lets the lock go and waits: with no limit, or as the watcher until the limit. After each wait it looks again. It
-//!    comes back where it waits no more, where the run is over, and as the watcher at its limit; then it counts as one that looks, and
+//! 4. **Let go, and then unpark.** Whoever was called or told is unparked once the lock is free. Its token stays in its parker until it
+//!    is taken, so an unpark that comes before the wait ends it, and one that comes late costs a look, or one `woken -> false`.
+//! 5. **Look, and then wait.** A machine at Mind reads the clock, looks under the lock whether it still waits, whether it watches and
+//!    until when (`stays`), lets the lock go and waits: with no limit, or as the watcher until the limit. After each wait it looks again.
+//!    It comes back where it waits no more, where the run is over, and as the watcher at its limit; then it counts as one that looks, and
 //!    the watch is free.
-//! 6. **Act.** Whoever comes back ticks, takes a processor and looks for work by its table, and 1 to 4 hold of each of its acts at the book.
+//! 6. **Act.** Whoever comes back ticks, takes a processor and looks for work by its table, and 1 to 4 hold of each of its acts at the
+//!    book.
 //! 7. **The end.** The hold that brings the outcome has all unparked, and whoever looks from then on comes back.
 //!
-//! Who waits changes after step 5's look in a later hold alone, whose unpark (step 4) comes after that look: so its token is still there for
-//! the wait. Calls end, since each of them leaves one less that waits, and only `park -> mind D` brings one, after the machine has looked
-//! everywhere.
+//! Who waits changes after step 5's look in a later hold alone, whose unpark (step 4) comes after that look: so its token is still there
+//! for the wait. Calls end, since each of them leaves one less that waits, and only `park -> mind D` brings one, after the machine has
+//! looked everywhere.
 //!
 //! A blocking call that begins marks all machines that are awake, those at Mind too: what a marked one saw when it looked may be old. One
 //! that comes to its park looks again. Of those at Mind the same hold calls one by step 2, where a goroutine is ready that nobody looks for
@@ -71,6 +72,8 @@ fn select_deadline(history: &History) -> Option<u64> {
     }
 }
 
+/// What the entries tell of machines, tickets and deadlines. Not a part of the book: to wake who minds as it wakes who is parked would be
+/// another poke, enter, close, tick and leave in the definitions.
 #[derive(Drop)]
 pub(crate) struct Watch {
     /// How many entries are noted.
@@ -102,6 +105,7 @@ pub(crate) struct Watch {
 }
 
 impl Watch {
+    /// What stands at the opening: one ticket, main's, is on the shelf.
     pub fn new(alloc: Global, procs: u8, bodies: usize) -> Result<Self, AllocError> {
         let mut deadlines = Vec::with_capacity(alloc, bodies)?;
         for _ in 0..bodies {
@@ -126,6 +130,7 @@ impl Watch {
         })
     }
 
+    /// m neither looks nor runs any more, nor waits at Mind. Where it stands then the caller says.
     #[inline(always)]
     fn goes(&mut self, m: MNo) {
         self.looks = self.looks.without(m);
@@ -145,18 +150,21 @@ impl Watch {
         }
     }
 
+    /// m looks for work from now on.
     #[inline(always)]
     fn look(&mut self, m: MNo) {
         self.goes(m);
         self.looks = self.looks.with(m);
     }
 
+    /// m runs a goroutine from now on.
     #[inline(always)]
     fn run(&mut self, m: MNo) {
         self.goes(m);
         self.runs = self.runs.with(m);
     }
 
+    /// So many tickets more count as given out.
     fn more_ready(&mut self, count: u64) {
         self.given = self.given.saturating_add(count);
     }
@@ -178,6 +186,7 @@ impl Watch {
         self.deadlines.get_mut(usize::from(g))
     }
 
+    /// m runs g, whose deadline is over: who runs waits for nothing.
     #[inline(always)]
     fn claim(&mut self, m: MNo, g: GNo) {
         self.claims = self.claims.saturating_add(1);
@@ -190,6 +199,7 @@ impl Watch {
         }
     }
 
+    /// The goroutine that m claimed last waits, until this deadline, where there is one.
     fn sleeps(&mut self, m: MNo, until: Option<u64>) {
         if is_before(until, self.least) {
             self.least = until;
@@ -199,6 +209,7 @@ impl Watch {
         }
     }
 
+    /// All deadlines up to the moment are over. It goes over all of them, but only where the least one is.
     fn ticked(&mut self, moment: u64) {
         if is_before(Some(moment), self.least) {
             return;
@@ -225,8 +236,8 @@ impl Watch {
         }
     }
 
-    /// Notes an entry: where machines stand, and which goroutines are ready and which run. One that is told to look again looks as before. A
-    /// ticket that is put onto the shelf was ready before.
+    /// Notes an entry: where machines stand, and which goroutines are ready and which run. One that is told to look again looks as before.
+    /// A ticket that is put onto the shelf was ready before.
     #[inline(always)]
     fn note(&mut self, m: MNo, call: BriefCall, reply: BriefReply, history: &History) {
         if self.owes.has(m) {

@@ -1,4 +1,6 @@
-//! What the thread of a machine does.
+//! What the thread of a machine does: a loop of acts (`worker`), each made in the way that it needs (`Floor`). A thread waits in four
+//! places: for the lock (`Shared::take`; its holder ends that), at Rest (`make`; whoever pokes the machine, or the run's end), at Mind
+//! (`mind`; a call, the watched deadline, or the run's end), and in a hunt (`lie_in_wait`; a push, a call, or so many looks).
 
 ghost use Rattle.std.specs.Prelude.{◌≡◌};
 ghost use Rattle.gmp_driver.specs.Table.{next_act};
@@ -13,7 +15,7 @@ use crate::shared::Shared;
 use crate::watch::Stay;
 use crossbeam_utils::sync::Unparker;
 use gmp_driver::{Act, Frequent};
-use gmp_ledger::memory_for;
+use gmp_journal::memory_for;
 use gmp_seq::Call;
 use std::alloc::Global;
 use std::sync::{Mutex, Wait};
@@ -28,13 +30,16 @@ pub(crate) type Seat<T, L> = Mutex<Option<Machine<T, L>>>;
 #[derive(Drop)]
 pub(crate) struct Floor<'a, T, C, G, L: RunLedger> {
     pub shared: &'a Shared<T, L>,
+    /// Machine m's at place m.
     pub unparkers: &'a [Unparker],
+    /// Read and waited on by all threads.
     pub clock: &'a C,
+    /// Asked and told by all threads.
     pub gate: &'a G,
 }
 
 impl<'a, T: Drop, C: Clock, G: Gate, L: RunLedger> Floor<'a, T, C, G, L> {
-    /// Wakes these machines.
+    /// Wakes these machines. With no lock held: who is woken wants it at once.
     fn wake(&self, machines: Set) {
         let mut left = machines;
         for unparker in self.unparkers {
@@ -51,6 +56,7 @@ impl<'a, T: Drop, C: Clock, G: Gate, L: RunLedger> Floor<'a, T, C, G, L> {
     ///
     /// Where the gate is open, the acts that follow are made under the same hold, as long as they are at the book or at the own queue and
     /// nobody is to be woken. A make alone is handed memory.
+    /// What keeps the others waiting is bounded: nine acts, none of which runs a body, steals or parks.
     fn at_book<R: Wait>(
         &self,
         rt: &R,
@@ -70,6 +76,7 @@ impl<'a, T: Drop, C: Clock, G: Gate, L: RunLedger> Floor<'a, T, C, G, L> {
             }
             match machine.driver.frequent() {
                 Frequent::Pop | Frequent::Push => machine.queue_turn(),
+                // A body may take its time, and runs with no lock held.
                 Frequent::Resume => break,
                 Frequent::Other => match machine.driver.next() {
                     // At Rest a machine waits first, and no thread waits with the lock.
@@ -87,8 +94,10 @@ impl<'a, T: Drop, C: Clock, G: Gate, L: RunLedger> Floor<'a, T, C, G, L> {
     }
 
     /// Waits until the machine is called, the deadline that it watches is reached or the run is over, and answers the clock's last reading.
-    /// Any reading is fine at Mind.
+    /// Any reading is fine at Mind. Each wait ends by the unpark of a later hold, which its `settle` or `end` decides, and the watcher's by
+    /// the clock too; then it looks again under the lock, and comes back where it waits no more.
     fn mind<R: Wait>(&self, rt: &R, machine: &Machine<T, L>) -> u64 {
+        // Not each for itself until the deadline that it was told: a goroutine asleep until far would make every idle machine deaf to work.
         let mut now = self.clock.now();
         for _ in rt.forever() {
             let mut bench = self.shared.take(rt);
@@ -173,6 +182,7 @@ pub(crate) fn worker<T: Runs, R: Wait, C: Clock, G: Gate, L: RunLedger>(
         return;
     };
     let mut over = false;
+    // It ends with the run: then the table names surrenders, as many as the machine holds values, and Nothing.
     for _ in rt.forever() {
         // Where the gate is open it need not be told.
         if floor.gate.is_open() && floor.make_frequent(rt, alloc, &mut machine) {
@@ -190,6 +200,7 @@ pub(crate) fn worker<T: Runs, R: Wait, C: Clock, G: Gate, L: RunLedger>(
         }
         floor.make(rt, alloc, &mut machine, act);
     }
+    // The seat is empty, since this thread emptied it; were it not, its machine's values had to be spent.
     if let Some(other) = seat.lock(rt).replace(machine) {
         other.into_log();
     }

@@ -1,4 +1,4 @@
-//! One run of a script in threads.
+//! One run of a script in threads. The script's readings of the clock are passed over: a thread's clock is the machine's.
 
 ghost use Rattle.std.specs.Prelude.{◌≡◌, ◌<◌, ◌≤◌, ℕ, true, false, length, IfSome};
 ghost use Rattle.gmp_script.specs.Lines.{lines, IsFirstBadLine};
@@ -43,6 +43,7 @@ fn threaded<H: Threads + Wait + Sync, W: Write, C: Clock + Sync>(
         bodies,
         ..
     } = script;
+    // Bodies of threads are boxes: `run` of gmp_run takes them of any type.
     let Ok(mut boxed) = Vec::<Boxed>::with_capacity(alloc, bodies.len()) else {
         return Ended::out_of_memory();
     };
@@ -62,6 +63,7 @@ fn threaded<H: Threads + Wait + Sync, W: Write, C: Clock + Sync>(
         &capacities,
         boxed,
         clock,
+        // Nobody is held up: the gate is for tests.
         &Open,
         settings.random,
     );

@@ -1,4 +1,5 @@
-//! What is told of a run in threads.
+//! What is told of a run in threads. It takes any report, with no condition, and judges it by its logs before anything is printed: so what
+//! is said of a wrong one can be tried.
 
 ghost use Rattle.std.specs.Prelude.{◌≡◌, ◌<◌, IfOk, IfErr, length, true};
 ghost use Rattle.gmp_base.specs.declared.number.MNo.{MNo};
@@ -71,7 +72,7 @@ fn print<W: Write>(
     Ok(trace.end)
 }
 
-/// Audits a report, and writes its trace or its summary.
+/// Audits a report, and writes its trace or its summary: how the run ended, or what ended the program instead.
 fn reported<T: Drop, W: Write>(
     alloc: Global,
     shows_trace: bool,
@@ -85,6 +86,7 @@ fn reported<T: Drop, W: Write>(
     ensures mismatch { IfErr result (λ e. (m : MNo) → e.said ≡ Mismatch m → IsLeast report m) }
     ensures quiet { IfErr result (λ e. is_before_writing e.said ≡ true → W.contents writer.new ≡ W.contents writer.old) }
 {
+    // More bodies than a trace can count.
     let Ok(bodies) = u16::try_from(report.bodies.len()) else {
         return Err(Ended::bad_limits());
     };
@@ -119,7 +121,7 @@ pub fn told<T: Drop, W: Write>(
 {
     match ran {
         Ok(report) => match reported(alloc, settings.trace, capacities, report, writer) {
-            Ok(end) => Ended::traced(end),
+            Ok(end) => Ended::written(end),
             Err(ended) => ended,
         },
         Err(refused) => unrun(refused.why),

@@ -1,4 +1,4 @@
-//! What a body of a script says.
+//! What a body of a script says: `Command` is one ask, `ScriptBody` the body with its list.
 ghost use Rattle.std.specs.Prelude.{◌≡◌};
 
 use gmp_base::{Ask, Body, CNo, Cases, GNo, Woke};
@@ -10,6 +10,7 @@ use std::marker::Model;
 pub enum Command {
     Yield,
     Go(GNo),
+    /// A channel of this capacity.
     Make(u32),
     Send(Option<CNo>, u64),
     Recv(Option<CNo>),
@@ -22,6 +23,7 @@ pub enum Command {
     Select(Cases, bool, Option<u64>),
     /// The moment until which it sleeps, in nanoseconds.
     Sleep(u64),
+    /// Waits until another goroutine readies it.
     Park,
     Ready(GNo),
     /// A blocking call that answers this number.
@@ -36,7 +38,9 @@ pub enum Command {
 /// A contract sees its commands and the place of the next one. The first command is never `Again`.
 #[derive(Debug, Drop)]
 pub struct ScriptBody {
+    /// What it asks, in order, with its `Again`s.
     commands: Vec<Command>,
+    /// The place of the next command; behind a blocking call it is the one after it, so `blocking` looks one back.
     next: usize,
 }
 
@@ -146,6 +150,7 @@ impl Body for ScriptBody {
 
     ghost blocked = { λ before n after. (n ≡ asked_last before) × (after ≡ before) };
 
+    // Whatever it is told: a fault, too, is passed over.
     fn resume(&mut self, _woke: Woke) -> Ask {
         let place = self.place();
         self.next = place;

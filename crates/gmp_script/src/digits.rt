@@ -1,4 +1,4 @@
-//! Numbers that are written in digits.
+//! Numbers that are written in digits. Leading zeros are fine here: a person writes them. A trace has one spelling of each number.
 
 ghost use Rattle.std.specs.Prelude.{◌≡◌};
 ghost use Rattle.gmp_script.specs.Numbers.{parsed_number};

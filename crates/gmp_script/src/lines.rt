@@ -1,4 +1,5 @@
-//! Reads a line of a script.
+//! Reads a line of a script. Words are parted by spaces, as many as there are; of a comment nothing but the beginning of its first word is
+//! looked at, so it may hold any bytes.
 
 ghost use Rattle.std.specs.Prelude.{◌≡◌, IfOk, map};
 ghost use Rattle.gmp_script.specs.Lines.{words, value, below, goroutine_named, capacity, processors, channel, said_alone, said_with, said_with_two, said_by_few, said_by_words, said_by};
@@ -25,6 +26,7 @@ pub enum Line {
     Channel(u32),
     /// The clock reads so, after what it read by the lines before.
     Clock(Readings),
+    /// What the body that began last asks next.
     Command(Command),
 }
 
@@ -54,18 +56,21 @@ fn narrow(word: &[u8]) -> Option<u16>
     u16::try_from(value(word)?).ok()
 }
 
+/// The goroutine that a word names.
 fn goroutine(word: &[u8]) -> Option<GNo>
     ensures { result ≡ goroutine_named word.now }
 {
     Some(GNo(narrow(word)?))
 }
 
+/// The capacity that a word writes. Whether it is within the limits the opening says.
 fn capacity(word: &[u8]) -> Option<u32>
     ensures { result ≡ capacity word.now }
 {
     u32::try_from(value(word)?).ok()
 }
 
+/// The number of processors that a word writes.
 fn processors(word: &[u8]) -> Option<u8>
     ensures { result ≡ processors word.now }
 {

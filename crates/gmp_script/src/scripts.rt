@@ -1,4 +1,4 @@
-//! A script, which its lines make one by one.
+//! A script, which its lines make one by one: whoever has them hands them in, in order, and is told of each whether it is bad.
 
 ghost use Rattle.std.specs.Prelude.{◌≡◌, ◌++◌, ◌∷◌, [], ℕ, List, true, false, IfOk, IfErr};
 ghost use Rattle.gmp_script.specs.Lines.{IsScript};

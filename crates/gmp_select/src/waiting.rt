@@ -12,7 +12,8 @@ use gmp_base::{Case, Cases, GNo};
 use gmp_chan::Channels;
 use gmp_seq::{Kind, Offers, Transfer, channel_of};
 
-/// Whether each case names nil or a channel that was made.
+/// Whether each case names nil or a channel that was made. It is asked of all cases before any is taken: whether an ask is well formed
+/// doesn't depend on the choice.
 pub fn none_missing(channels: &Channels, cases: &Cases) -> bool
     ensures made { result ≡ none_missing channels.now.channels cases.now }
     ensures eight { length cases.now ≤ 8 }
@@ -23,7 +24,8 @@ pub fn none_missing(channels: &Channels, cases: &Cases) -> bool
         .all(|case| channels.has(channel_of(*case)))
 }
 
-/// Goroutine g begins to wait for any of these cases, since this arrival, and answers what it waits for. It has no offer yet.
+/// Goroutine g begins to wait for any of these cases, since this arrival, and answers what it waits for: an offer for each case that isn't
+/// on nil. It has no offer yet. Where all are on nil it waits for its deadline, or for good.
 pub fn register(channels: &mut Channels, g: GNo, arrival: u64, cases: &Cases) -> Offers
     requires known { g.0 < channels.old.bodies }
     requires fresh { count_by (is_of g) channels.old.waiters ≡ 0 }
@@ -37,7 +39,8 @@ pub fn register(channels: &mut Channels, g: GNo, arrival: u64, cases: &Cases) ->
     offers
 }
 
-/// Goroutine g waits for none of its cases any more: no offer of its own is left.
+/// Goroutine g waits for none of its cases any more: no offer of its own is left. A close and a tick call it for whoever they wake, however
+/// it waits, since a plain wait is that of a select of one case.
 pub fn withdraw_all(channels: &mut Channels, g: GNo)
     ensures rest { channels.new ≡ record channels.old { waiters = without g channels.old.waiters } }
     ensures gone { count_by (is_of g) channels.new.waiters ≡ 0 }
@@ -45,7 +48,7 @@ pub fn withdraw_all(channels: &mut Channels, g: GNo)
     channels.withdraw(g);
 }
 
-/// A case does its send or receive, if it can proceed. Who is served by it waits no more, for none of its cases.
+/// A case does its send or receive, if it can proceed, as a plain one does. Who is served by it waits no more, for none of its cases.
 pub fn complete(channels: &mut Channels, case: Case) -> Option<Transfer>
     requires { names_no_missing channels.old.channels (channel_of case) ≡ true }
     ensures exact { is_some result ≡ can channels.old.channels channels.old.waiters case }

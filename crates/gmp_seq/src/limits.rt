@@ -1,4 +1,5 @@
-//! The limits that a run may have.
+//! The limits that a run may have, each written once as code; what tests by them is proved equal to the definitions, which spell the
+//! numbers out. They are the project's own. That each number of a legal run fits its type rests on them.
 ghost use Rattle.std.specs.Prelude.{◌↔◌, ◌≤◌, IsTrue, All};
 ghost use Rattle.gmp_seq.specs.Fits.{AreLimits};
 
@@ -7,22 +8,22 @@ use crate::call::Limits;
 /// The most processors.
 pub const MOST_PROCS: u8 = 32;
 
-/// The most machines.
+/// The most machines. As many numbers fit the masks of gmp_idle, and as many thieves a queue of gmp_queue.
 pub const MOST_MACHINES: u8 = 64;
 
 /// The most bodies, and so goroutines.
 pub const MOST_BODIES: usize = 4096;
 
-/// The most channels.
+/// The most channels, those of the opening and those that are made.
 pub const MOST_CHANNELS: u16 = 1024;
 
-/// The most that a channel's buffer may hold.
+/// The most values that a channel's buffer may hold. Its room is taken at once, so it has a bound.
 pub const MOST_CAPACITY: u32 = 4096;
 
-/// The fewest entries of a history.
+/// The fewest entries that a history may be limited to.
 pub const LEAST_ENTRIES: u32 = 16;
 
-/// The most entries of a history.
+/// The most entries of a history. Their room is taken at the opening, 240 bytes of address space each.
 pub const MOST_ENTRIES: u32 = 1_000_000;
 
 fn fit_all(capacities: &[u32]) -> bool
@@ -31,6 +32,7 @@ fn fit_all(capacities: &[u32]) -> bool
     capacities.iter().all(|capacity| *capacity <= MOST_CAPACITY)
 }
 
+/// Both bounds are within.
 fn is_between(low: usize, n: usize, high: usize) -> bool
     ensures { IsTrue result ↔ ((low ≤ n) × (n ≤ high)) }
 {
@@ -38,7 +40,8 @@ fn is_between(low: usize, n: usize, high: usize) -> bool
 }
 
 impl Limits {
-    /// Whether a run may have these limits, so many bodies, and channels of these capacities at its opening.
+    /// Whether a run may have these limits, so many bodies, and channels of these capacities at its opening. Machines are as many as
+    /// processors or more, since one in a blocking call holds none.
     pub fn allow(self, bodies: usize, capacities: &[u32]) -> bool
         ensures { IsTrue result ↔ AreLimits self bodies capacities.now }
     {

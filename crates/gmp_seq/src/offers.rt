@@ -1,4 +1,6 @@
-//! What a case offers, what an offer would do, and what one that waited is told.
+//! What a case offers, what an offer would do, and what one that waited is told: functions on `Offer`, `Offers`, `Waiter` and `Kind` of
+//! status.rt. They say nothing of tables, and each is proved equal to a word of the definitions, so the book and the plain scheduler that
+//! checks it share them.
 ghost use Rattle.std.specs.Prelude.{◌≡◌, ◌≤◌, ◌∷◌, [], length, option_to_list};
 ghost use Rattle.gmp_seq.specs.Table.{late_answer};
 ghost use Rattle.gmp_seq.specs.Waits.{channel_of, closed_answer, direction_of, first_offer_on, is_on, is_select, offered, offers_from, offers_of, receiver_answer, same_direction, sender_answer};
@@ -16,6 +18,7 @@ pub fn channel_of(case: Case) -> Option<CNo>
     }
 }
 
+/// Directions, compared.
 fn same_direction(a: Direction, b: Direction) -> bool
     ensures { result ≡ same_direction a b }
 {
@@ -38,6 +41,7 @@ impl Deal {
 }
 
 impl Kind {
+    /// A select is told its case's number, a plain send or receive isn't.
     fn is_select(self) -> bool
         ensures { result ≡ is_select self }
     {
@@ -56,7 +60,8 @@ impl Kind {
 }
 
 impl Offer {
-    /// What the case of this number offers once it waits: nothing on nil.
+    /// What the case of this number offers once it waits: nothing on nil, on which no communication ever proceeds (Go specification, Send
+    /// statements and Receive operator).
     pub fn of(number: u8, case: Case) -> Option<Self>
         ensures { option_to_list result ≡ offers_from number (case ∷ []) }
     {
@@ -71,7 +76,7 @@ impl Offer {
         })
     }
 
-    /// What a receiver is told that gets v, which was sent or not.
+    /// What a receiver is told that gets v, which was sent or not: what it would have been told without waiting (`laws::told_alike`).
     pub fn receiver_answer(self, kind: Kind, v: u64, sent: bool) -> Woke
         ensures { result ≡ receiver_answer kind self v sent }
     {
@@ -82,7 +87,8 @@ impl Offer {
         }
     }
 
-    /// What one is told whose channel is closed (Go specification, Close): a receiver gets the zero value, a sender the fault.
+    /// What one is told whose channel is closed (Go specification, Close): a receiver gets the zero value, a sender the fault. The fault
+    /// names no case, as Go's panic names none.
     pub fn closed_answer(self, kind: Kind) -> Woke
         ensures { result ≡ closed_answer kind self }
     {
@@ -94,7 +100,8 @@ impl Offer {
 }
 
 impl Offers {
-    /// An offer for each case that isn't on nil, by its number.
+    /// An offer for each case that isn't on nil, by its number. A plain send or receive waits as a select of one case does, so that
+    /// waiting, serving and closing are stated once.
     pub fn of(cases: &[Case]) -> Self
         requires { length cases.now ≤ 8 }
         ensures { result ≡ offers_of cases.now }
@@ -108,7 +115,8 @@ impl Offers {
         offers
     }
 
-    /// The first that is on this channel.
+    /// The first that is on this channel. A close tells a select this one, where Go may tell any: the reply is a count, so the next state
+    /// would not follow from it otherwise.
     pub fn first_offer_on(&self, c: CNo) -> Option<Offer>
         ensures { result ≡ first_offer_on c self.now }
     {

@@ -1,4 +1,5 @@
-//! What a reply says and gives out.
+//! What a reply says and gives out: the ticket, what the goroutine is told, the count. All of it follows from the reply, which is entered,
+//! so what a body was told can be read off the history. Inlined, since the reply's kind is known where most of them are asked.
 ghost use Rattle.std.specs.Prelude.{◌≡◌};
 ghost use Rattle.gmp_seq.specs.Step.{closed_in, is_wait, sender_in, ticket_in, ticket_of, woke_after};
 
@@ -40,7 +41,8 @@ impl Taken {
 }
 
 impl Reply {
-    /// The ticket that the call gave out.
+    /// The ticket that the call gave out. `go`, `ready` and a served waiter give one to the machine, which fits a reply; a close or a tick
+    /// may wake as many as there are bodies, and puts them onto the shelf, which has room for all.
     #[inline(always)]
     pub fn ticket(self) -> Option<Readiness>
         ensures { result ≡ ticket_in self }
@@ -70,7 +72,7 @@ impl Reply {
         }
     }
 
-    /// How many a close woke.
+    /// How many a close woke, and 0 for any other reply.
     #[inline(always)]
     pub fn closed(self) -> u64
         ensures { result ≡ closed_in self }

@@ -1,4 +1,4 @@
-//! Questions on one goroutine's status.
+//! Questions on one goroutine's status, shared by the book and the plain scheduler. Each is proved equal to a word of the definitions.
 ghost use Rattle.std.specs.Prelude.{◌≡◌};
 ghost use Rattle.gmp_seq.specs.Table.{answer_of_ready, deadline_of, is_astir, is_calling, is_calling_on, is_dormant, is_parked, is_ready_or_running, is_running_on, is_shelved};
 
@@ -13,7 +13,7 @@ impl Status {
         matches!(self, Status::Dormant)
     }
 
-    /// Whether its ticket is on the shelf.
+    /// Whether its ticket is on the shelf, and not given out.
     pub fn is_shelved(&self) -> bool
         ensures { result ≡ is_shelved self.now }
     {
@@ -67,14 +67,15 @@ impl Status {
         }
     }
 
-    /// Whether it can go on without anybody else.
+    /// Whether it can go on without anybody else. While one can, no machine that parks has to mind a deadline.
     pub fn is_ready_or_running(&self) -> bool
         ensures { result ≡ is_ready_or_running self.now }
     {
         matches!(self, Status::Ready(_, _) | Status::Running(_))
     }
 
-    /// Whether it can go on, or comes back by itself from a blocking call or at a deadline.
+    /// Whether it can go on, or comes back by itself from a blocking call or at a deadline. Where none is, all are asleep for good
+    /// (`laws::asleep_for_good`).
     pub fn is_astir(&self) -> bool
         ensures { result ≡ is_astir self.now }
     {
@@ -85,7 +86,8 @@ impl Status {
         }
     }
 
-    /// The moment at which it stops waiting, in nanoseconds, where there is one.
+    /// The moment at which it stops waiting, in nanoseconds, where there is one. A select without one waits for good, a sleep always has
+    /// one.
     pub fn deadline(&self) -> Option<u64>
         ensures { result ≡ deadline_of self.now }
     {

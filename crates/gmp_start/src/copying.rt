@@ -1,4 +1,5 @@
-//! A start once more, and whether two are the same.
+//! A start once more. Lists take memory, and may be refused it; a goroutine's row takes none. There is no `Clone`: a start is large, and
+//! each copy of it is to be seen.
 ghost use Rattle.std.specs.Prelude.{◌≡◌, ◌↔◌, map, IfOk, IsTrue};
 ghost use Rattle.gmp_start.specs.Start.{channel_of, state_of};
 
@@ -27,6 +28,7 @@ fn copied_wait(wait: &Wait) -> Wait
     }
 }
 
+/// A waiting goroutine's offers are the only part that can't be copied as it is.
 fn copied_status(status: &Status) -> Status
     ensures { result ≡ status.now }
 {
@@ -50,7 +52,7 @@ pub fn copied_row(row: &Goroutine) -> Goroutine
     }
 }
 
-/// The same goroutines once more.
+/// The same goroutines once more. Refused where memory is; then nothing is kept.
 pub fn copied_rows(alloc: Global, rows: &[Goroutine]) -> Result<Vec<Goroutine>, AllocError>
     ensures { IfOk result (λ v. v.items ≡ rows.now) }
 {
@@ -64,6 +66,7 @@ pub fn copied_rows(alloc: Global, rows: &[Goroutine]) -> Result<Vec<Goroutine>, 
 fn copied_channel(alloc: Global, channel: &StartChannel) -> Result<StartChannel, AllocError>
     ensures { IfOk result (λ c. channel_of c ≡ channel_of channel.now) }
 {
+    // The copy has no more room than values: it is written or compared, and nothing is sent on it.
     Ok(StartChannel {
         capacity: channel.capacity,
         closed: channel.closed,
@@ -86,7 +89,7 @@ fn copied_channels(
 }
 
 impl Start {
-    /// The same start once more.
+    /// The same start once more, in memory of its own. It is refused where memory is.
     pub fn copied(&self, alloc: Global) -> Result<Start, AllocError>
         ensures { IfOk result (λ s. state_of s ≡ state_of self.now) }
     {

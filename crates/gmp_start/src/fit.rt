@@ -1,4 +1,8 @@
-//! Whether a state is one from which a run may go on.
+//! Whether a state is one from which a run may go on. The tests stand as the definition does: on channels, on each goroutine's row, on each
+//! two rows, and on machines. What each looks at: `wait_fits`, `epoch_fits` and `machine_fits` one row; `clash` two; `holders_fit`,
+//! `callers_fit`, `spinners_fit` and `marked_fit` the lists of machines.
+//!
+//! Pairs are compared one by one: a start is read once in a run, and no list of who was seen is needed.
 ghost use Rattle.std.specs.Prelude.{◌≡◌, ◌↔◌, ◌&&◌, ◌<◌, ◌≤◌, ◌^◌, length, sum, IsTrue, MatchOption};
 ghost use Rattle.std.specs.List.{list_all, list_any};
 ghost use Rattle.gmp_seq.specs.Laws.{HasSizes};
@@ -11,10 +15,11 @@ use crate::start::{Start, StartChannel};
 use gmp_base::MNo;
 use gmp_seq::{Goroutine, Limits, Mode, Offer, Status};
 
-/// Whether the offers rise by case.
+/// Whether the offers rise by case, so that each case has one at most.
 pub fn rise(offers: &[Offer]) -> bool
     ensures { result ≡ rise_from 0 offers.now }
 {
+    // The next case that may come: one more than the last, which may be 256.
     let mut least = 0u16;
     for offer in offers {
         if u16::from(offer.case) < least {
@@ -25,6 +30,7 @@ pub fn rise(offers: &[Offer]) -> bool
     true
 }
 
+/// A wait began before the next one, and its offers rise.
 fn wait_fits(arrivals: u64, status: &Status) -> bool
     ensures { result ≡ wait_fits arrivals status.now }
 {
@@ -34,6 +40,8 @@ fn wait_fits(arrivals: u64, status: &Status) -> bool
     }
 }
 
+/// One that was never started was never ready; any other was at least once. Each entry makes a goroutine ready once at most, and main was
+/// before the first, so the epoch is at most one more than the entries.
 fn epoch_fits(made: u64, row: &Goroutine) -> bool
     requires { made < 2 ^ 63 }
     ensures { result ≡ epoch_fits made row.now }
@@ -48,6 +56,7 @@ fn epoch_fits(made: u64, row: &Goroutine) -> bool
     }
 }
 
+/// The machine that runs it, or makes its blocking call.
 fn machine_of(status: &Status) -> Option<MNo>
     ensures { result ≡ machine_of status.now }
 {
@@ -58,6 +67,7 @@ fn machine_of(status: &Status) -> Option<MNo>
     }
 }
 
+/// When it began to wait, as a number among all waits.
 fn arrival_of(status: &Status) -> Option<u64>
     ensures { result ≡ arrival_of status.now }
 {
@@ -67,6 +77,7 @@ fn arrival_of(status: &Status) -> Option<u64>
     }
 }
 
+/// Two that are at no machine are not at the same.
 fn same_machine(a: Option<MNo>, b: Option<MNo>) -> bool
     ensures { result ≡ same_machine a b }
 {
@@ -76,6 +87,7 @@ fn same_machine(a: Option<MNo>, b: Option<MNo>) -> bool
     }
 }
 
+/// Two that don't wait have no arrival in common.
 fn same_arrival(a: Option<u64>, b: Option<u64>) -> bool
     ensures { result ≡ same_arrival a b }
 {
@@ -85,7 +97,7 @@ fn same_arrival(a: Option<u64>, b: Option<u64>) -> bool
     }
 }
 
-/// Whether two goroutines are at one machine, or arrived at once.
+/// Whether two goroutines are at one machine, or arrived at once. Neither can be: a machine has one goroutine, and arrivals are counted.
 fn clash(x: &Goroutine, y: &Goroutine) -> bool
     ensures { result ≡ clash x.now y.now }
 {
@@ -93,12 +105,14 @@ fn clash(x: &Goroutine, y: &Goroutine) -> bool
         || same_arrival(arrival_of(&x.status), arrival_of(&y.status))
 }
 
+/// Whether the row clashes with any of these.
 fn clashes(row: &Goroutine, others: &[Goroutine]) -> bool
     ensures { result ≡ list_any (clash row.now) others.now }
 {
     others.iter().any(|other| clash(row, other))
 }
 
+/// Whether no two rows clash.
 fn are_apart(rows: &[Goroutine]) -> bool
     ensures { result ≡ pairs_apart clash rows.now }
 {
@@ -110,12 +124,14 @@ fn are_apart(rows: &[Goroutine]) -> bool
     true
 }
 
+/// Whether one of these is the same machine.
 fn holds_again(holder: Option<MNo>, others: &[Option<MNo>]) -> bool
     ensures { result ≡ list_any (same_machine holder) others.now }
 {
     others.iter().any(|other| same_machine(holder, *other))
 }
 
+/// Whether no machine holds two processors.
 fn hold_apart(holders: &[Option<MNo>]) -> bool
     ensures { result ≡ pairs_apart same_machine holders.now }
 {
@@ -127,6 +143,7 @@ fn hold_apart(holders: &[Option<MNo>]) -> bool
     true
 }
 
+/// An idle processor is held by nobody.
 fn is_held_by(m: MNo, holder: Option<MNo>) -> bool
     ensures { result ≡ is_held_by m holder }
 {
@@ -136,13 +153,14 @@ fn is_held_by(m: MNo, holder: Option<MNo>) -> bool
     }
 }
 
+/// Whether the channel has room for what is on its list.
 fn channel_fits(channel: &StartChannel) -> bool
     ensures { result ≡ channel_fits (channel_of channel.now) }
 {
     channel.items.len() <= channel.capacity as usize
 }
 
-/// The sum, where it is below `most`.
+/// The sum, where it is below `most`. It never adds beyond: each count is compared with what is left.
 fn total(counts: &[u64], most: u64) -> Option<u64>
     ensures { MatchOption result (most ≤ sum counts.now) (λ n. (n ≡ sum counts.now) × (n < most)) }
 {
@@ -157,6 +175,7 @@ fn total(counts: &[u64], most: u64) -> Option<u64>
 }
 
 impl Start {
+    /// A machine that isn't there is not awake.
     fn is_awake(&self, m: MNo) -> bool
         ensures { result ≡ awake_at (machines_of self.now) m }
     {
@@ -169,12 +188,14 @@ impl Start {
         matches!(self.modes.get(m.0 as usize), Some(Mode::Calling))
     }
 
+    /// Whether m holds a processor, active or not.
     fn has_processor(&self, m: MNo) -> bool
         ensures { result ≡ has_processor (machines_of self.now) m }
     {
         self.holders.iter().any(|holder| is_held_by(m, *holder))
     }
 
+    /// Whoever runs one is awake and holds a processor; whoever makes a blocking call is in one.
     fn machine_fits(&self, status: &Status) -> bool
         ensures { result ≡ machine_fits (machines_of self.now) status.now }
     {
@@ -185,6 +206,7 @@ impl Start {
         }
     }
 
+    /// One row by itself: its epoch, its wait, its machine.
     fn row_fits(&self, made: u64, row: &Goroutine) -> bool
         requires { made < 2 ^ 63 }
         ensures { result ≡ row_fits made self.now.arrivals (machines_of self.now) row.now }
@@ -201,6 +223,7 @@ impl Start {
         self.goroutines.iter().all(|row| self.row_fits(made, row))
     }
 
+    /// No more waits began than entries were made.
     fn table_fits(&self, made: u64) -> bool
         requires { made < 2 ^ 63 }
         ensures { result ≡ table_fits made (machines_of self.now) (table_of self.now) }
@@ -208,6 +231,7 @@ impl Start {
         self.arrivals <= made && self.rows_fit(made) && are_apart(&self.goroutines)
     }
 
+    /// Whether m makes somebody's blocking call.
     fn calls_for_some(&self, m: MNo) -> bool
         ensures { result ≡ some_status (is_calling_on m) (table_of self.now) }
     {
@@ -216,6 +240,7 @@ impl Start {
             .any(|row| row.status.is_calling_on(m))
     }
 
+    /// Whether m runs somebody.
     fn runs_some(&self, m: MNo) -> bool
         ensures { result ≡ some_status (is_running_on m) (table_of self.now) }
     {
@@ -224,6 +249,7 @@ impl Start {
             .any(|row| row.status.is_running_on(m))
     }
 
+    /// Each machine in a blocking call has a goroutine that it makes it for.
     fn callers_fit(&self) -> bool
         requires { length self.now.modes.items ≤ 256 }
         ensures { result ≡ callers_from (table_of self.now) 0 self.now.modes.items }
@@ -236,12 +262,14 @@ impl Start {
         true
     }
 
+    /// Whoever looks for work is awake and runs nobody.
     fn spinner_fits(&self, m: MNo) -> bool
         ensures { result ≡ spinner_fits (machines_of self.now) (table_of self.now) m }
     {
         self.is_awake(m) && !self.runs_some(m)
     }
 
+    /// Machines are numbered by place, of which there are 256 at most, so the number fits.
     fn spinners_fit(&self) -> bool
         requires { length self.now.spinning.items ≤ 256 }
         ensures { result ≡ flagged_from (spinner_fits (machines_of self.now) (table_of self.now)) 0 self.now.spinning.items }
@@ -254,6 +282,7 @@ impl Start {
         true
     }
 
+    /// Whoever is to look again is awake: a machine that is parked or in a blocking call bears no mark.
     fn marked_fit(&self) -> bool
         requires { length self.now.marked.items ≤ 256 }
         ensures { result ≡ flagged_from (awake_at (machines_of self.now)) 0 self.now.marked.items }
@@ -266,6 +295,8 @@ impl Start {
         true
     }
 
+    /// Whoever holds a processor is awake: in a blocking call it is given up (Scalable Go Scheduler Design Doc, Syscalls/M Parking and
+    /// Unparking).
     fn holder_fits(&self, holder: Option<MNo>) -> bool
         ensures { result ≡ holder_fits (machines_of self.now) holder }
     {
@@ -281,6 +312,7 @@ impl Start {
         self.holders.iter().all(|holder| self.holder_fits(*holder))
     }
 
+    /// Holders are awake and apart, and modes, spinning and marks suit the rows.
     fn machines_fit(&self) -> bool
         requires modes { length self.now.modes.items ≤ 256 }
         requires spinning { length self.now.spinning.items ≤ 256 }
@@ -300,6 +332,7 @@ impl Start {
         self.channels.iter().all(|channel| channel_fits(channel))
     }
 
+    /// All that is asked beside the number of entries, which the others are compared with.
     fn parts_fit(&self, made: u64) -> bool
         requires few { made < 2 ^ 63 }
         requires modes { length self.now.modes.items ≤ 256 }
@@ -310,7 +343,8 @@ impl Start {
         self.channels_fit() && self.table_fits(made) && self.machines_fit()
     }
 
-    /// Whether there is a row for each of so many goroutines, and for each processor and machine.
+    /// Whether there is a row for each of so many goroutines, and for each processor and machine. `fits` doesn't ask it, but for 256
+    /// machines at most; whoever reads a start asks both.
     pub fn has_sizes(&self, limits: Limits, bodies: u16) -> bool
         ensures { IsTrue result ↔ HasSizes limits bodies (state_of self.now) }
     {
@@ -323,13 +357,15 @@ impl Start {
             && self.counts.len() == machines
     }
 
-    /// Whether the parts fit together, as those of a state of a legal run do while it lasts. It compares each two goroutines.
+    /// Whether the parts fit together, as those of a state of a legal run do while it lasts. It compares each two goroutines, and goes
+    /// through them once for each machine that spins or is in a blocking call.
     pub fn fits(&self, limits: Limits) -> bool
         requires modes { length self.now.modes.items ≤ 256 }
         requires spinning { length self.now.spinning.items ≤ 256 }
         requires marked { length self.now.marked.items ≤ 256 }
         ensures { result ≡ fits limits (state_of self.now) }
     {
+        // As many entries as the limit allows, or more, would have an outcome: no run goes on from there.
         match total(&self.counts, u64::from(limits.entries)) {
             Some(made) => self.parts_fit(made),
             None => false,

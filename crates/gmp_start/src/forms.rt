@@ -1,4 +1,5 @@
-//! What a goroutine's status may store.
+//! What a goroutine's status may store: the forms that a run gives it, wherever it began. Apart from `Start::fits`, since a step neither
+//! needs them nor looks at them; a text of a state has words for these forms alone.
 ghost use Rattle.std.specs.Prelude.{◌≡◌, ◌↔◌, ◌⊎◌, ◌∷◌, [], All, IsTrue};
 ghost use Rattle.gmp_seq.specs.declared.status.Offer.{Offer};
 ghost use Rattle.gmp_start.specs.Forms.{FitsOffer, FitsWoke, HasForm, SuitsKind};
@@ -8,7 +9,7 @@ use gmp_base::{Fault, MAX_CASES, Woke};
 use gmp_seq::{Kind, Offer, Status, Wait};
 
 /// Whether this may be stored for a goroutine that is ready, to be told when it runs: no other fault is than that of a send on a closed
-/// channel.
+/// channel, since any other panic is told at once, to a goroutine that runs.
 pub fn is_stored(woke: Woke) -> bool
     ensures { IsTrue result ↔ FitsWoke woke }
 {
@@ -20,6 +21,7 @@ pub fn is_stored(woke: Woke) -> bool
     }
 }
 
+/// The case is one of 8, and the channel was made.
 fn fits_offer(channels: u16, offer: Offer) -> bool
     ensures { IsTrue result ↔ FitsOffer channels offer }
 {
@@ -32,6 +34,7 @@ fn fit_all(channels: u16, offers: &[Offer]) -> bool
     offers.iter().all(|offer| fits_offer(channels, *offer))
 }
 
+/// A plain send or receive is one offer, of case 0, or none where it is on nil.
 fn is_plain(offers: &[Offer]) -> bool
     ensures { IsTrue result ↔ ((offers.now ≡ []) ⊎ ((o : Offer) × (offers.now ≡ o ∷ []) × (o.case ≡ 0))) }
 {
@@ -41,6 +44,7 @@ fn is_plain(offers: &[Offer]) -> bool
     offers.len() == 1 && offers[0].case == 0
 }
 
+/// What each kind of wait may offer, and whether it may have a deadline: a sleep has one, a select may.
 fn suits(kind: Kind, offers: &[Offer], until: Option<u64>) -> bool
     ensures { IsTrue result ↔ SuitsKind kind offers.now until }
 {
@@ -52,6 +56,7 @@ fn suits(kind: Kind, offers: &[Offer], until: Option<u64>) -> bool
     }
 }
 
+/// Each offer is on a channel that was made, and their number suits why it waits.
 fn fits_wait(channels: u16, wait: &Wait) -> bool
     ensures { IsTrue result ↔ (All (FitsOffer channels) wait.now.offers × SuitsKind wait.now.kind wait.now.offers wait.now.until) }
 {

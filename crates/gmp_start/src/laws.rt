@@ -14,7 +14,9 @@ ghost use Rattle.gmp_start.specs.Active.{HasActive};
 ghost use Rattle.gmp_start.specs.Fit.{fits};
 ghost use Rattle.gmp_start.specs.Forms.{HasForms};
 
-/// While the run lasts the test is passed exactly where the parts of a state fit together. Each step keeps that: `steps_keep_order` of gmp_seq.
+/// While the run lasts the test is passed exactly where the parts of a state fit together. Each step keeps that: `steps_keep_order` of
+/// gmp_seq. That a run from the opening leads to the state isn't asked, and the state doesn't tell it: for a checker that goes on by the
+/// steps' own rules the parts are enough.
 pub fn fitting()
     ensures { (limits : Limits) (s : State) → s.outcome ≡ None → (fits limits s ≡ true) ↔ FitsTogether limits s }
 {}

@@ -1,4 +1,5 @@
-//! The opening as a start.
+//! The opening as a start: the state in which a run from nothing begins. It is made with room for what it has, and not for what a run may
+//! come to.
 ghost use Rattle.std.specs.Prelude.{◌≡◌, ◌∷◌, ◌-◌, ◌<◌, map, replicate, IfOk};
 ghost use Rattle.gmp_seq.specs.Channels.{new_channel};
 ghost use Rattle.gmp_seq.specs.State.{dormant, first_goroutine, opening};
@@ -9,6 +10,7 @@ use gmp_base::Woke;
 use gmp_seq::{Goroutine, Limits, Mode, Place, Status};
 use std::alloc::{AllocError, Global};
 
+/// Main is on the shelf, ready for the first time; all others are dormant.
 fn opening_rows(alloc: Global, bodies: u16) -> Result<Vec<Goroutine>, AllocError>
     requires { 0 < bodies }
     ensures { IfOk result (λ v. v.items ≡ first_goroutine ∷ replicate (bodies - 1) dormant) }
@@ -27,6 +29,7 @@ fn opening_rows(alloc: Global, bodies: u16) -> Result<Vec<Goroutine>, AllocError
     Ok(goroutines)
 }
 
+/// An open channel with nothing on its list.
 fn opening_channel(alloc: Global, capacity: u32) -> StartChannel
     ensures { channel_of result ≡ new_channel capacity }
 {
@@ -48,7 +51,8 @@ fn opening_channels(alloc: Global, capacities: &[u32]) -> Result<Vec<StartChanne
 }
 
 impl Start {
-    /// The state at which a run of these limits, bodies and channels begins.
+    /// The state at which a run of these limits, bodies and channels begins: no processor is held, all of them are active, and every
+    /// machine is awake. It is refused where memory is.
     pub fn opening(
         alloc: Global,
         limits: Limits,

@@ -1,4 +1,5 @@
-//! Whether two starts are the same.
+//! Whether two starts are the same state: part by part, from the cheap parts to the rows. Each kind of list has a function of its own, with
+//! the equality of its elements as its contract.
 ghost use Rattle.std.specs.Prelude.{◌≡◌, ◌↔◌, map, IsTrue};
 ghost use Rattle.gmp_start.specs.Start.{channel_of, machines_of, state_of, table_of};
 
@@ -6,6 +7,7 @@ use crate::start::{Start, StartChannel};
 use gmp_base::MNo;
 use gmp_seq::{Goroutine, Mode, Offers, Status, Wait};
 
+/// Offers in their order: a select's rise by case, so no other order of the same is left.
 fn same_offers(a: &Offers, b: &Offers) -> bool
     ensures { IsTrue result ↔ (a.now ≡ b.now) }
 {
@@ -21,6 +23,7 @@ fn same_wait(a: &Wait, b: &Wait) -> bool
         && same_offers(&a.offers, &b.offers)
 }
 
+/// Two of different kinds differ, whatever they store.
 fn same_status(a: &Status, b: &Status) -> bool
     ensures { IsTrue result ↔ (a.now ≡ b.now) }
 {
@@ -41,6 +44,7 @@ fn same_row(a: &Goroutine, b: &Goroutine) -> bool
     a.epoch == b.epoch && same_status(&a.status, &b.status)
 }
 
+/// Lists of other lengths differ, so each place of one is there in the other.
 fn same_rows(a: &[Goroutine], b: &[Goroutine]) -> bool
     ensures { IsTrue result ↔ (a.now ≡ b.now) }
 {
@@ -55,6 +59,7 @@ fn same_rows(a: &[Goroutine], b: &[Goroutine]) -> bool
     true
 }
 
+/// By what a state has of a channel: room, whether it is closed, and the values.
 fn same_channel(a: &StartChannel, b: &StartChannel) -> bool
     ensures { IsTrue result ↔ (channel_of a.now ≡ channel_of b.now) }
 {
@@ -75,6 +80,7 @@ fn same_channels(a: &[StartChannel], b: &[StartChannel]) -> bool
     true
 }
 
+/// The four below are each one comparison of slices, with the equality of the lists as contract.
 fn same_counts(a: &[u64], b: &[u64]) -> bool
     ensures { IsTrue result ↔ (a.now ≡ b.now) }
 {
@@ -100,6 +106,7 @@ fn same_holders(a: &[Option<MNo>], b: &[Option<MNo>]) -> bool
 }
 
 impl Start {
+    /// What the state has of machines and processors.
     fn same_machines(&self, other: &Start) -> bool
         ensures { IsTrue result ↔ (machines_of self.now ≡ machines_of other.now) }
     {
@@ -110,6 +117,7 @@ impl Start {
             && self.active == other.active
     }
 
+    /// What the state has of goroutines: the clock, the next arrival and the rows.
     fn same_table(&self, other: &Start) -> bool
         ensures { IsTrue result ↔ (table_of self.now ≡ table_of other.now) }
     {
@@ -118,7 +126,8 @@ impl Start {
             && same_rows(&self.goroutines, &other.goroutines)
     }
 
-    /// Whether the states are the same.
+    /// Whether the states are the same: counts, clock, machines, channels with their values in order, and each goroutine. Room that lists
+    /// have besides doesn't count.
     pub fn same(&self, other: &Start) -> bool
         ensures { IsTrue result ↔ (state_of self.now ≡ state_of other.now) }
     {

@@ -1,4 +1,7 @@
-//! The deadlines of those who wait, in order, so that the least is found with no scan.
+//! The deadlines of those who wait, in order, so that the least is found with no scan: `Deadline` is one, `Deadlines` the list of all.
+//!
+//! A vector in order, and no heap or wheel: a wait may end early, served by a channel, and then its deadline has to be found again, which a
+//! heap can't be searched for.
 ghost use Rattle.std.specs.Prelude.{◌≡◌, ◌+◌, ◌<◌, ◌≤◌, ◌==◌, ◌⊎◌, ◌↔◌, ◌≢◌, [], Some, true, false, length, is_some, Contains, All, IfOk, IfSome, IfNone};
 ghost use Rattle.std.specs.List.Sorted.{IsPartitionPoint};
 ghost use Rattle.gmp_table.specs.Due.{DueContents, deadline_in, is_sooner};
@@ -10,7 +13,7 @@ use gmp_seq::Status;
 use std::alloc::{AllocError, Global};
 use std::marker::Model;
 
-/// When a goroutine stops waiting.
+/// When a goroutine stops waiting. By the rank it is woken; the goroutine's number makes each of them different.
 #[derive(Clone, Copy, Debug, PartialEq, Eq)]
 pub(crate) struct Deadline {
     pub rank: Rank,
@@ -34,15 +37,18 @@ impl Deadline {
         })
     }
 
+    /// By moment, then arrival, then number: a total order, so that each has one place.
     fn is_sooner(self, other: Deadline) -> bool
         ensures { result ≡ is_sooner self other }
     {
+        // The numbers decide between equal ranks, of which a run has none.
         self.rank.is_before(other.rank)
             || (!other.rank.is_before(self.rank) && self.g.0 < other.g.0)
     }
 }
 
-/// The latest stands first, so that the least is taken off the end. A contract sees the list, and how many have room.
+/// The latest stands first, so that the least is taken off the end: a tick moves none of the others. A contract sees the list, and how many
+/// have room.
 #[derive(Drop)]
 pub(crate) struct Deadlines {
     list: Vec<Deadline>,
@@ -56,6 +62,7 @@ impl Model for Deadlines {
 
     ghost view = { λ d. record { list = d.list.items; room = vec_capacity d.list } };
 
+    // Each is later than the next one.
     ghost invariant = { λ d. IsLatestFirst d.list.items };
 }
 
@@ -68,6 +75,7 @@ impl Deadlines {
         Ok(Deadlines { list })
     }
 
+    /// Whether nobody waits with a deadline.
     pub(crate) fn is_empty(&self) -> bool
         ensures { result ≡ (length self.now.list == 0) }
     {
@@ -91,7 +99,7 @@ impl Deadlines {
         self.list.partition_point(|y| x.is_sooner(*y))
     }
 
-    /// Puts one in its place, if one is given.
+    /// Puts one in its place, if one is given. Those that are sooner move down; the room is there from the opening.
     #[inline(always)]
     pub(crate) fn add(&mut self, x: Option<Deadline>)
         requires new { IfSome x (λ d. Contains self.old.list d → ⊥) }
@@ -104,6 +112,7 @@ impl Deadlines {
             return;
         };
         let i = self.place(x);
+        // It isn't refused: there is room for one of each goroutine.
         self.list.insert(i, x).unwrap();
     }
 
@@ -119,6 +128,7 @@ impl Deadlines {
             return;
         };
         let i = self.place(x);
+        // Of those that aren't later the first is x itself, since no two are the same.
         self.list.remove(i);
     }
 }

@@ -1,4 +1,5 @@
-//! The rows of the table, with counts and the deadlines in order, so that a question about all of them needs no scan.
+//! The rows of the table, with counts and the deadlines in order, so that a question about all of them needs no scan. A park asks who goes
+//! on, and a park must not look at all goroutines.
 ghost use Rattle.std.specs.Prelude.{◌≡◌, ◌+◌, ◌<◌, ◌^◌, replicate, length, slice_get, slice_set, option_copied, nat_lt, IfOk};
 ghost use Rattle.gmp_seq.specs.State.{dormant};
 ghost use Rattle.gmp_seq.specs.Table.{is_calling, is_ready_or_running, least_of};
@@ -14,10 +15,12 @@ use gmp_seq::{Goroutine, Place, Status};
 use std::alloc::{AllocError, Global};
 use std::marker::Model;
 
-/// The rows, by goroutine. A contract sees the list of them.
+/// The rows, by goroutine. A contract sees the list of them. `set` alone writes a row, and moves the counts and the deadline with it, so
+/// that no caller can forget one.
 #[derive(Drop)]
 pub(crate) struct Rows {
     list: Vec<Goroutine>,
+    /// How many rows there are.
     bodies: u16,
     /// How many are ready or running.
     going: usize,
@@ -36,6 +39,7 @@ impl Model for Rows {
 
     ghost view = { λ r. r.list.items };
 
+    // The counts are those of the rows, the deadlines are those of all who wait with one, and there is room for one each.
     ghost invariant = { λ r. IsTimed r.list.items r.bodies r.going r.calling r.deadlines };
 }
 
@@ -68,12 +72,14 @@ impl Rows {
         self.bodies
     }
 
+    /// All rows, by number.
     pub(crate) fn as_slice(&self) -> &[Goroutine]
         ensures { result.now ≡ self.now }
     {
         &self.list
     }
 
+    /// The row of g, if there is one.
     pub(crate) fn get(&self, g: GNo) -> Option<&Goroutine>
         ensures { option_copied result ≡ slice_get self.now g.0 }
     {
@@ -90,6 +96,7 @@ impl Rows {
         }
     }
 
+    /// How often it was made ready, and 0 where there is no such goroutine.
     pub(crate) fn epoch(&self, g: GNo) -> u64
         ensures { result ≡ epoch_in self.now g }
     {
@@ -99,13 +106,14 @@ impl Rows {
         }
     }
 
-    /// Writes a row.
+    /// Writes a row, and brings what is kept beside the rows in step.
     #[inline(always)]
     fn set(&mut self, g: GNo, row: Goroutine)
         requires { g.0 < length self.old }
         ensures { self.new ≡ slice_set self.old g.0 row }
     {
         let i = g.0 as usize;
+        // The old row goes out of counts and deadlines, and the new one in: where neither has a deadline, none is moved.
         let was = &self.list[i].status;
         let (going, calling) = (was.is_ready_or_running(), was.is_calling());
         self.deadlines.withdraw(Deadline::of(g, was));
@@ -115,7 +123,7 @@ impl Rows {
         self.list[i] = row;
     }
 
-    /// Gives a goroutine another status.
+    /// Gives a goroutine another status by the same epoch: its ticket moves, or is spent, or it stops.
     #[inline(always)]
     pub(crate) fn turn(&mut self, g: GNo, status: Status)
         requires { g.0 < length self.old }
@@ -125,7 +133,7 @@ impl Rows {
         self.set(g, Goroutine { status, epoch });
     }
 
-    /// Makes a goroutine ready by its next epoch, which is answered.
+    /// Makes a goroutine ready by its next epoch, which is answered: an epoch is given out once.
     #[inline(always)]
     pub(crate) fn rise(&mut self, g: GNo, place: Place, woke: Woke) -> u64
         requires within { g.0 < length self.old }
@@ -165,11 +173,12 @@ impl Rows {
         !self.deadlines.is_empty()
     }
 
-    /// Who is woken next by a tick, and what it is told.
+    /// Who is woken next by a tick, and what it is told: the soonest of all, if its moment has come.
     pub(crate) fn due(&self, now: u64) -> Option<Candidate>
         ensures first { IsFirst (Wake.Due now) self.now (length self.now) result }
         ensures few { length self.now < 2 ^ 16 }
     {
+        // If the soonest isn't due, nobody is.
         let soonest = self.deadlines.least()?;
         let row = &self.list[soonest.g.0 as usize];
         Candidate::due(now, soonest.g, &row.status)

@@ -1,4 +1,8 @@
-//! The status table.
+//! The status table: rows and shelf, and how many waits began and what the clock shows.
+//!
+//! A goroutine's way: dormant, ready (`start`, or the opening for main), running (`claim`), and then waiting (`wait`) or in a blocking call
+//! (`enter`), from which it comes back ready or running (`ready`, `requeue`, `leave`), until it is dead (`dead`). While it is ready its
+//! ticket is on the shelf or out (`shelve`, `unshelve`), and its epoch is the number of times that it was made ready.
 ghost use Rattle.std.specs.Prelude.{◌≡◌, ◌<◌, ◌^◌, true, false, Some, [], ◌∷◌, ◌++◌, max, slice_get, option_copied, length, IfOk, IfSome, IfNone};
 ghost use Rattle.std.specs.Option.{option_map_or};
 ghost use Rattle.gmp_base.specs.declared.ask.Woke.{Woke};
@@ -20,13 +24,16 @@ use std::marker::Model;
 
 /// The goroutines and the shelf, first in, first out. A contract sees the table, and the shelf in order.
 ///
-/// Only the opening takes memory.
+/// Only the opening takes memory. The shelf is a ring with room for every goroutine, so that a yield or a tick is never refused for want of
+/// it; a list that grows, or a filter of the rows for those on the shelf, would either need memory or look at all goroutines.
 #[derive(Drop)]
 pub struct StatusTable {
     rows: Rows,
+    /// Who is on the shelf, the first first. The ticket's epoch is in the row.
     shelf: HeapCircularBuffer<GNo>,
     /// How many waits began.
     arrivals: u64,
+    /// The latest moment that was told, in nanoseconds: it never goes back.
     clock: u64,
 }
 
@@ -38,11 +45,12 @@ impl Model for StatusTable {
 
     ghost view = { λ t. record { table = record { goroutines = t.rows; arrivals = t.arrivals; clock = t.clock }; shelf = t.shelf.items } };
 
+    // On the shelf is each goroutine whose status says so, once, and there is room for all.
     ghost invariant = { λ t. IsTable t.rows t.shelf.items t.shelf.capacity };
 }
 
 impl StatusTable {
-    /// All goroutines are dormant, but goroutine 0 is on the shelf. Room is made for all of them.
+    /// All goroutines are dormant, but goroutine 0, which is main, is on the shelf. Room is made for all of them.
     pub fn open(alloc: Global, bodies: u16) -> Result<Self, AllocError>
         requires { 0 < bodies }
         ensures { IfOk result (λ t. t ≡ opening_contents bodies) }
@@ -96,17 +104,18 @@ impl StatusTable {
         !self.shelf.is_empty()
     }
 
-    /// Whether somebody is ready or running.
+    /// Whether somebody is ready or running. While somebody is, no park has to mind a deadline.
     pub fn has_going(&self) -> bool
         ensures { result ≡ some_status is_ready_or_running self.now.table }
     {
         self.rows.any_going()
     }
 
-    /// Whether somebody is ready, running or calling, or waits with a deadline.
+    /// Whether somebody is ready, running or calling, or waits with a deadline. If not, all are asleep for good.
     pub fn has_astir(&self) -> bool
         ensures { result ≡ some_status is_astir self.now.table }
     {
+        // By counts: no row is looked at.
         self.rows.any_going() | self.rows.any_calling() | self.rows.any_timed()
     }
 
@@ -117,7 +126,8 @@ impl StatusTable {
         self.rows.least_deadline()
     }
 
-    /// Whether the ticket of this readiness is given out, and not yet claimed or put back.
+    /// Whether the ticket of this readiness is given out, and not yet claimed or put back. Any other ticket is refused above: it is spent,
+    /// on the shelf, or was never given out.
     pub fn is_outstanding(&self, r: Readiness) -> bool
         ensures { result ≡ is_outstanding self.now.table r }
     {
@@ -142,7 +152,7 @@ impl StatusTable {
         }
     }
 
-    /// How many waits began so far.
+    /// How many waits began so far. This is the arrival of the next.
     pub fn arrivals(&self) -> u64
         ensures { result ≡ self.now.table.arrivals }
     {
@@ -150,7 +160,7 @@ impl StatusTable {
     }
 
     /// Who of those whose deadline is at this moment, in nanoseconds, or before is woken first, by deadline and then by arrival, and what
-    /// it is told.
+    /// it is told. Only who is soonest of all can be; who waits without a deadline is never.
     pub fn due(&self, now: u64) -> Option<Candidate>
         ensures first { IsFirst (Wake.Due now) self.now.table.goroutines (length self.now.table.goroutines) result }
         // So few can be woken.
@@ -159,13 +169,15 @@ impl StatusTable {
         self.rows.due(now)
     }
 
-    /// Gives out the ticket of the goroutine that is on the shelf for longest.
+    /// Gives out the ticket of the goroutine that is on the shelf for longest. The definitions let it be any; that nobody is passed over is
+    /// this crate's promise.
     pub fn unshelve(&mut self) -> Option<Readiness>
         ensures none { IfNone result (Takes Reply.Nothing self.old.table self.new.table) }
         ensures taken { IfSome result (λ r. Takes (Reply.Ticket r) self.old.table self.new.table) }
         ensures empty { IfNone result ((self.old.shelf ≡ []) × (self.new.shelf ≡ [])) }
         ensures first { IfSome result (λ r. self.old.shelf ≡ r.g ∷ self.new.shelf) }
     {
+        // The answer stands in the row: the shelf has numbers alone, so both can't differ.
         let g = self.shelf.pop_front()?;
         let woke = self.rows.answer(g).unwrap();
         self.rows.turn(g, Status::Ready(Place::Out, woke));
@@ -175,7 +187,7 @@ impl StatusTable {
         })
     }
 
-    /// Puts a ticket that is out onto the shelf, last.
+    /// Puts a ticket that is out onto the shelf, last. The epoch stays, since it is the same time of being ready.
     pub fn shelve(&mut self, r: Readiness)
         requires { is_outstanding self.old.table r ≡ true }
         ensures puts { Puts r Reply.Shelf self.old.table self.new.table }
@@ -186,7 +198,7 @@ impl StatusTable {
         self.shelf.push_back(r.g);
     }
 
-    /// Spends a ticket that is out: m runs its goroutine, which is to be told the answer.
+    /// Spends a ticket that is out: m runs its goroutine, which is to be told the answer. Its epoch stays, and is never given out again.
     pub fn claim(&mut self, m: MNo, r: Readiness) -> Woke
         requires { is_outstanding self.old.table r ≡ true }
         ensures claims { Claims m r Reply.Held self.old.table self.new.table }
@@ -209,7 +221,8 @@ impl StatusTable {
         self.ready(g, Woke::First)
     }
 
-    /// Makes a goroutine ready, its ticket given out: one that starts, or stops waiting.
+    /// Makes a goroutine ready, its ticket given out to the machine that makes the call: one that starts, or stops waiting since it was
+    /// served or readied.
     pub fn ready(&mut self, g: GNo, woke: Woke) -> Readiness
         requires off { IsOffShelf self.old.table g }
         requires young { epoch_at self.old.table g < 2 ^ 63 }
@@ -222,7 +235,7 @@ impl StatusTable {
     }
 
     /// Makes a goroutine ready on the shelf, last: one that yields, that a close or a tick wakes, or that comes back from a blocking call
-    /// and finds no processor.
+    /// and finds no processor. A close or a tick may wake as many as there are, for which a reply has no room, and the shelf has.
     pub fn requeue(&mut self, g: GNo, woke: Woke) -> Readiness
         requires off { IsOffShelf self.old.table g }
         requires young { epoch_at self.old.table g < 2 ^ 63 }
@@ -235,7 +248,7 @@ impl StatusTable {
         Readiness { g, epoch }
     }
 
-    /// Ends a goroutine that is off the shelf.
+    /// Ends a goroutine that is off the shelf. Nobody starts it again.
     pub fn dead(&mut self, g: GNo)
         requires { IsOffShelf self.old.table g }
         ensures table { self.new.table ≡ set_status self.old.table g Status.Dead }
@@ -262,7 +275,8 @@ impl StatusTable {
         self.rows.turn(g, Status::Running(m));
     }
 
-    /// A goroutine that is off the shelf begins to wait, with these offers, until this moment, in nanoseconds.
+    /// A goroutine that is off the shelf begins to wait, with these offers, until this moment, in nanoseconds. That the offers stand with
+    /// their channels too is the caller's to do.
     pub fn wait(&mut self, g: GNo, kind: Kind, offers: Offers, until: Option<u64>)
         requires off { IsOffShelf self.old.table g }
         requires few { self.old.table.arrivals < 2 ^ 63 }
@@ -282,7 +296,8 @@ impl StatusTable {
         self.arrivals = arrival + 1;
     }
 
-    /// Lets the clock show this moment, in nanoseconds, unless it showed a later one, and answers what it shows.
+    /// Lets the clock show this moment, in nanoseconds, unless it showed a later one, and answers what it shows. Machines read the clock
+    /// before they make the call, so an earlier moment may come after a later one.
     pub fn advance_clock(&mut self, moment: u64) -> u64
         ensures shown { result ≡ max self.old.table.clock moment }
         ensures table { self.new ≡ record self.old { table = record self.old.table { clock = result } } }

@@ -1,4 +1,4 @@
-//! Whom a close or a tick wakes.
+//! Whom a close or a tick wakes: `Wake` says why, `Rank` who comes first, `Candidate` who it is and what it is told.
 ghost use Rattle.std.specs.Prelude.{◌≡◌};
 ghost use Rattle.gmp_table.specs.declared.wake.Wake.{Wake};
 ghost use Rattle.gmp_table.specs.Waking.{is_before, candidate_of};
@@ -6,7 +6,8 @@ ghost use Rattle.gmp_table.specs.Waking.{is_before, candidate_of};
 use gmp_base::{CNo, GNo, Woke};
 use gmp_seq::Status;
 
-/// Why goroutines are woken.
+/// Why goroutines are woken. A close and a tick are one effect in the definitions: each goroutine for which the reason has an answer
+/// becomes ready on the shelf.
 #[derive(Clone, Copy, Debug, PartialEq, Eq)]
 pub enum Wake {
     /// Their channel is closed.
@@ -25,6 +26,7 @@ pub struct Rank {
 }
 
 impl Rank {
+    /// Two that wait never have the same rank, since no two arrived at once.
     pub(crate) fn is_before(self, other: Rank) -> bool
         ensures { result ≡ is_before self other }
     {
@@ -32,7 +34,7 @@ impl Rank {
     }
 }
 
-/// One that is to be woken, and what it is told.
+/// One that is to be woken, and what it is told. Its offers are still to be taken out.
 #[derive(Clone, Copy, Debug, PartialEq, Eq)]
 pub struct Candidate {
     pub g: GNo,

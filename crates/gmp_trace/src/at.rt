@@ -1,5 +1,6 @@
-//! Reads the line that a text begins with. What it may say is guessed, the guess is written, and the text must begin with what was written: so
-//! what is read is spelled so, to the byte.
+//! Reads the line that a text begins with. What it may say is guessed, the guess is written, and the text must begin with what was written:
+//! so what is read is spelled so, to the byte.
+//! Not a reader that refuses as it goes: it would be a second definition of the text, and each of the two could be wrong in its own way.
 
 ghost use Rattle.std.specs.Prelude.{◌≡◌, ◌≢◌, ◌++◌, ◌<◌, ◌^◌, ℕ, List, length, map, All, OnOk, IfOk, IfSome, IsSomeAnd, MatchOption};
 ghost use Rattle.gmp_base.specs.Fits.{IsWord};
@@ -21,12 +22,14 @@ use gmp_seq::{Call, Entry, Limits, Reply};
 use std::alloc::{AllocError, Global};
 
 /// The text behind the line, if it begins with the line.
+/// No error tells the two apart: whoever reads knows which line it is.
 pub fn behind<'a>(text: &'a [u8], line: &[u8]) -> Option<&'a [u8]>
     ensures { MatchOption result ((rest : List ℕ) → text.now ≢ line.now ++ rest) (λ rest. text.now ≡ line.now ++ rest.now) }
 {
     text.strip_prefix(line)
 }
 
+/// What the words of line 2 may say. A number too great for its place is cut, and then the comparison fails.
 #[tactic(auto, unfolding(crate::specs::Guess::limits_read))]
 fn guess_limits(words: &[&[u8]]) -> Limits
     ensures { result ≡ limits_read (map (λ w. w.now) words.now) }
@@ -39,6 +42,7 @@ fn guess_limits(words: &[&[u8]]) -> Limits
     }
 }
 
+/// The number of bodies of the same line.
 #[tactic(auto, unfolding(crate::specs::Guess::bodies_of))]
 fn guess_bodies(words: &[&[u8]]) -> u16
     ensures { result ≡ bodies_of (map (λ w. w.now) words.now) }
@@ -47,6 +51,7 @@ fn guess_bodies(words: &[&[u8]]) -> u16
 }
 
 /// The limits and the number of bodies whose line the text begins with, and the text behind it.
+/// `words` and `line` are room that is used anew for each line.
 pub fn limits_at<'a>(
     text: &'a [u8],
     words: &mut Vec<&'a [u8]>,
@@ -67,6 +72,7 @@ pub fn limits_at<'a>(
     Ok(Some((limits, bodies, rest)))
 }
 
+/// A capacity for each word.
 fn guess_capacities(alloc: Global, words: &[&[u8]]) -> Result<Vec<u32>, AllocError>
     ensures { IfOk result (λ v. v.items ≡ map capacity_of (map (λ w. w.now) words.now)) }
 {
@@ -113,12 +119,13 @@ fn guess_entry(words: &[&[u8]], entry: &mut Entry)
 }
 
 /// An entry to read into.
+/// Reading into one that is there saves the copy of an entry, which is wide.
 pub fn blank() -> Entry {
     Entry::new(MNo(0), 0, Call::Yield, Reply::Nothing)
 }
 
-/// Reads the entry whose line the text begins with. It answers the number before it, and the text behind the line. What is answered `idle P` is
-/// read by the call. Where the text begins with no such line, the entry is some entry.
+/// Reads the entry whose line the text begins with. It answers the number before it, and the text behind the line. What is answered
+/// `idle P` is read by the call. Where the text begins with no such line, the entry is some entry.
 pub fn entry_at<'a>(
     text: &'a [u8],
     words: &mut Vec<&'a [u8]>,
@@ -140,6 +147,7 @@ pub fn entry_at<'a>(
     Ok(Some((n, rest)))
 }
 
+/// The end that the words of the last line may say.
 #[tactic(auto, unfolding(crate::specs::Guess::end_in))]
 fn guess_end(words: &[&[u8]]) -> End
     ensures { result ≡ end_in (map (λ w. w.now) words.now) }

@@ -1,4 +1,5 @@
-//! What is wrong with a trace.
+//! What is wrong with a trace: `Why` is the word, `Bad` the word with its line.
+//! `read` says all but Step and Outcome, which `check` of gmp_check says.
 
 ghost use Rattle.std.specs.Prelude.{◌≡◌};
 ghost use Rattle.gmp_trace.specs.Bad.{word_of};
@@ -9,23 +10,32 @@ use std::fmt;
 /// What is wrong with a line. Its text, by `Display`, is its word.
 #[derive(Clone, Copy, Debug, PartialEq, Eq)]
 pub enum Why {
+    /// Line 1 is none of the two headers.
     Header,
+    /// Line 2 isn't spelled so, or its limits are out of range.
     Limits,
+    /// Line 3 of version 1 isn't spelled so, or has too many channels or too great a capacity.
     Caps,
     /// A line of version 2's start is bad, or the state doesn't fit together.
     Start,
+    /// A line is spelled as none of an entry and none of an end, or its call is never answered so.
     Grammar,
+    /// An entry's number, its machine, or its count of the machine's entries isn't the next.
     Number,
+    /// The text stops with no line of an end.
     End,
+    /// Something stands behind the end.
     Extra,
     /// No step of the plain scheduler is this entry.
     Step,
     /// The end is not that of the state.
     Outcome,
+    /// Memory was refused, so nothing is said of the text.
     OutOfMemory,
 }
 
 impl Why {
+    /// Its word, as it stands in the texts.
     fn word(self) -> &'static str
         ensures { result.now ≡ word_of self }
     {
@@ -63,6 +73,7 @@ impl Error for Why {}
 pub struct Bad {
     /// 0 where memory was refused.
     pub line: u64,
+    /// What is wrong with it.
     pub why: Why,
 }
 

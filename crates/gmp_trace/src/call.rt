@@ -1,4 +1,4 @@
-//! The words of a call.
+//! The words of a call, placed in a line or put at the end of a text. Each call has one spelling, and `guess` is its mirror.
 
 ghost use Rattle.std.specs.Prelude.{◌≡◌, ◌+◌, ◌*◌, ◌≤◌, ◌++◌, OnOk, length, take, map};
 ghost use Rattle.gmp_trace.specs.Pieces.{fields, call_pieces, default_pieces, until_pieces};
@@ -11,6 +11,7 @@ use gmp_base::Case;
 use gmp_seq::Call;
 use std::alloc::AllocError;
 
+/// The cases of a select, each a word.
 fn place_cases(line: &mut [u8], at: usize, cases: &[Case]) -> usize
     requires { at + 47 * length cases.now ≤ length line.old }
     ensures text { take result line.new ≡ take at line.old ++ fields (map OfCase cases.now) }
@@ -23,6 +24,7 @@ fn place_cases(line: &mut [u8], at: usize, cases: &[Case]) -> usize
     end
 }
 
+/// What may stand behind the cases: a default, and then a deadline.
 fn place_options(line: &mut [u8], at: usize, has_default: bool, until: Option<u64>) -> usize
     requires { at + 35 ≤ length line.old }
     ensures text { take result line.new ≡ take at line.old ++ fields (default_pieces has_default ++ until_pieces until) }
@@ -89,6 +91,7 @@ pub fn place_call(line: &mut [u8], at: usize, call: &Call) -> usize
 pub fn put_call(out: &mut Vec<u8>, call: &Call) -> Result<(), AllocError>
     ensures { OnOk result (out.new.items ≡ out.old.items ++ fields (call_pieces call.now)) }
 {
+    // The longest call is a select of 8 sends with a deadline.
     let mut room = [0; 420];
     let end = place_call(&mut room, 0, call);
     out.extend_from_slice(&room[..end])

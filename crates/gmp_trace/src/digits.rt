@@ -1,4 +1,5 @@
-//! The digits of a number.
+//! The digits of a number, placed in a line. Most numbers of a trace are short, so those below 10,000 and 100,000,000 have ways of their
+//! own, two digits at a time; any other goes by `itoa`.
 
 ghost use Rattle.std.specs.Prelude.{◌≡◌, ◌+◌, ◌/◌, ◌%◌, ◌<◌, ◌≤◌, [], ◌∷◌, ◌++◌, length, take, decimal};
 

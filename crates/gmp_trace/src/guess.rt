@@ -1,4 +1,5 @@
 //! The call that words may say. Nothing is refused: who reads writes the guess, and compares.
+//! So a letter or two of a name decide, and words that say no call give some call, whose text isn't theirs.
 
 ghost use Rattle.std.specs.Prelude.{◌≡◌, ◌<◌, ◌++◌, ◌∷◌, [], length, map};
 ghost use Rattle.gmp_seq.specs.Fits.{FitsCall};
@@ -10,6 +11,7 @@ use crate::words::{
 use gmp_base::{Case, Cases, GNo};
 use gmp_seq::Call;
 
+/// Whether a word begins as a case does.
 #[tactic(auto, unfolding(crate::specs::Guess::is_case))]
 fn is_case(word: &[u8]) -> bool
     ensures { result ≡ is_case word.now }
@@ -18,6 +20,7 @@ fn is_case(word: &[u8]) -> bool
     kind == b"send".as_slice() || kind == b"recv".as_slice()
 }
 
+/// The case that a word may say.
 #[tactic(auto, unfolding(crate::specs::Guess::case_read))]
 fn case(word: &[u8]) -> Case
     ensures { result ≡ case_read word.now }
@@ -31,6 +34,7 @@ fn case(word: &[u8]) -> Case
     }
 }
 
+/// One case more. At the ninth there is no room, but nobody comes so far.
 fn add(cases: &mut Cases, case: Case)
     requires { length cases.old < 8 }
     ensures { cases.new ≡ cases.old ++ case ∷ [] }
@@ -38,6 +42,7 @@ fn add(cases: &mut Cases, case: Case)
     let _ = cases.push(case);
 }
 
+/// The cases that the words begin with, eight at most, and the words behind them.
 fn cases<'b, 'a>(words: &'b [&'a [u8]]) -> (Cases, &'b [&'a [u8]])
     ensures { (result.0, map (λ w. w.now) result.1.now) ≡ leading_cases 8 (map (λ w. w.now) words.now) }
 {
@@ -54,6 +59,7 @@ fn cases<'b, 'a>(words: &'b [&'a [u8]]) -> (Cases, &'b [&'a [u8]])
     (cases, skip(words, words.len()))
 }
 
+/// Whether the words begin with `default`, and the words behind it.
 fn default<'b, 'a>(words: &'b [&'a [u8]]) -> (bool, &'b [&'a [u8]])
     ensures { (result.0, map (λ w. w.now) result.1.now) ≡ default_of (map (λ w. w.now) words.now) }
 {
@@ -85,6 +91,7 @@ fn select(words: &[&[u8]]) -> Call
     Call::Select(cases, has_default, until(words))
 }
 
+/// By the first and the third letter, which tell all 29 names apart.
 #[tactic(auto, unfolding(crate::specs::Guess::call_named))]
 fn named(first: u8, third: u8, words: &[&[u8]], call: &mut Call)
     ensures value { call.new ≡ call_named first third (map (λ w. w.now) words.now) }

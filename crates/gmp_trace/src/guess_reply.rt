@@ -1,4 +1,5 @@
 //! The reply that words may say. Nothing is refused: who reads writes the guess, and compares.
+//! Two replies have one spelling, `idle P`: which of them it is, the call says.
 
 ghost use Rattle.std.specs.Prelude.{◌≡◌, map};
 ghost use Rattle.gmp_trace.specs.Guess.{fault_of, served_of, relay_of, woken_of, taken_of, idle_of, shelf_of, reply_named, reply_of};
@@ -7,6 +8,7 @@ use crate::words::{byte, letter, narrow8, narrow16, number, readiness, skip, wor
 use gmp_base::{CNo, Fault, MNo, PNo, Readiness};
 use gmp_seq::{Call, Relay, Reply, Taken};
 
+/// The fault of this number; of a number that none has, some fault.
 #[tactic(auto, unfolding(crate::specs::Guess::fault_of))]
 fn fault(n: u64) -> Fault
     ensures { result ≡ fault_of n }
@@ -99,6 +101,7 @@ fn shelf(word: &[u8]) -> Reply
     }
 }
 
+/// By the first three letters, where one or two do not tell replies apart.
 #[tactic(auto, unfolding(crate::specs::Guess::reply_named))]
 fn named(call: &Call, first: u8, second: u8, third: u8, words: &[&[u8]]) -> Reply
     ensures { result ≡ reply_named call.now first second third (map (λ w. w.now) words.now) }

@@ -30,8 +30,8 @@ pub fn run_has_text()
         → Run x.limits start x.entries s → All Fits x.entries → HasText x }
 {}
 
-/// Want of memory aside, at most one line and one word fit a text, and none fits the text of a trace. The texts are shorter than 2 ^ 64 bytes, as
-/// all are that lie in memory.
+/// Want of memory aside, at most one line and one word fit a text, and none fits the text of a trace. The texts are shorter than 2 ^ 64
+/// bytes, as all are that lie in memory.
 pub fn one_first_fault()
     ensures one { (bytes : List ℕ) (m n : ℕ) (a b : Why) → length bytes < 2 ^ 64 → IsFault bytes m a → IsFault bytes n b → a ≢ OutOfMemory → b ≢ OutOfMemory
         → (m ≡ n) × (a ≡ b) }

@@ -1,12 +1,18 @@
-//! The trace: a run of the scheduler as a text.
+//! The trace: a run of the scheduler as a text, one line an entry, to be kept, compared and judged.
 //!
 //! Line 1 is `gmp-trace 1` or `gmp-trace 2`, and line 2 has the limits. In version 1 line 3 has the capacities of the channels at the
 //! opening; in version 2 lines 3 to that with `begin` have the state at which the run goes on. Then each entry has a line,
-//! `N M.K CALL -> REPLY`: its number in the run, from 0, its machine, how many entries that machine made before, the call, and the reply. The
-//! last line says how the run ended.
+//! `N M.K CALL -> REPLY`: its number in the run, from 0, its machine, how many entries that machine made before, the call, and the reply.
+//! The last line says how the run ended.
 //!
-//! The text is ASCII. Each line ends with a line feed, and its words are parted by one space. A number is decimal,
-//! with no leading zero. A moment, as of `tick` or `sleep`, is in nanoseconds.
+//! The text is ASCII. Each line ends with a line feed, and its words are parted by one space. A number is decimal, with no leading zero. A
+//! moment, as of `tick` or `sleep`, is in nanoseconds.
+//!
+//! **Invariant**: a trace has one text (`text`), `write` writes exactly that, and `read` takes back that and no other spelling. `read`
+//! refuses the first bad line by its number and a word (`Bad`, `Why`): a spelling, a number that isn't next, a limit out of range, a start
+//! that doesn't fit together. Whether each entry is a step of the scheduler it doesn't ask: that is `check` of gmp_check.
+//! Writing: `line` over `call`, `reply` and `start/put`, by `place` and `put`. Reading: `whole` over `at` and `start/at`, which guess a
+//! line (`guess`, `guess_reply`) from its `words`, write the guess and compare.
 #![tactic(auto)]
 
 mod at;

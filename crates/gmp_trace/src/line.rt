@@ -1,4 +1,5 @@
-//! Lines of the text.
+//! Lines of the text, each put at the end of what is gathered.
+//! An entry's line is placed in an array first and copied once. Pushed piece by piece, each piece would ask for room and could want memory.
 
 ghost use Rattle.std.specs.Prelude.{◌≡◌, ◌≤◌, ◌++◌, OnOk, length, take};
 ghost use Rattle.gmp_trace.specs.Pieces.{limit, limits_text, capacities_text, end_text, entry_text};
@@ -17,6 +18,7 @@ use std::alloc::AllocError;
 /// A line of an entry is no longer: its longest has a select of 8 sends.
 pub const LONGEST: usize = 640;
 
+/// The name of a limit, and its number.
 #[tactic(auto, unfolding(crate::specs::Pieces::limit))]
 fn put_limit(out: &mut Vec<u8>, name: &[u8], n: u64) -> Result<(), AllocError>
     ensures { OnOk result (out.new.items ≡ out.old.items ++ limit name.now n) }
@@ -76,8 +78,8 @@ pub fn put_beginning(
     }
 }
 
-/// The line of an entry, at the beginning of the room: its number, its machine and which of the machine's it is, the
-/// call and the reply.
+/// The line of an entry, at the beginning of the room: its number, its machine and which of the machine's it is, the call and the reply. It
+/// answers where the line ends.
 #[tactic(auto, unfolding(crate::specs::Pieces::entry_text))]
 fn place_entry(line: &mut [u8], number: u64, entry: &Entry) -> usize
     requires { 640 ≤ length line.old }

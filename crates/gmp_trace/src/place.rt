@@ -1,5 +1,6 @@
-//! Puts words at a place in a line that has room for them, and answers where they end. Each bound is as if every number
-//! in the words had 20 digits.
+//! Puts words at a place in a line that has room for them, and answers where they end. Each bound is as if every number in the words had 20
+//! digits.
+//! With the bounds of `line`'s pieces this shows that the longest line fits its array, so nothing here can fail.
 
 ghost use Rattle.std.specs.Prelude.{◌≡◌, ◌+◌, ◌<◌, ◌≤◌, [], ◌∷◌, ◌++◌, length, take, decimal};
 ghost use Rattle.gmp_trace.specs.Pieces.{boolean, channel_text, case_text, piece_text};
@@ -64,6 +65,7 @@ pub fn place_pair(line: &mut [u8], at: usize, a: u64, b: u64) -> usize
     place_digits(line, at, b)
 }
 
+/// A space, a goroutine and its epoch.
 #[inline(always)]
 pub fn place_readiness(line: &mut [u8], at: usize, r: Readiness) -> usize
     requires { at + 42 ≤ length line.old }
@@ -73,6 +75,7 @@ pub fn place_readiness(line: &mut [u8], at: usize, r: Readiness) -> usize
     place_pair(line, at, u64::from(r.g.0), r.epoch)
 }
 
+/// A space, and `true` or `false`.
 pub fn place_bool(line: &mut [u8], at: usize, b: bool) -> usize
     requires { at + 6 ≤ length line.old }
     ensures text { take result line.new ≡ take at line.old ++ 32 ∷ piece_text (boolean b) }
@@ -85,6 +88,7 @@ pub fn place_bool(line: &mut [u8], at: usize, b: bool) -> usize
     }
 }
 
+/// A channel by its number, or `nil`.
 fn place_channel_text(line: &mut [u8], at: usize, c: Option<CNo>) -> usize
     requires { at + 20 ≤ length line.old }
     ensures text { take result line.new ≡ take at line.old ++ channel_text c }
@@ -96,6 +100,7 @@ fn place_channel_text(line: &mut [u8], at: usize, c: Option<CNo>) -> usize
     }
 }
 
+/// A space, and a channel.
 pub fn place_channel(line: &mut [u8], at: usize, c: Option<CNo>) -> usize
     requires { at + 21 ≤ length line.old }
     ensures text { take result line.new ≡ take at line.old ++ 32 ∷ channel_text c }
@@ -105,6 +110,7 @@ pub fn place_channel(line: &mut [u8], at: usize, c: Option<CNo>) -> usize
     place_channel_text(line, at, c)
 }
 
+/// A space, and a case of a select in one word: `send:C:V` or `recv:C`.
 pub fn place_case(line: &mut [u8], at: usize, case: Case) -> usize
     requires { at + 47 ≤ length line.old }
     ensures text { take result line.new ≡ take at line.old ++ 32 ∷ case_text case }

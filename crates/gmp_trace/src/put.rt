@@ -1,4 +1,4 @@
-//! Puts words at the end of a text.
+//! Puts words at the end of a text. Each of them may want memory, as long as the text has no room left.
 
 ghost use Rattle.std.specs.Prelude.{◌≡◌, ◌++◌, ◌∷◌, OnOk, decimal};
 

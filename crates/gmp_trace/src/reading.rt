@@ -1,4 +1,5 @@
-//! Reads single lines of the text of a trace, each without its line feed.
+//! Reads single lines of the text of a trace, each without its line feed, for whoever has a line and no trace. None where the line spells
+//! no such thing.
 
 ghost use Rattle.std.specs.Prelude.{◌≡◌, ◌<◌, ◌^◌, ◌++◌, ◌∷◌, [], ℕ, List, length, All, IfOk, IfSome, IsSomeAnd};
 ghost use Rattle.gmp_seq.specs.declared.call.Call.{Call};
@@ -35,7 +36,7 @@ pub fn read_call(alloc: Global, text: &[u8]) -> Result<Option<Call>, AllocError>
     Ok(Some(call))
 }
 
-/// The line with its line feed.
+/// The line with its line feed, as the readers of a whole text want it.
 fn fed(alloc: Global, line: &[u8]) -> Result<Vec<u8>, AllocError>
     ensures { IfOk result (λ v. v.items ≡ line.now ++ 10 ∷ []) }
 {

@@ -1,4 +1,4 @@
-//! The words of a reply.
+//! The words of a reply, placed in a line. `guess_reply` is their mirror. Each bound is that of the longest words that a function places.
 
 ghost use Rattle.std.specs.Prelude.{◌≡◌, ◌+◌, ◌≤◌, ◌++◌, length, take};
 ghost use Rattle.gmp_trace.specs.Pieces.{fields, served_pieces, moved_pieces, woken_pieces, sent_pieces, got_pieces, fault_pieces, taken_pieces, reply_pieces};
@@ -9,6 +9,7 @@ use crate::place::{
 use gmp_base::{Fault, MNo, Readiness};
 use gmp_seq::{Relay, Reply, Taken};
 
+/// A send that proceeded, and whom it woke, if anybody.
 fn place_sent(line: &mut [u8], at: usize, to: Option<Readiness>) -> usize
     requires { at + 53 ≤ length line.old }
     ensures text { take result line.new ≡ take at line.old ++ fields (sent_pieces to) }
@@ -21,6 +22,7 @@ fn place_sent(line: &mut [u8], at: usize, to: Option<Readiness>) -> usize
     }
 }
 
+/// Whom a receive woke, and which value of his went into the buffer.
 fn place_moved(line: &mut [u8], at: usize, from: Option<Relay>) -> usize
     requires { at + 75 ≤ length line.old }
     ensures text { take result line.new ≡ take at line.old ++ fields (moved_pieces from) }
@@ -33,6 +35,7 @@ fn place_moved(line: &mut [u8], at: usize, from: Option<Relay>) -> usize
     place_named(line, at, b"moves", relay.value)
 }
 
+/// A receive that proceeded: the value, and whether it was sent or the channel is closed.
 fn place_got(line: &mut [u8], at: usize, value: u64, sent: bool, from: Option<Relay>) -> usize
     requires { at + 106 ≤ length line.old }
     ensures text { take result line.new ≡ take at line.old ++ fields (got_pieces value sent from) }
@@ -43,6 +46,7 @@ fn place_got(line: &mut [u8], at: usize, value: u64, sent: bool, from: Option<Re
     place_moved(line, at, from)
 }
 
+/// A fault by its number.
 fn place_fault(line: &mut [u8], at: usize, fault: Fault) -> usize
     requires { at + 27 ≤ length line.old }
     ensures text { take result line.new ≡ take at line.old ++ fields (fault_pieces fault) }
@@ -51,6 +55,7 @@ fn place_fault(line: &mut [u8], at: usize, fault: Fault) -> usize
     place_named(line, at, b"fault", u64::from(fault.number()))
 }
 
+/// What the chosen case of a select came to.
 fn place_taken(line: &mut [u8], at: usize, taken: Taken) -> usize
     requires { at + 106 ≤ length line.old }
     ensures text { take result line.new ≡ take at line.old ++ fields (taken_pieces taken) }
@@ -63,6 +68,7 @@ fn place_taken(line: &mut [u8], at: usize, taken: Taken) -> usize
     }
 }
 
+/// Which machine woke, if one did.
 fn place_woken(line: &mut [u8], at: usize, machine: Option<MNo>) -> usize
     requires { at + 27 ≤ length line.old }
     ensures text { take result line.new ≡ take at line.old ++ fields (woken_pieces machine) }

@@ -1,4 +1,5 @@
-//! The summary of a trace.
+//! The summary of a trace: how it ended, and how many entries it has, by machine and by call.
+//! Of a part of a run it counts the entries that stand there, so the summaries of two parts add up to that of the whole.
 
 ghost use Rattle.std.specs.Prelude.{◌≡◌, ◌<◌, ◌++◌, [], List, replicate, slice_index_or, OnOk, IfOk, IfErr};
 ghost use Rattle.std.specs.Io.KnownBytes.{Appends};
@@ -17,7 +18,7 @@ use itoa::Buffer;
 use std::alloc::{AllocError, Global};
 use std::io::Write;
 
-/// How many calls there are.
+/// How many calls there are, and so how long the table is.
 const CALLS: usize = 29;
 
 /// The place of a call in the table.
@@ -113,6 +114,7 @@ fn machine_place(m: MNo) -> usize
     usize::from(m.0)
 }
 
+/// One walk over the entries.
 fn count(entries: &History) -> Counts
     ensures machines { CountsMachines result.machines entries.now.list }
     ensures calls { CountsCalls result.calls entries.now.list }
@@ -126,6 +128,7 @@ fn count(entries: &History) -> Counts
     Counts { machines, calls }
 }
 
+/// The line of the end.
 #[tactic(auto, unfolding(crate::specs::Summary::outcome_line))]
 fn put_outcome(out: &mut Vec<u8>, end: End) -> Result<(), AllocError>
     ensures { OnOk result (out.new.items ≡ out.old.items ++ outcome_line end) }
@@ -138,6 +141,7 @@ fn put_outcome(out: &mut Vec<u8>, end: End) -> Result<(), AllocError>
     }
 }
 
+/// The line with the number of all entries.
 #[tactic(auto, unfolding(crate::specs::Summary::entries_line))]
 fn put_entries(out: &mut Vec<u8>, n: u64) -> Result<(), AllocError>
     ensures { OnOk result (out.new.items ≡ out.old.items ++ entries_line n) }
@@ -148,6 +152,7 @@ fn put_entries(out: &mut Vec<u8>, n: u64) -> Result<(), AllocError>
     Ok(())
 }
 
+/// The line of one machine.
 #[tactic(auto, unfolding(crate::specs::Summary::machine_line))]
 fn put_machine(out: &mut Vec<u8>, m: u8, n: u64) -> Result<(), AllocError>
     ensures { OnOk result (out.new.items ≡ out.old.items ++ machine_line m n) }
@@ -160,6 +165,7 @@ fn put_machine(out: &mut Vec<u8>, m: u8, n: u64) -> Result<(), AllocError>
     Ok(())
 }
 
+/// A line for each machine, with those that made none.
 fn put_machines(out: &mut Vec<u8>, machines: u8, counts: &[u64; 256]) -> Result<(), AllocError>
     ensures { (es : List Entry) → CountsMachines counts.now es → OnOk result (out.new.items ≡ out.old.items ++ machine_lines 0 machines es) }
 {
@@ -169,6 +175,7 @@ fn put_machines(out: &mut Vec<u8>, machines: u8, counts: &[u64; 256]) -> Result<
     Ok(())
 }
 
+/// So many spaces, which put the numbers of calls below one another.
 fn put_spaces(out: &mut Vec<u8>, n: usize) -> Result<(), AllocError>
     ensures { OnOk result (out.new.items ≡ out.old.items ++ replicate n 32) }
 {
@@ -178,6 +185,7 @@ fn put_spaces(out: &mut Vec<u8>, n: usize) -> Result<(), AllocError>
     Ok(())
 }
 
+/// The line of one call; of one that no entry makes there is none.
 #[tactic(auto, unfolding(crate::specs::Summary::call_line))]
 fn put_call_line(out: &mut Vec<u8>, name: &[u8], n: u64) -> Result<(), AllocError>
     ensures { OnOk result (out.new.items ≡ out.old.items ++ call_line name.now n) }
@@ -195,6 +203,7 @@ fn put_call_line(out: &mut Vec<u8>, name: &[u8], n: u64) -> Result<(), AllocErro
     Ok(())
 }
 
+/// A line for each call that some entry makes, in the order of the table.
 fn put_call_lines(out: &mut Vec<u8>, counts: &[u64; CALLS]) -> Result<(), AllocError>
     ensures { (es : List Entry) → CountsCalls counts.now es → OnOk result (out.new.items ≡ out.old.items ++ call_lines names es) }
 {
@@ -219,8 +228,8 @@ fn lines(alloc: Global, trace: &Trace) -> Result<Vec<u8>, AllocError>
 
 /// Writes the summary of a trace: its end, how many entries it has, how many each machine has, and how many make each call.
 ///
-/// It goes over the entries once, and takes memory for the summary alone. `Device` comes only where the writer failed, and `OutOfMemory` only
-/// where memory was refused: nothing went out then.
+/// It goes over the entries once, and takes memory for the summary alone. `Device` comes only where the writer failed, and `OutOfMemory`
+/// only where memory was refused: nothing went out then.
 pub fn summary<W: Write>(alloc: Global, trace: &Trace, writer: &mut W) -> Result<(), WriteError>
     ensures written { OnOk result (Appends (W.contents writer.old) (W.contents writer.new) (summary_text (content trace.now))) }
     ensures unsent { IfErr result (λ e. e ≡ OutOfMemory → W.contents writer.new ≡ W.contents writer.old) }

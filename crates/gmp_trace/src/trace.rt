@@ -1,4 +1,6 @@
-//! A whole trace.
+//! A whole trace: how it begins (`Beginning`), its entries, and how it ended (`End`). `Version` is the number in line 1.
+//! `TraceView` and `BeginningView` are the same of a run that lies elsewhere: a history of a million entries is written where it lies, and
+//! not copied.
 
 ghost use Rattle.std.specs.Prelude.{◌≡◌};
 ghost use Rattle.gmp_trace.specs.Text.{IsCounted, begins_at, begins_of, content, content_of, end_of, first_number};
@@ -7,7 +9,7 @@ use gmp_history::History;
 use gmp_seq::{Limits, Outcome};
 use gmp_start::Start;
 
-/// How a run ended.
+/// How a run ended. `Running` is no outcome: the run was left before it had one.
 #[derive(Clone, Copy, Debug, PartialEq, Eq)]
 pub enum End {
     MainEnded,

@@ -1,4 +1,5 @@
-//! Who is told how far a long work is.
+//! Who is told how far a long work is: `Watch` hears of `Work`, and `()` is nobody.
+//! A watch has no clause, and what is read or judged doesn't depend on it. Not a closure: its calls would need a condition at each layer.
 
 /// What is done with entries.
 #[derive(Clone, Copy, Debug, PartialEq, Eq)]
@@ -9,6 +10,7 @@ pub enum Work {
 
 /// Is told now and then how many entries were read, and then how many were checked, in order.
 pub trait Watch {
+    /// So many entries of this work are done, counted from its beginning.
     fn entries(&mut self, work: Work, count: u64);
 }
 

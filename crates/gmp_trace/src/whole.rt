@@ -1,4 +1,5 @@
-//! Reads a whole trace.
+//! Reads a whole trace, line by line, into a `Trace`; or says the first bad line.
+//! `First` is where entries begin, behind the lines of either version.
 
 ghost use Rattle.std.specs.Prelude.{◌≡◌, ◌≢◌, ◌↔◌, ◌+◌, ◌<◌, ◌≤◌, ◌++◌, ◌^◌, [], ℕ, List, IsTrue, IfOk, IfErr, IfSome, IsSomeAnd, MatchOption, MatchResult, slice_index};
 ghost use Rattle.gmp_base.specs.declared.number.MNo.{MNo};
@@ -28,6 +29,7 @@ use gmp_seq::{Call, Entry, Limits, Reply};
 use gmp_start::Start;
 use std::alloc::{AllocError, Global};
 
+/// What is said where memory was refused: of no line.
 const OUT_OF_MEMORY: Bad = Bad {
     line: 0,
     why: Why::OutOfMemory,
@@ -75,6 +77,7 @@ fn allowed_capacities_at<'a>(
 }
 
 /// May the call be answered so?
+/// Every reply has a spelling, but not every call has every reply: a send is never answered `parked`.
 fn is_answered(call: &Call, reply: &Reply) -> bool
     ensures { result ≡ answers call.now reply.now }
 {
@@ -227,6 +230,7 @@ fn body<W: Watch>(
     let mut words = Vec::new(alloc);
     let mut line = Vec::new(alloc);
     let mut rest = text;
+    // A line each, until one is no entry: then it is the end, or bad.
     while !rest.is_empty() {
         let read = entries.len() as u64;
         tell(watch, Work::Reading, read);

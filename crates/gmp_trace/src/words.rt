@@ -47,6 +47,7 @@ pub fn number(word: &[u8]) -> u64
     n
 }
 
+/// The last 8 bits. A number that is cut is spelled otherwise than it was read.
 #[tactic(auto, unfolding(crate::specs::Guess::narrow))]
 pub fn narrow8(n: u64) -> u8
     ensures { result ≡ narrow 8 n }
@@ -54,6 +55,7 @@ pub fn narrow8(n: u64) -> u8
     (n % 256) as u8
 }
 
+/// The last 16 bits.
 #[tactic(auto, unfolding(crate::specs::Guess::narrow))]
 pub fn narrow16(n: u64) -> u16
     ensures { result ≡ narrow 16 n }
@@ -61,6 +63,7 @@ pub fn narrow16(n: u64) -> u16
     (n % 65_536) as u16
 }
 
+/// The last 32 bits.
 #[tactic(auto, unfolding(crate::specs::Guess::narrow))]
 pub fn narrow32(n: u64) -> u32
     ensures { result ≡ narrow 32 n }
@@ -68,6 +71,7 @@ pub fn narrow32(n: u64) -> u32
     (n % 4_294_967_296) as u32
 }
 
+/// The goroutine and the epoch that a word with a point says.
 #[tactic(auto, unfolding(crate::specs::Guess::readiness_read))]
 pub fn readiness(word: &[u8]) -> Readiness
     ensures { result ≡ readiness_read word.now }
@@ -79,6 +83,7 @@ pub fn readiness(word: &[u8]) -> Readiness
     }
 }
 
+/// The channel that a word says, or none for `nil`.
 #[tactic(auto, unfolding(crate::specs::Guess::channel_read))]
 pub fn channel(word: &[u8]) -> Option<CNo>
     ensures { result ≡ channel_read word.now }

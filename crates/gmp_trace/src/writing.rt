@@ -1,4 +1,5 @@
-//! Writes the text of a trace.
+//! Writes the text of a trace to a writer, and gathers some 64 KiB before each write: the memory that it takes doesn't grow with the trace.
+//! Not `Display` for each type, nor the whole text in memory: pushes onto one buffer are quicker, and the buffer is cleared.
 
 ghost use Rattle.std.specs.Prelude.{◌≡◌, [], OnOk, IfErr};
 ghost use Rattle.std.specs.Io.KnownBytes.{Appends};
@@ -33,6 +34,7 @@ impl From<AllocError> for WriteError {
 /// As many bytes are gathered before they go out.
 const GATHERED: usize = 65_536;
 
+/// Sends what is gathered, and clears it; its room stays.
 fn send<W: Write>(out: &mut Vec<u8>, writer: &mut W) -> Result<(), WriteError>
     ensures sent { OnOk result (Appends (W.contents writer.old) (W.contents writer.new) out.old.items) }
     ensures empty { OnOk result (out.new.items ≡ []) }

@@ -6,8 +6,8 @@ use Rattle.gmp_base.specs.declared.number.Readiness.{Readiness}
 use Rattle.gmp_base.specs.declared.pass.Pass.{Pass}
 use Rattle.gmp_seq.specs.declared.call.Call.{Call}
 use Rattle.gmp_seq.specs.declared.call.Call.TheVariants as call
-use Rattle.gmp_ledger.specs.declared.handed.Handed.{Handed}
-use Rattle.gmp_ledger.specs.Grants.{Suits}
+use Rattle.gmp_journal.specs.declared.handed.Handed.{Handed}
+use Rattle.gmp_journal.specs.Grants.{Suits}
 use Rattle.gmp_book.specs.Hands.{handed_of}
 use Rattle.gmp_driver.specs.declared.act.Act.TheVariants as act
 use Rattle.gmp_driver.specs.declared.registers.CalledParts.{CalledParts}

@@ -15,11 +15,11 @@ use Rattle.gmp_seq.specs.declared.call.Reply.{Reply}
 use Rattle.gmp_seq.specs.declared.call.Reply.TheVariants as reply
 use Rattle.gmp_seq.specs.Needs.{WantsMemory}
 use Rattle.gmp_seq.specs.Step.{ticket_in}
-use Rattle.gmp_ledger.specs.Done.{IsDoneTo}
-use Rattle.gmp_ledger.specs.Grants.{Chooses, NeedsMemory, Suits}
-use Rattle.gmp_ledger.specs.Handed.{goroutine_in, nothing_handed, processor_in, ticket_handed}
-use Rattle.gmp_ledger.specs.Log.{Records}
-use Rattle.gmp_ledger.specs.Refusals.{Says, refusal_in, refusal_of}
+use Rattle.gmp_journal.specs.Done.{IsDoneTo}
+use Rattle.gmp_journal.specs.Grants.{Chooses, NeedsMemory, Suits}
+use Rattle.gmp_journal.specs.Handed.{goroutine_in, nothing_handed, processor_in, ticket_handed}
+use Rattle.gmp_journal.specs.Log.{Records}
+use Rattle.gmp_journal.specs.Refusals.{Says, refusal_in, refusal_of}
 use Rattle.gmp_book.specs.declared.values.Values.{Values}
 use Rattle.gmp_book.specs.Book.{BookContents}
 use Rattle.gmp_book.specs.Hands.{Hands, handed_of, values_back}

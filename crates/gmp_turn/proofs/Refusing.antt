@@ -21,13 +21,13 @@ use Rattle.gmp_seq.specs.declared.call.Limits.{Limits}
 use Rattle.gmp_seq.specs.declared.call.Outcome.{Outcome}
 use Rattle.gmp_seq.specs.Needs.{Needs, WantsMemory}
 use Rattle.gmp_seq.specs.State.{State}
-use Rattle.gmp_ledger.specs.declared.handed.Handed.{Handed}
-use Rattle.gmp_ledger.specs.Grants.{Suits}
-use Rattle.gmp_ledger.specs.Handed.{goroutine_in, names_other, processor_in}
-use Rattle.gmp_ledger.specs.Laws.{NeedsOf}
-use Rattle.gmp_ledger.specs.Log.{Log, calls_of, entries_made}
-use Rattle.gmp_ledger.specs.Refusals.{Line, Says, first_refusal, is_foreign, refusal_line, need_lines, refusal_of}
-use Rattle.gmp_ledger.proofs.Needed.{granted_where, own_run}
+use Rattle.gmp_journal.specs.declared.handed.Handed.{Handed}
+use Rattle.gmp_journal.specs.Grants.{Suits}
+use Rattle.gmp_journal.specs.Handed.{goroutine_in, names_other, processor_in}
+use Rattle.gmp_journal.specs.Laws.{NeedsOf}
+use Rattle.gmp_journal.specs.Log.{Log, calls_of, entries_made}
+use Rattle.gmp_journal.specs.Refusals.{Line, Says, first_refusal, is_foreign, refusal_line, need_lines, refusal_of}
+use Rattle.gmp_journal.proofs.Needed.{granted_where, own_run}
 use Rattle.gmp_book.specs.Book.{BookContents}
 use Rattle.gmp_book.specs.Hands.{handed_of}
 use Rattle.gmp_driver.specs.declared.act.Act.TheVariants as act
@@ -82,7 +82,7 @@ module _ (run : ℕ) where
   pub names_none : {T Q : Type 0} (pass : Pass) (hand : Registers T Q) → names_other run (handed_of (values_in (load_of run pass hand))) ≡ false
   names_none pass hand = rw (own_tickets hand.to_claim hand.to_store, own_held hand.held, own_called hand.called, own_proc hand.processor) refl
 
--- What the ledger asks for is what the scheduler needs, with what the machine holds
+-- What the journal asks for is what the scheduler needs, with what the machine holds
 
 module _ {T Q : Type 0} (run : ℕ) (pass : Pass) (m : MNo) (s : State) (hand : Registers T Q) (has : Has s m (plain hand)) where
   abbrev Asked : Call → Type 0

@@ -1,5 +1,5 @@
 -- The run that a book holds, as gmp_acts tells of it.
-use Rattle.gmp_ledger.specs.Log.{Log}
+use Rattle.gmp_journal.specs.Log.{Log}
 use Rattle.gmp_acts.specs.System.{BookRun}
 
 abbrev pub run_of : Log → BookRun

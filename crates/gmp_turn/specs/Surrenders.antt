@@ -10,8 +10,8 @@ use Rattle.gmp_base.specs.declared.value.Proc.{Proc}
 use Rattle.gmp_base.specs.declared.value.Ticket.{Ticket}
 use Rattle.gmp_base.specs.Values.{readiness_of}
 use Rattle.gmp_seq.specs.Table.{is_outstanding}
-use Rattle.gmp_slots.specs.Slots.{is_vacant}
-use Rattle.gmp_ledger.specs.Refusals.{first_refusal, refusal_in}
+use Rattle.gmp_book.specs.Slots.{is_vacant}
+use Rattle.gmp_journal.specs.Refusals.{first_refusal, refusal_in}
 use Rattle.gmp_book.specs.Book.{BookContents, surrender_lines}
 use Rattle.gmp_book.specs.Hands.{with_home, with_owner}
 use Rattle.gmp_driver.specs.declared.act.Act.TheVariants as act

@@ -3,7 +3,7 @@ ghost use Rattle.std.specs.Prelude.{◌≡◌, IsSome};
 ghost use Rattle.gmp_driver.specs.declared.act.Act.TheVariants as act;
 ghost use Rattle.gmp_driver.specs.Fits.{SuitsPlace};
 ghost use Rattle.gmp_driver.specs.Table.{next_act};
-ghost use Rattle.gmp_ledger.specs.Grants.{NeedsMemory};
+ghost use Rattle.gmp_journal.specs.Grants.{NeedsMemory};
 ghost use Rattle.gmp_turn.specs.Turns as turns;
 ghost use Rattle.gmp_turn.specs.Turns.{HasMemory, Turns, woken_in};
 
@@ -12,13 +12,14 @@ use crate::passing::{is_to_claim, load_back, opened, told_to_driver};
 use gmp_base::{MNo, Refusal};
 use gmp_book::Book;
 use gmp_driver::{Act, Driver};
-use gmp_ledger::memory_for;
+use gmp_journal::memory_for;
 use gmp_seq::{Call, Reply};
 use std::alloc::Global;
 
 /// Makes the call that the driver's machine names next, with the pass and the values that it hands out, and tells the driver the reply, or
 /// why the book refused it. A make is handed memory, and `word` chooses among the cases of a select. The driver holds what its new place
 /// says.
+// Both are of one run, which callers keep in their types: a run beside each register would be eight bytes each, for what no caller does.
 // Not inlined: whoever makes a frequent call pays for no local of another.
 #[inline(never)]
 pub fn turn<T, Q>(
@@ -121,6 +122,7 @@ fn turn_by_values<T, Q>(
 }
 
 /// The memory that an act is handed: a make has some, and no other act any.
+// No turn has an allocator of its own, so that whatever takes memory is seen where it is handed in.
 #[inline(always)]
 pub fn memory_at(act: &Act, alloc: Global) -> Option<Global>
     ensures { HasMemory act.now result }

@@ -1,5 +1,6 @@
-//! Turns of the calls that come most often, each in a function of its own, in which it is known which call it is: of a match on the call its
-//! arm alone is left there. None of them reads the word, of which contracts speak.
+//! Turns of the calls that come most often, each in a function of its own, in which it is known which call it is: of a match on the call
+//! its arm alone is left there. In one turn for all calls every local of each arm would be zeroed in each call. None of them reads the
+//! word, of which contracts speak.
 ghost use Rattle.std.specs.Prelude.{◌≡◌, true, IfSome, IsSome};
 ghost use Rattle.gmp_seq.specs.declared.call.Call.{Call as CallValue};
 ghost use Rattle.gmp_driver.specs.declared.act.Act.TheVariants as act;

@@ -4,10 +4,10 @@ ghost use Rattle.std.specs.Prelude.{◌≡◌, ℕ, None, IsSome, true};
 ghost use Rattle.gmp_driver.specs.declared.act.Act.TheVariants as act;
 ghost use Rattle.gmp_driver.specs.Fits.{SuitsPlace};
 ghost use Rattle.gmp_driver.specs.Table.{next_act};
-ghost use Rattle.gmp_ledger.specs.Grants.{NeedsMemory};
+ghost use Rattle.gmp_journal.specs.Grants.{NeedsMemory};
 ghost use Rattle.gmp_book.specs.InPlace.{is_alone};
 ghost use Rattle.gmp_book.specs.Kinds.{is_own};
-ghost use Rattle.gmp_ledger.specs.Frequent.{is_frequent};
+ghost use Rattle.gmp_journal.specs.Frequent.{is_frequent};
 ghost use Rattle.gmp_turn.specs.Turns.{Turns, replied};
 
 use gmp_base::{Readiness, Refusal};

@@ -1,4 +1,4 @@
-//! Values between a driver and the book.
+//! Values between a driver and the book, for the calls that go by values: acquire, enter, leave, declare and make.
 ghost use Rattle.std.specs.Prelude.{◌≡◌, ◌⊎◌, IsNone};
 ghost use Rattle.gmp_driver.specs.Registers.{first_of};
 ghost use Rattle.gmp_turn.specs.Turns as turns;

@@ -3,7 +3,7 @@ ghost use Rattle.std.specs.Prelude.{◌≡◌, None, Some, Ok, Err, IsNone, IsSo
 ghost use Rattle.gmp_driver.specs.declared.act.Act.TheVariants as act;
 ghost use Rattle.gmp_driver.specs.Fits.{SuitsPlace};
 ghost use Rattle.gmp_driver.specs.Table.{next_act};
-ghost use Rattle.gmp_ledger.specs.Refusals.{refusal_in};
+ghost use Rattle.gmp_journal.specs.Refusals.{refusal_in};
 ghost use Rattle.gmp_turn.specs.Surrenders.{Surrenders, book_after, left_after, refusal_back, told_back};
 
 use gmp_base::{Refusal, Refused};

@@ -50,15 +50,20 @@ number_given text words option default = number_or (given text words option) def
 abbrev pub is_given : {W : Type 0} → (W → List ℕ) → List W → List ℕ → Bool
 is_given text words flag = list_any (λ word. bytes_eq (text word) flag) words
 
--- The settings are what the words say: the task that they name, the number that they give each option, or its default, and the flag.
+-- the words behind the program's name and the command
+abbrev pub behind : {W : Type 0} → List W → List W
+behind words = drop 2 words
+
+-- The settings are what the words say: the task that they name, the number that they give each option behind it, or its default, and the
+-- flag.
 pub record AreSaid {W : Type 0} (text : W → List ℕ) (words : List W) (s : Settings) : Type 0 where
   pub task : is_named text words s.task ≡ true
-  pub procs : number_given text words (codes "--procs") 1 ≡ Some s.procs
-  pub machines : number_given text words (codes "--machines") 1 ≡ Some s.machines
-  pub channels : number_given text words (codes "--channels") 16 ≡ Some s.channels
-  pub entries : number_given text words (codes "--entries") 10000 ≡ Some s.entries
-  pub word : number_given text words (codes "--word") 0 ≡ Some s.word
-  pub acts : number_given text words (codes "--acts") 10000000 ≡ Some s.acts
-  pub random : number_given text words (codes "--random") 0 ≡ Some s.random
-  pub trace : s.trace ≡ is_given text words (codes "--trace")
-  pub at : number_given text words (codes "--at") 0 ≡ Some s.at
+  pub procs : number_given text (behind words) (codes "--procs") 1 ≡ Some s.procs
+  pub machines : number_given text (behind words) (codes "--machines") 1 ≡ Some s.machines
+  pub channels : number_given text (behind words) (codes "--channels") 16 ≡ Some s.channels
+  pub entries : number_given text (behind words) (codes "--entries") 10000 ≡ Some s.entries
+  pub word : number_given text (behind words) (codes "--word") 0 ≡ Some s.word
+  pub acts : number_given text (behind words) (codes "--acts") 10000000 ≡ Some s.acts
+  pub random : number_given text (behind words) (codes "--random") 0 ≡ Some s.random
+  pub trace : s.trace ≡ is_given text (behind words) (codes "--trace")
+  pub at : number_given text (behind words) (codes "--at") 0 ≡ Some s.at

@@ -1,4 +1,4 @@
-//! How the program ends.
+//! How the program ends. One function for each end, so that a status is never paired with another's text.
 
 ghost use Rattle.std.specs.Prelude.{◌≡◌, true};
 ghost use Rattle.gmp_words.specs.Runs.{status_of};
@@ -12,11 +12,13 @@ use std::alloc::AllocError;
 /// The exit status, and what is said: a status goes only with what it stands for.
 #[derive(Debug, Drop)]
 pub struct Ended {
+    /// What the process ends with.
     pub status: u8,
     pub said: Said,
     pub ghost paired: { goes_with said status ≡ true },
 }
 
+/// The status of a run that ended so: 1 is for bad input, so outcomes go from 2 on.
 fn status_of(end: End) -> u8
     ensures { result ≡ status_of end }
 {
@@ -30,7 +32,7 @@ fn status_of(end: End) -> u8
 
 impl Ended {
     /// The trace was written, and the run ended so.
-    pub fn traced(end: End) -> Self
+    pub fn written(end: End) -> Self
         ensures status { result.status ≡ status_of end }
         ensures said { result.said ≡ Said.Nothing }
     {
@@ -118,6 +120,7 @@ impl Ended {
         }
     }
 
+    /// Memory was refused.
     pub fn out_of_memory() -> Self
         ensures status { result.status ≡ 5 }
         ensures said { result.said ≡ Said.OutOfMemory }

@@ -1,4 +1,5 @@
-//! What the host hands the program.
+//! What the host hands the program. Its errors end the program as any other refusal does, so that no way out has the runtime's own words
+//! and status 1.
 
 ghost use Rattle.std.specs.Prelude.{◌≡◌, ◌⊎◌, true, IfErr};
 ghost use Rattle.gmp_words.specs.Said.{is_of_words};

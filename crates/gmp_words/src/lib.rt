@@ -1,4 +1,15 @@
-//! What the program `gmp` is told and what it says: its command line, its input whole, scripts, and how it ends.
+//! What the program `gmp` is told and what it says: its command line, its input whole, scripts read from it, and how it ends. It stands on
+//! none of the commands, which stand on it.
+//!
+//! **Invariant**: `Settings` has each number within its range, and an `Ended` has an exit status and a text that go together; no other pair
+//! can be made.
+//!
+//! A command line is refused with status 64 and a text: an unknown word, an option given twice, a number out of range or not in digits
+//! alone, a word that isn't UTF-8. Help and the version that are asked for are no refusal. An input is refused where it is too long
+//! (`MAX_SCRIPT`, `MAX_TRACE`) or can't be read, a script by its first bad line.
+//!
+//! `words` and `numeric` read the command line, `options` has what it says, `host` hands it in, `reading` and `parsing` read the input,
+//! `ended` and `said` are the end.
 #![tactic(auto)]
 
 mod ended;

@@ -1,4 +1,7 @@
-//! Options that take a number.
+//! Options that take a number. `clap` says what is wrong with a command line; the numbers are read here, from the words, as `AreSaid` says.
+//! Of the words behind a command, `clap`'s contract gives its own walk over them (`subcommand_of`), and `IsParsed` says nothing: at a line
+//! of any length, no clause says of `gmp step .. --procs N ..` that `get_str("procs")` is N. Nor does its parser refuse `--procs +4`, as
+//! `read` does.
 
 ghost use Rattle.std.specs.Prelude.{◌≡◌, ℕ, IsSome, ◌≤◌, ◌+◌, string_bytes, length, drop, option_map, Some, None, IfSome, if◌then◌else◌};
 ghost use Rattle.gmp_words.specs.Words.{given, has_value, number_given};
@@ -16,12 +19,14 @@ pub struct Numeric {
     pub option: &'static str,
     /// What `--help` says of it, with its range and its default.
     pub help: &'static str,
+    /// The range, with both ends.
     pub least: u64,
     pub most: u64,
     /// The number where the option is not given.
     pub default: u64,
 }
 
+/// What `clap` refuses by itself. It knows ranges within an `i64` alone; beyond that `read` is all there is.
 fn parser<'a>(least: u64, most: u64) -> ValueParser<'a> {
     match (i64::try_from(least), i64::try_from(most)) {
         (Ok(least), Ok(most)) => value_parser!(u64).range(least..=most),
@@ -30,6 +35,7 @@ fn parser<'a>(least: u64, most: u64) -> ValueParser<'a> {
 }
 
 impl Numeric {
+    /// The option as `clap` has it, with no default: the default is `read`'s.
     pub fn arg<'a>(&self, alloc: Global) -> Arg<'a> {
         Arg::new(alloc, self.id)
             .long(self.id)
@@ -69,7 +75,7 @@ fn value_in<'a>(option: &[u8], word: &'a [u8]) -> Option<&'a [u8]>
     }
 }
 
-/// The text that the words give an option.
+/// The text that the words give an option, as its value or behind its `=`. The first counts; a second one `clap` has refused.
 fn given<'a>(option: &[u8], words: &'a [String]) -> Option<&'a [u8]>
     ensures { option_map (λ value. value.now) result ≡ given string_bytes words.now option.now }
 {

@@ -1,4 +1,5 @@
-//! What is to be done, and with which numbers.
+//! What is to be done (`Task`), and with which numbers (`Settings`). One type for all tasks: an option that a task doesn't have has its
+//! default.
 
 ghost use Rattle.std.specs.Prelude.{◌≤◌};
 

@@ -1,4 +1,4 @@
-//! Reads a script.
+//! Reads a script, line by line.
 
 ghost use Rattle.std.specs.Prelude.{◌≡◌, ◌<◌, ◌≤◌, ◌||◌, ℕ, true, false, length, IfOk, IfErr, IfSome};
 ghost use Rattle.gmp_words.specs.Said.{is_of_input, is_of_script};

@@ -1,4 +1,4 @@
-//! Reads the input whole.
+//! Reads the input whole, up to a limit. A loop with a bound, so that it can be shown to end whatever the reader does.
 
 ghost use Rattle.std.specs.Prelude.{◌≡◌, ◌≤◌, ◌<◌, length, true, IfOk, IfErr, IfSome};
 ghost use Rattle.gmp_words.specs.Said.{is_of_input};
@@ -31,6 +31,7 @@ pub fn input<R: Read>(alloc: Global, reader: &mut R, most: usize) -> Result<Vec<
         match reader.read(&mut chunk) {
             Ok(0) => return Ok(text),
             Ok(n) => {
+                // So an input is known to be too long as soon as it is, and no more of it is read.
                 if n > most - text.len() {
                     return Err(Ended::too_long());
                 }

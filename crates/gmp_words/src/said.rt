@@ -1,4 +1,4 @@
-//! What the program says at its end.
+//! What the program says at its end, on standard error, or with status 0 on standard output.
 
 use gmp_base::MNo;
 use gmp_trace::Bad;
@@ -15,10 +15,15 @@ pub enum Said {
     BadLine(u64),
     /// The first bad line of the trace.
     BadTrace(Bad),
+    /// The input has more bytes than a script or a trace may have.
     InputTooLong,
+    /// A read failed.
     InputUnreadable,
+    /// A write failed.
     OutputFailed,
+    /// No run can have these limits, so many bodies or such channels; or there is no such part of a trace.
     BadLimits,
+    /// Memory was refused.
     OutOfMemory,
     /// The least machine whose count of calls is not the number of its entries.
     Mismatch(MNo),

@@ -1,8 +1,9 @@
-//! Reads the words of the command line.
+//! Reads the words of the command line. `clap` reads it first and says what is wrong; then the numbers are read anew by `Numeric`.
+//! Each option and each command is a function or a constant here, with its texts.
 
 ghost use Rattle.std.specs.Prelude.{◌≡◌, ◌≢◌, ◌⊎◌, string_bytes, true, IfOk, IfErr, IfSome};
 ghost use Rattle.gmp_words.specs.Said.{is_of_words};
-ghost use Rattle.gmp_words.specs.Words.{AreSaid, is_given, is_named};
+ghost use Rattle.gmp_words.specs.Words.{AreSaid, behind, is_given, is_named};
 ghost use Rattle.clap.specs.Values.{kind_of};
 
 use crate::ended::Ended;
@@ -14,6 +15,7 @@ use clap::{Arg, ArgAction, Command};
 use gmp_seq::{LEAST_ENTRIES, MOST_CHANNELS, MOST_ENTRIES, MOST_MACHINES, MOST_PROCS};
 use std::alloc::{AllocError, Global};
 
+// The options, each with the range that its type of settings has: what is read is narrowed without a loss.
 const PROCS: Numeric = Numeric {
     id: "procs",
     option: "--procs",
@@ -89,6 +91,7 @@ const AT: Numeric = Numeric {
 /// The program's version, and that of the traces that it writes and reads.
 const VERSION: &str = "0.1.0 (gmp-trace 1, 2)";
 
+/// What stands behind the help of the program.
 const STATUSES: &str =
     "A script, or for check and cut a trace, comes on standard input; what is asked for goes to standard output.
 
@@ -104,6 +107,7 @@ Exit status:
 
 Try: gmp step < examples/hello.gmp | gmp check";
 
+/// What stands behind the help of `step`; those of the other commands follow.
 const STEP_INPUT: &str = "The script comes on standard input, and the trace goes to standard output.
 
 Exit status: 0 main ended, 2 deadlock, 3 the history is full, 4 no end yet (--acts, or all machines are parked),
@@ -142,6 +146,7 @@ fn with<'a>(
     Ok(command)
 }
 
+/// The command `step`, with its options.
 fn step<'a>(alloc: Global) -> Result<Command<'a>, AllocError> {
     let step = Command::new(alloc, "step")
         .about("Runs a script in one thread and prints the trace")
@@ -153,6 +158,7 @@ fn step<'a>(alloc: Global) -> Result<Command<'a>, AllocError> {
     )
 }
 
+/// The command `run`, with its options.
 fn run<'a>(alloc: Global) -> Result<Command<'a>, AllocError> {
     let run = Command::new(alloc, "run")
         .about("Runs a script by machines in threads and prints the summary")
@@ -160,6 +166,7 @@ fn run<'a>(alloc: Global) -> Result<Command<'a>, AllocError> {
     with(alloc, run, &[PROCS, MACHINES, CHANNELS, ENTRIES, RANDOM])?.arg(trace(alloc))
 }
 
+/// The flag `--trace` of `run`.
 fn trace<'a>(alloc: Global) -> Arg<'a> {
     Arg::new(alloc, "trace")
         .long("trace")
@@ -167,12 +174,14 @@ fn trace<'a>(alloc: Global) -> Arg<'a> {
         .help("Prints the trace, and not the summary")
 }
 
+/// The command `check`, which has no options.
 fn check<'a>(alloc: Global) -> Command<'a> {
     Command::new(alloc, "check")
         .about("Reads a trace, checks it and prints its summary")
         .after_help(CHECK_INPUT)
 }
 
+/// The command `cut`, with its option.
 fn cut<'a>(alloc: Global) -> Result<Command<'a>, AllocError> {
     let cut = Command::new(alloc, "cut")
         .about("Reads a trace, checks it and prints the part from an entry on")
@@ -180,6 +189,7 @@ fn cut<'a>(alloc: Global) -> Result<Command<'a>, AllocError> {
     with(alloc, cut, &[AT])
 }
 
+/// The program with all its commands.
 fn command<'a>(alloc: Global) -> Result<Command<'a>, AllocError> {
     Command::new(alloc, "gmp")
         .version(VERSION)
@@ -224,6 +234,16 @@ fn task(words: &[String]) -> Option<Task>
     }
 }
 
+/// The words behind the program's name and the command.
+fn behind(words: &[String]) -> &[String]
+    ensures { result.now ≡ behind words.now }
+{
+    match words {
+        [_program, _command, options @ ..] => options,
+        _ => &[],
+    }
+}
+
 /// Whether the flag is among the words.
 fn is_given(words: &[String], flag: &[u8]) -> bool
     ensures { result ≡ is_given string_bytes words.now flag.now }
@@ -238,17 +258,18 @@ fn settings_of(task: Task, words: &[String]) -> Option<Settings>
     requires { is_named string_bytes words.now task ≡ true }
     ensures { IfSome result (AreSaid string_bytes words.now) }
 {
+    let options = behind(words);
     Some(Settings {
         task,
-        procs: PROCS.read(words)? as u8,
-        machines: MACHINES.read(words)? as u8,
-        channels: CHANNELS.read(words)? as u16,
-        entries: ENTRIES.read(words)? as u32,
-        word: WORD.read(words)?,
-        acts: ACTS.read(words)? as u32,
-        random: RANDOM.read(words)?,
-        trace: is_given(words, b"--trace"),
-        at: AT.read(words)?,
+        procs: PROCS.read(options)? as u8,
+        machines: MACHINES.read(options)? as u8,
+        channels: CHANNELS.read(options)? as u16,
+        entries: ENTRIES.read(options)? as u32,
+        word: WORD.read(options)?,
+        acts: ACTS.read(options)? as u32,
+        random: RANDOM.read(options)?,
+        trace: is_given(options, b"--trace"),
+        at: AT.read(options)?,
     })
 }
 
@@ -263,6 +284,7 @@ pub fn settings<'a>(alloc: Global, words: &'a [String]) -> Result<Settings, Ende
     if let Err(error) = command.try_get_matches_from_mut(words) {
         return Err(refused(alloc, &error));
     }
+    // `clap` asks for a command, so this is for words that it takes and `task` doesn't know.
     let Some(task) = task(words) else {
         let error = command.error(ErrorKind::InvalidSubcommand, "there is no such command")?;
         return Err(refused(alloc, &error));

@@ -2,3 +2,5 @@ pub mod Agreeing
 pub mod Boxes
 pub mod InHand
 pub mod Tallies
+pub mod Tries
+pub mod Turned

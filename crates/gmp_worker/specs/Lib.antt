@@ -1,3 +1,5 @@
 pub mod Turn
 pub mod Local
 pub mod Audit
+pub mod Drawn
+pub mod AtQueue

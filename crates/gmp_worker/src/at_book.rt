@@ -2,14 +2,13 @@
 ghost use Rattle.std.specs.Prelude.{◌≡◌, None, IsSome};
 ghost use Rattle.gmp_driver.specs.Table.{next_act};
 ghost use Rattle.gmp_turn.specs.Turns.{HasMemory};
-ghost use Rattle.gmp_worker.specs.Turn.{IsAtBook, TakesTurn, drawn};
+ghost use Rattle.gmp_worker.specs.Turn.{IsAtBook, TakesTurn};
 
+use crate::drawing::draw_for;
 use gmp_base::MNo;
 use gmp_book::Book;
 use gmp_driver::{Act, Driver, Frequent};
-use gmp_seq::Call;
 use gmp_turn::{frequent_turn, surrender, woken};
-use rand_core::utils::next_u64_via_u32;
 use rand_pcg::Lcg64Xsh32;
 use std::alloc::Global;
 
@@ -53,28 +52,17 @@ fn any_turn<T, Q>(
     ensures pass { IsSome driver.new.pass }
     ensures run { driver.new.run ≡ book.new.log.run }
 {
-    match driver.next() {
-        Act::Call(call) => {
-            let word = draw_for(&call, random);
-            match gmp_turn::turn(memory, driver, book, call, word) {
-                Ok(reply) => woken(reply),
-                Err(_) => None,
-            }
-        }
+    let act = driver.next();
+    let word = draw_for(&act, random);
+    match act {
+        Act::Call(call) => match gmp_turn::turn(memory, driver, book, call, word) {
+            Ok(reply) => woken(reply),
+            Err(_) => None,
+        },
         Act::Surrender(which) => {
             let _ = surrender(driver, book, which);
             None
         }
         _ => unreachable!(),
-    }
-}
-
-/// The word that a call draws, the low half first; 0 where it draws none.
-fn draw_for(call: &Call, random: &mut Lcg64Xsh32) -> u64
-    ensures { (result, random.new) ≡ drawn call.now random.old }
-{
-    match call {
-        Call::Select(_, _, _) => next_u64_via_u32(random),
-        _ => 0,
     }
 }

@@ -1,4 +1,5 @@
-//! Whether machines made the calls of a history.
+//! Whether machines made the calls of a history: a `PassLog` is what a machine says of itself, a `Tally` what is counted of it, a
+//! `Mismatch` where they disagree.
 ghost use Rattle.std.specs.Prelude.{◌≡◌, ◌↔◌, ◌⊎◌, ℕ, ◌+◌, ◌<◌, ◌^◌, IsTrue, OnOk, IfErr, length, slice_index_or};
 ghost use Rattle.gmp_worker.specs.Audit.{AgreesWithLogs, IsMismatch, no_tally, tally_of};
 
@@ -12,12 +13,14 @@ const MACHINES: usize = 256;
 #[derive(Clone, Copy, Debug, PartialEq, Eq)]
 pub struct PassLog {
     pub m: MNo,
+    /// Those that were accepted.
     pub calls: u64,
 }
 
 /// A machine whose logs don't say how many entries it has.
 #[derive(Clone, Copy, Debug, PartialEq, Eq)]
 pub struct Mismatch {
+    /// The least such machine.
     pub m: MNo,
     /// The sum of what its logs say, at most `u64::MAX`.
     pub said: u64,

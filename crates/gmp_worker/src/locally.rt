@@ -56,7 +56,7 @@ fn resume<Q>(driver: &mut Driver<Boxed, Q>)
     ensures pass { driver.new.pass ≡ driver.old.pass }
     ensures run { driver.new.run ≡ driver.old.run }
 {
-    let Some(woke) = driver.held() else {
+    let Some(woke) = driver.woke() else {
         unreachable!()
     };
     let Some(body) = driver.body() else {

@@ -3,12 +3,12 @@ ghost use Rattle.std.specs.Prelude.{◌≡◌, true, None, IfErr, IfOk, OnErr, O
 ghost use Rattle.gmp_base.specs.Values.{ticket_by};
 ghost use Rattle.gmp_seq.specs.Step.{ticket_in};
 ghost use Rattle.std.specs.Option.{option_map};
-ghost use Rattle.gmp_ledger.specs.Done.{IsDoneTo};
+ghost use Rattle.gmp_journal.specs.Done.{IsDoneTo};
 ghost use Rattle.gmp_seq.specs.Needs.{WantsMemory};
-ghost use Rattle.gmp_ledger.specs.Grants.{Chooses, NeedsMemory, Suits};
-ghost use Rattle.gmp_ledger.specs.Handed.{by_held, goroutine_in, nothing_handed, processor_in};
-ghost use Rattle.gmp_ledger.specs.Log.{Records};
-ghost use Rattle.gmp_ledger.specs.Refusals.{Says, refusal_in, refusal_of, why_refused};
+ghost use Rattle.gmp_journal.specs.Grants.{Chooses, NeedsMemory, Suits};
+ghost use Rattle.gmp_journal.specs.Handed.{by_held, goroutine_in, nothing_handed, processor_in};
+ghost use Rattle.gmp_journal.specs.Log.{Records};
+ghost use Rattle.gmp_journal.specs.Refusals.{Says, refusal_in, refusal_of, why_refused};
 
 use crate::book::Book;
 use crate::values::{Values, spent};

@@ -6,8 +6,8 @@ ghost use Rattle.gmp_seq.specs.declared.status.Kind.{Kind};
 ghost use Rattle.gmp_seq.specs.Table.{made_wait};
 ghost use Rattle.gmp_seq.specs.Waits.{offers_of};
 ghost use Rattle.gmp_seq.specs.Needs.{WantsMemory};
-ghost use Rattle.gmp_ledger.specs.Handed.{by_held};
-ghost use Rattle.gmp_ledger.specs.Refusals.{Says, refusal_of, why_refused};
+ghost use Rattle.gmp_journal.specs.Handed.{by_held};
+ghost use Rattle.gmp_journal.specs.Refusals.{Says, refusal_of, why_refused};
 
 use crate::book::Book;
 use crate::went::{Moved, Went};
@@ -24,6 +24,7 @@ impl<T, Q> Book<T, Q> {
     /// the run has as many channels as it may.
     ///
     /// A channel takes memory. Where that is refused, the goroutine comes back with `NoMemory` to be told, and nothing has changed.
+    // Want of memory is a refusal and no reply: as at each refusal there is no entry, and the pass stays.
     pub fn make(
         &mut self,
         alloc: Global,

@@ -2,8 +2,8 @@
 ghost use Rattle.std.specs.Prelude.{◌≡◌, Some, not, slice_set, OnOk, IfOk, IfErr};
 ghost use Rattle.gmp_base.specs.Values.{readiness_of};
 ghost use Rattle.gmp_seq.specs.Table.{is_outstanding};
-ghost use Rattle.gmp_slots.specs.Slots.{is_vacant};
-ghost use Rattle.gmp_ledger.specs.Refusals.{first_refusal, why_refused};
+ghost use Rattle.gmp_book.specs.Slots.{is_vacant};
+ghost use Rattle.gmp_journal.specs.Refusals.{first_refusal, why_refused};
 
 use crate::book::Book;
 use crate::report::Report;
@@ -43,12 +43,13 @@ impl<T, Q> Book<T, Q> {
     }
 
     /// Gives a ticket back once the run is over. It stays as it is in the book, which knows that it is out.
+    // It isn't put back onto the shelf: state and history stay after the outcome. So a ticket and one forged like it are both taken.
     pub fn surrender_ticket(&mut self, ticket: Ticket) -> Result<(), Refused<Ticket>>
         ensures refused { why_refused result ≡ first_refusal (surrender_lines self.old.log ticket.run (not (is_outstanding self.old.log.state.table (readiness_of ticket))) Refusal.NotOutstanding) }
         ensures err { IfErr result (λ r. r.back ≡ ticket) }
         ensures same { self.new ≡ self.old }
     {
-        let astray = !self.ledger.is_outstanding(ticket.readiness());
+        let astray = !self.journal.is_outstanding(ticket.readiness());
         if let Some(why) = self.surrender_refusal(ticket.run, astray, Refusal::NotOutstanding) {
             return Err(Refused { why, back: ticket });
         }
@@ -75,10 +76,10 @@ impl<T, Q> Book<T, Q> {
     fn surrender_refusal(&self, run: u64, astray: bool, why: Refusal) -> Option<Refusal>
         ensures { result ≡ first_refusal (surrender_lines self.now.log run astray why) }
     {
-        if run != self.ledger.run() {
+        if run != self.journal.run() {
             return Some(Refusal::WrongRun);
         }
-        if self.ledger.outcome().is_none() {
+        if self.journal.outcome().is_none() {
             return Some(Refusal::NotOver);
         }
         if astray {
@@ -94,7 +95,7 @@ impl<T, Q> Book<T, Q> {
         ensures back { IfErr result (λ r. r.back ≡ self) }
         ensures report { IfOk result (IsReport self) }
     {
-        let Some(outcome) = self.ledger.outcome() else {
+        let Some(outcome) = self.journal.outcome() else {
             return Err(Refused {
                 why: Refusal::NotOver,
                 back: self,
@@ -107,11 +108,11 @@ impl<T, Q> Book<T, Q> {
             });
         }
         let Book {
-            ledger,
+            journal,
             bodies,
             owners,
         } = self;
-        let (limits, capacities, history) = ledger.into_parts();
+        let (limits, capacities, history) = journal.into_parts();
         Ok(Report {
             limits,
             capacities,

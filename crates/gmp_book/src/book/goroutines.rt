@@ -7,9 +7,9 @@ ghost use Rattle.gmp_seq.specs.declared.status.Kind.{Kind};
 ghost use Rattle.gmp_seq.specs.declared.status.Place.TheVariants.{Shelf, Out};
 ghost use Rattle.gmp_seq.specs.declared.status.Status.{Status};
 ghost use Rattle.gmp_seq.specs.Table.{IsReady, made_ready, made_wait, next_of, set_status};
-ghost use Rattle.gmp_ledger.specs.Handed.{by_held, by_ticket, nothing_handed};
-ghost use Rattle.gmp_ledger.specs.Log.{Records};
-ghost use Rattle.gmp_ledger.specs.Refusals.{refusal_in, refusal_of, why_refused};
+ghost use Rattle.gmp_journal.specs.Handed.{by_held, by_ticket, nothing_handed};
+ghost use Rattle.gmp_journal.specs.Log.{Records};
+ghost use Rattle.gmp_journal.specs.Refusals.{refusal_in, refusal_of, why_refused};
 ghost use Rattle.gmp_book.specs.Replies.{exit_reply, take_reply};
 
 use crate::answers::Exited;

@@ -1,20 +1,23 @@
 //! Calls that leave values where they are: those that are handed nothing, those of the goroutine that runs, a put and a claim. What each
-//! does is what `call` does with these values. Replies are written in place, but for a claim's, which is always the same; of a call that is known
-//! to be frequent no arm of another is compiled in.
+//! does is what `call` does with these values. Replies are written in place, but for a claim's, which is always the same; of a call that is
+//! known to be frequent, by a constant that is handed down, no arm of another is compiled in.
+//!
+//! By `call` a body would move eight times. A caller can't make the journal's call and then change one place: between the two the book would
+//! keep less than its type says.
 ghost use Rattle.std.specs.Prelude.{◌≡◌, true, None, Some, IfOk, OnErr, OnOk};
 ghost use Rattle.gmp_seq.specs.Needs.{WantsMemory};
-ghost use Rattle.gmp_ledger.specs.Done.{IsDoneTo};
-ghost use Rattle.gmp_ledger.specs.Frequent.{is_frequent};
-ghost use Rattle.gmp_ledger.specs.Grants.{Chooses, NeedsMemory, Suits};
-ghost use Rattle.gmp_ledger.specs.Handed.{goroutine_in, nothing_handed, processor_in, ticket_handed};
-ghost use Rattle.gmp_ledger.specs.Log.{Records};
-ghost use Rattle.gmp_ledger.specs.Refusals.{Says, refusal_in, refusal_of};
+ghost use Rattle.gmp_journal.specs.Done.{IsDoneTo};
+ghost use Rattle.gmp_journal.specs.Frequent.{is_frequent};
+ghost use Rattle.gmp_journal.specs.Grants.{Chooses, NeedsMemory, Suits};
+ghost use Rattle.gmp_journal.specs.Handed.{goroutine_in, nothing_handed, processor_in, ticket_handed};
+ghost use Rattle.gmp_journal.specs.Log.{Records};
+ghost use Rattle.gmp_journal.specs.Refusals.{Says, refusal_in, refusal_of};
 
 use crate::book::Book;
 use crate::settling::settle_own;
 use crate::values::{handed_own, told_by, way_of};
 use gmp_base::{Held, Pass, Readiness, Refusal};
-use gmp_ledger::Handed;
+use gmp_journal::Handed;
 use gmp_seq::{Call, Reply};
 
 impl<T, Q> Book<T, Q> {
@@ -49,7 +52,7 @@ impl<T, Q> Book<T, Q> {
             called: None,
             proc: None,
         };
-        self.ledger
+        self.journal
             .call(None, pass, call, &given, word, frequent, out)?;
         Ok(())
     }
@@ -77,7 +80,7 @@ impl<T, Q> Book<T, Q> {
         ensures done { OnOk result (let v = own_handed held.old in IsDoneTo call.now pass.old.m (goroutine_in v) (processor_in v) out.new self.old.log.state self.new.log.state) }
     {
         let given = handed_own(held);
-        self.ledger
+        self.journal
             .call(None, pass, call, &given, word, frequent, out)?;
         settle_own(&mut self.bodies, way_of(*out), out.woke(), held);
         Ok(())
@@ -92,14 +95,14 @@ impl<T, Q> Book<T, Q> {
         ensures hands { OnOk result (Hands (Call.Put r) out.new (ticket_values self.old.log.run r) (own_back self.old.log.run None out.new) self.old self.new) }
         ensures done { OnOk result (let v = ticket_handed self.old.log.run r in IsDoneTo (Call.Put r) pass.old.m (goroutine_in v) (processor_in v) out.new self.old.log.state self.new.log.state) }
     {
-        let run = self.ledger.run();
+        let run = self.journal.run();
         let given = Handed {
             ticket: Some((run, r)),
             held: None,
             called: None,
             proc: None,
         };
-        self.ledger
+        self.journal
             .call(None, pass, &Call::Put(r), &given, 0, false, out)?;
         Ok(())
     }
@@ -113,7 +116,7 @@ impl<T, Q> Book<T, Q> {
         ensures hands { IfOk result (λ held. Hands (Call.Claim r) Reply.Held (ticket_values self.old.log.run r) (held_values (Some held)) self.old self.new) }
         ensures done { IfOk result (λ held. let v = ticket_handed self.old.log.run r in IsDoneTo (Call.Claim r) pass.old.m (goroutine_in v) (processor_in v) Reply.Held self.old.log.state self.new.log.state) }
     {
-        let run = self.ledger.run();
+        let run = self.journal.run();
         let given = Handed {
             ticket: Some((run, r)),
             held: None,
@@ -121,9 +124,9 @@ impl<T, Q> Book<T, Q> {
             proc: None,
         };
         let call = Call::Claim(r);
-        let known = self.ledger.known(&call);
+        let known = self.journal.known(&call);
         let mut reply = Reply::Held;
-        self.ledger
+        self.journal
             .call(None, pass, &call, &given, 0, true, &mut reply)?;
         let told = told_by(known, reply);
         let body = self.bodies.take(r.g.0 as usize);

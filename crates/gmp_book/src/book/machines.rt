@@ -5,9 +5,9 @@ ghost use Rattle.gmp_seq.specs.declared.status.Status.{Status};
 ghost use Rattle.gmp_seq.specs.Machines.{is_parked_mode};
 ghost use Rattle.gmp_seq.specs.Step.{Resumes};
 ghost use Rattle.gmp_seq.specs.Table.{IsAsleep, minded, set_status};
-ghost use Rattle.gmp_ledger.specs.Handed.{by_called, by_held_and_proc, by_proc, nothing_handed};
-ghost use Rattle.gmp_ledger.specs.Log.{Records};
-ghost use Rattle.gmp_ledger.specs.Refusals.{refusal_in, refusal_of, why_refused};
+ghost use Rattle.gmp_journal.specs.Handed.{by_called, by_held_and_proc, by_proc, nothing_handed};
+ghost use Rattle.gmp_journal.specs.Log.{Records};
+ghost use Rattle.gmp_journal.specs.Refusals.{refusal_in, refusal_of, why_refused};
 ghost use Rattle.gmp_book.specs.Replies.{park_reply};
 
 use crate::answers::Parking;
@@ -72,8 +72,8 @@ impl<T, Q> Book<T, Q> {
         }
     }
 
-    /// Parks the machine, which holds no processor and has nothing to do, unless there is work, a deadline to mind, or it is to look again. Where nobody
-    /// can ever go on, all are asleep and the run is over.
+    /// Parks the machine, which holds no processor and has nothing to do, unless there is work, a deadline to mind, or it is to look again.
+    /// Where nobody can ever go on, all are asleep and the run is over.
     pub fn park(&mut self, pass: &mut Pass) -> Result<Parking, Refusal>
         ensures refused { refusal_in result ≡ refusal_of self.old.log pass.old Call.Park nothing_handed }
         ensures err { OnErr result ((self.new ≡ self.old) × (pass.new ≡ pass.old)) }
@@ -176,6 +176,7 @@ impl<T, Q> Book<T, Q> {
 
     /// The goroutine that asks goes into a blocking call, which its machine makes. The machine gives up its processor, and the least
     /// parked machine wakes, where one is parked. Refused, it hands both values back.
+    // A refusal doesn't say which of the two it means: refusals are those of all calls, and whoever has both back can look.
     pub fn enter(
         &mut self,
         pass: &mut Pass,
@@ -204,8 +205,8 @@ impl<T, Q> Book<T, Q> {
         }
     }
 
-    /// The goroutine comes back from its blocking call with this number. It runs on where an active processor is idle, and its machine holds the
-    /// least of these; else it goes onto the shelf, last, and its body into the book. It is told the number.
+    /// The goroutine comes back from its blocking call with this number. It runs on where an active processor is idle, and its machine
+    /// holds the least of these; else it goes onto the shelf, last, and its body into the book. It is told the number.
     pub fn leave(
         &mut self,
         pass: &mut Pass,

@@ -1,4 +1,6 @@
-//! Calls that concern machines alone. Each answers whether the reply is one that the definitions allow, and changes the tables only where it is.
+//! Calls that concern machines alone. Each answers whether the reply is one that the definitions allow, and changes the tables only where
+//! it is. Where the definitions leave a choice (any idle processor, any parked machine) the reply names it, and any that they allow is
+//! right.
 ghost use Rattle.gmp_seq.specs.Machines.{Acquires, Spins, Unspins, Pokes, Declares, Bares, Looks, MayKeep, Sets, Enters};
 ghost use Rattle.gmp_check.specs.Decides.{Decides};
 
@@ -7,6 +9,7 @@ use gmp_base::{Fault, MNo};
 use gmp_seq::{Mode, Reply};
 
 impl Machines {
+    /// m, which is awake and holds no processor, is given any that is idle and active; or none, where there is none.
     pub(crate) fn acquire(&mut self, m: MNo, reply: Reply) -> bool
         ensures { Decides (Acquires m reply) self.old self.new result }
     {
@@ -23,6 +26,7 @@ impl Machines {
         }
     }
 
+    /// m, which is awake, spins from now on, exactly where it may.
     pub(crate) fn spin(&mut self, m: MNo, reply: Reply) -> bool
         ensures { Decides (Spins m reply) self.old self.new result }
     {
@@ -39,6 +43,7 @@ impl Machines {
         }
     }
 
+    /// m, which is awake, spins no more. One that didn't may say so too.
     pub(crate) fn unspin(&mut self, m: MNo, reply: Reply) -> bool
         ensures { Decides (Unspins m reply) self.old self.new result }
     {
@@ -51,6 +56,7 @@ impl Machines {
         }
     }
 
+    /// Any parked machine wakes, where somebody is wanted; else nobody does.
     pub(crate) fn poke(&mut self, m: MNo, reply: Reply) -> bool
         ensures { Decides (Pokes m reply) self.old self.new result }
     {
@@ -67,6 +73,7 @@ impl Machines {
         }
     }
 
+    /// m gives up the processor that it holds, and its mark with it: it is to look at all queues from here on.
     pub(crate) fn declare(&mut self, m: MNo, reply: Reply) -> bool
         ensures { Decides (Declares m reply) self.old self.new result }
     {
@@ -80,6 +87,7 @@ impl Machines {
         }
     }
 
+    /// m, which holds no processor and doesn't spin, begins to look at all queues: what marked it before is looked at now.
     pub(crate) fn bare(&mut self, m: MNo, reply: Reply) -> bool
         ensures { Decides (Bares m reply) self.old self.new result }
     {
@@ -92,6 +100,7 @@ impl Machines {
         }
     }
 
+    /// Whether m is awake. In a blocking call it isn't asked.
     pub(crate) fn woken(&self, m: MNo, reply: Reply) -> bool
         ensures { Decides (Looks m reply) self.now self.now result }
     {
@@ -102,6 +111,7 @@ impl Machines {
         }
     }
 
+    /// m may keep its processor exactly where that is active.
     pub(crate) fn keep(&self, m: MNo, reply: Reply) -> bool
         ensures { Decides (MayKeep m reply) self.now self.now result }
     {
@@ -111,6 +121,8 @@ impl Machines {
         }
     }
 
+    /// So many processors are active from now on, and the number before is told. Nobody loses one here: who holds too high a number asks
+    /// `keep`.
     pub(crate) fn procs(&mut self, n: u8, reply: Reply) -> bool
         ensures { Decides (Sets n reply) self.old self.new result }
     {
@@ -124,6 +136,8 @@ impl Machines {
         }
     }
 
+    /// m goes into a blocking call: it gives its processor up, any parked machine wakes, where one is parked, and all that are awake then
+    /// are marked.
     pub(crate) fn enter(&mut self, m: MNo, reply: Reply) -> bool
         ensures { Decides (Enters m reply) self.old self.new result }
     {

@@ -1,4 +1,5 @@
-//! Sends, receives, selects and closes. Each answers whether the reply is one that the definitions allow, and changes the state only where it is.
+//! Sends, receives, selects and closes. Each answers whether the reply is one that the definitions allow, and changes the state only where
+//! it is. Of a select any case that can proceed is right: which word was drawn no history says.
 ghost use Rattle.std.specs.Prelude.{◌≡◌, ◌≤◌, length, slice_get};
 ghost use Rattle.gmp_seq.specs.Step.{Blocks, Closes, Deals, Selects, none_missing};
 ghost use Rattle.gmp_check.specs.Decides.{Decides};
@@ -9,6 +10,7 @@ use crate::answers::Cause;
 use gmp_base::{CNo, Case, Fault, GNo};
 use gmp_seq::{Kind, Offers, Reply, Taken, channel_of};
 
+/// The case of this number, if there is one.
 fn case_at(cases: &[Case], i: u8) -> Option<Case>
     ensures { result ≡ slice_get cases.now i }
 {
@@ -39,6 +41,7 @@ impl State {
         true
     }
 
+    /// A plain send or receive of g: it proceeds, or fails, or waits as a select of one case does.
     pub(super) fn deal(&mut self, g: GNo, case: Case, reply: Reply) -> bool
         requires { IsConsistent self.old }
         ensures decides { Decides (Deals g case reply) self.old self.new result }
@@ -58,6 +61,8 @@ impl State {
         }
     }
 
+    /// A select of g: any case that can proceed does, or the default where none can, or g waits. A channel that was not made comes first,
+    /// also before a case that could proceed.
     pub(super) fn select(
         &mut self,
         g: GNo,
@@ -84,6 +89,7 @@ impl State {
         }
     }
 
+    /// A channel that is made and open is closed, and all that wait on it become ready on the shelf; the reply counts them.
     pub(super) fn close(&mut self, c: Option<CNo>, reply: Reply) -> bool
         requires { IsConsistent self.old }
         ensures decides { Decides (Closes c reply) self.old self.new result }

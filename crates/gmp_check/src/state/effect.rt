@@ -1,4 +1,4 @@
-//! The effect of each call.
+//! The effect of each call, by one match in the order of the definitions: what g asks, and what m does for itself.
 ghost use Rattle.std.specs.Prelude.{◌≡◌, ◌↔◌, true, IsTrue, IfOk, OnErr};
 ghost use Rattle.gmp_seq.specs.declared.call.Call.TheVariants as call;
 ghost use Rattle.gmp_seq.specs.Step.{Effect, IsFree, Parks, has_work, EntersBy, LeavesBy};
@@ -20,12 +20,14 @@ impl State {
         self.machines.is_awake(m) && !self.table.runs_some(m) && !self.machines.spins(m)
     }
 
+    /// Whether a ticket is on the shelf beside an idle processor: then nobody parks.
     fn has_work(&self) -> bool
         ensures { result ≡ has_work self.now }
     {
         self.table.has_shelved() && self.machines.has_idle()
     }
 
+    /// m parks, or is told why not: work, all asleep, a deadline, or a mark, in this order.
     fn park(&mut self, m: MNo, reply: Reply) -> bool
         ensures decides { Decides (Parks m reply) self.old self.new result }
         ensures rest { SameCounts self.old self.new }

@@ -1,4 +1,4 @@
-//! Sends and receives.
+//! Sends and receives, by the way in which they proceed: into the buffer, out of it, or to or from the first that waits.
 ghost use Rattle.std.specs.Prelude.{◌≡◌, ℕ, Some};
 ghost use Rattle.gmp_base.specs.declared.cases.Case.TheVariants as case;
 ghost use Rattle.gmp_seq.specs.Step.{Communicates, told_of};
@@ -11,6 +11,7 @@ use gmp_base::{CNo, Case};
 use gmp_seq::{Direction, Place, Relay, Taken, Transfer};
 
 impl State {
+    /// How a send proceeds: it fails on a closed channel, goes to the first that receives, or into room; none where it has to wait.
     fn way_of_send(&self, c: CNo) -> Option<Transfer>
         requires { IsConsistent self.now }
         ensures { (v : ℕ) → IsWay self.now (case.Send (Some c) v) result }
@@ -25,6 +26,8 @@ impl State {
         }
     }
 
+    /// How a receive proceeds: by the first value, and where somebody sends his goes last; from a closed channel with none it gets 0. None
+    /// where it has to wait.
     fn way_of_receive(&self, c: CNo) -> Option<Transfer>
         requires { IsConsistent self.now }
         ensures { IsWay self.now (case.Recv (Some c)) result }
@@ -68,6 +71,7 @@ impl State {
         }
     }
 
+    /// The value goes to whoever waits, or into the buffer.
     fn proceed_send(&mut self, c: CNo, v: u64, how: Transfer)
         requires consistent { IsConsistent self.old }
         requires way { IsWay self.old (case.Send (Some c) v) (Some how) }
@@ -84,6 +88,7 @@ impl State {
         }
     }
 
+    /// The first value goes out, and that of a sender who waits goes last: so on unbuffered channels too, where it is itself the first.
     fn proceed_receive(&mut self, c: CNo, how: Transfer)
         requires { IsConsistent self.old }
         ensures { self.new ≡ state_after self.old (case.Recv (Some c)) how }

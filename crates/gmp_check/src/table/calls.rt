@@ -1,4 +1,5 @@
-//! Calls that concern goroutines alone. Each answers whether the reply is one that the definitions allow, and changes the table only where it is.
+//! Calls that concern goroutines alone. Each answers whether the reply is one that the definitions allow, and changes the table only where
+//! it is.
 ghost use Rattle.std.specs.Prelude.{◌<◌, ◌^◌};
 ghost use Rattle.gmp_seq.specs.Step.{Takes, Puts, Claims, Starts, Yields, Exits, Sleeps, Goparks, Readies};
 ghost use Rattle.gmp_base.specs.declared.number.GNo.{GNo};
@@ -10,6 +11,7 @@ use gmp_base::{Fault, GNo, MNo, Readiness, Woke};
 use gmp_seq::{Kind, Offers, Place, Reply, Status};
 
 impl Table {
+    /// Any ticket on the shelf is given out; or none, exactly where the shelf is empty.
     pub(crate) fn take(&mut self, reply: Reply) -> bool
         ensures { Decides (Takes reply) self.old self.new result }
     {
@@ -26,6 +28,7 @@ impl Table {
         }
     }
 
+    /// A ticket that is out goes onto the shelf, and what its goroutine is to be told stays.
     pub(crate) fn put(&mut self, r: Readiness, reply: Reply) -> bool
         ensures { Decides (Puts r reply) self.old self.new result }
     {
@@ -38,6 +41,7 @@ impl Table {
         }
     }
 
+    /// The goroutine of a ticket that is out runs on m, which runs nobody. The ticket is spent by it: its epoch is out no more.
     pub(crate) fn claim(&mut self, m: MNo, r: Readiness, reply: Reply) -> bool
         requires { (g : GNo) → IsHeld self.old g m → ⊥ }
         ensures { Decides (Claims m r reply) self.old self.new result }
@@ -51,6 +55,7 @@ impl Table {
         }
     }
 
+    /// g is started, and its ticket is out; or there is no g, or it was started before.
     pub(crate) fn start(&mut self, g: GNo, reply: Reply) -> bool
         requires { epoch_at self.old g < 2 ^ 63 }
         ensures { Decides (Starts g reply) self.old self.new result }
@@ -66,6 +71,7 @@ impl Table {
         }
     }
 
+    /// g yields: it is ready on the shelf.
     pub(crate) fn give_way(&mut self, g: GNo, reply: Reply) -> bool
         requires { epoch_at self.old g < 2 ^ 63 }
         ensures { Decides (Yields g reply) self.old self.new result }
@@ -79,6 +85,7 @@ impl Table {
         }
     }
 
+    /// g is dead. With goroutine 0, and no other, the reply says that main ended.
     pub(crate) fn exit(&mut self, g: GNo, reply: Reply) -> bool
         ensures { Decides (Exits g reply) self.old self.new result }
     {
@@ -93,6 +100,7 @@ impl Table {
         fits
     }
 
+    /// g waits until the moment, with no offer; a moment that has passed waits for the next tick too.
     pub(crate) fn sleep(&mut self, g: GNo, until: u64, reply: Reply) -> bool
         requires { self.old.arrivals < 2 ^ 63 }
         ensures { Decides (Sleeps g until reply) self.old self.new result }
@@ -106,6 +114,7 @@ impl Table {
         }
     }
 
+    /// g waits until another goroutine readies it.
     pub(crate) fn gopark(&mut self, g: GNo, reply: Reply) -> bool
         requires { self.old.arrivals < 2 ^ 63 }
         ensures { Decides (Goparks g reply) self.old self.new result }
@@ -119,6 +128,7 @@ impl Table {
         }
     }
 
+    /// g, which waits by `gopark`, is ready with its ticket out; or there is no g, or it doesn't wait so.
     pub(crate) fn ready(&mut self, g: GNo, reply: Reply) -> bool
         requires { epoch_at self.old g < 2 ^ 63 }
         ensures { Decides (Readies g reply) self.old self.new result }

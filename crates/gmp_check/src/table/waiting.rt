@@ -1,4 +1,5 @@
-//! Who waits on a channel.
+//! Who waits on a channel: the first by arrival and then by case, found by comparing all offers. No list of waiters is kept, and no order
+//! is trusted in which offers were added: that the waiters are the offers in order is a law.
 ghost use Rattle.std.specs.Prelude.{◌≡◌};
 ghost use Rattle.gmp_check.specs.First.{IsFirstOf, IsOfferAt, IsOfferOf, IsOfferOn, comes_before, sooner};
 
@@ -6,12 +7,14 @@ use super::Table;
 use gmp_base::{CNo, GNo};
 use gmp_seq::{Direction, Status, Wait, Waiter};
 
+/// Whether x waits for longer, or has the lesser case of the same wait.
 fn comes_before(x: Waiter, y: Waiter) -> bool
     ensures { result ≡ comes_before x y }
 {
     x.arrival < y.arrival || (x.arrival == y.arrival && x.offer.case < y.offer.case)
 }
 
+/// The one of both that comes first, where there is one.
 fn sooner(a: Option<Waiter>, b: Option<Waiter>) -> Option<Waiter>
     ensures { result ≡ sooner a b }
 {

@@ -1,4 +1,5 @@
-//! Changes of many goroutines at once, and the clock.
+//! Changes of many goroutines at once, and the clock. Both a close and a tick wake all that their cause has an answer for, and in which
+//! order the shelf has them is no part of the state.
 ghost use Rattle.std.specs.Prelude.{◌≡◌, ◌<◌, ◌^◌, ℕ, map, None, Some, slice_get};
 ghost use Rattle.gmp_base.specs.declared.number.GNo.{GNo};
 ghost use Rattle.gmp_seq.specs.declared.status.Goroutine.{Goroutine};
@@ -12,6 +13,7 @@ use crate::answers::Cause;
 use gmp_base::GNo;
 use gmp_seq::{Goroutine, Place, Reply, Status};
 
+/// The lesser of two deadlines, where there are two.
 fn earlier(a: Option<u64>, b: Option<u64>) -> Option<u64>
     ensures { result ≡ earlier a b }
 {
@@ -22,6 +24,7 @@ fn earlier(a: Option<u64>, b: Option<u64>) -> Option<u64>
     }
 }
 
+/// The least deadline of all rows.
 fn least_of(rows: &[Goroutine]) -> Option<u64>
     ensures { result ≡ least_of rows.now }
 {
@@ -43,6 +46,7 @@ fn wake(row: &mut Goroutine, cause: Cause)
     }
 }
 
+/// The same of each goroutine.
 fn wake_all(rows: &mut [Goroutine], cause: Cause)
     requires { (k : ℕ) (x : Goroutine) → slice_get rows.old k ≡ Some x → x.epoch < 2 ^ 63 }
     ensures { rows.new ≡ map (λ (x : Goroutine). woken_with (answer_for cause x.status) x) rows.old }
@@ -88,6 +92,7 @@ impl Table {
         wake_all(&mut self.goroutines, cause);
     }
 
+    /// The clock shows this moment, or stays at a greater one: who waited until then becomes ready, and the reply counts them.
     pub(crate) fn tick(&mut self, moment: u64, reply: Reply) -> bool
         requires young { (g : GNo) → epoch_at self.old g < 2 ^ 63 }
         ensures { Decides (Ticks moment reply) self.old self.new result }

@@ -1,4 +1,5 @@
-//! What an act at a local queue changes of what a machine holds, in place.
+//! What an act at a local queue changes of what a machine holds, in place. The owner stays in its register and is lent: a pop that finds
+//! nothing then moves nothing, where `give` and `got` would move all that stays.
 ghost use Rattle.std.specs.Prelude.{◌≡◌, None};
 ghost use Rattle.std.specs.Borrow.{sem};
 ghost use Rattle.std.specs.Option.{option_copied_mut};
@@ -16,7 +17,7 @@ impl<T, Q> Driver<T, Q> {
     ghost use Rattle.gmp_driver.specs.Seen.{own_processor};
     ghost use Rattle.gmp_driver.specs.Table.{after};
 
-    /// The run that the machine is of.
+    /// The run that the machine is of. A queue of another run is left alone.
     #[inline(always)]
     pub fn run(&self) -> u64
         ensures { result ≡ self.now.run }
@@ -35,7 +36,7 @@ impl<T, Q> Driver<T, Q> {
         }
     }
 
-    /// Lends the owner of the processor that is held.
+    /// Lends the owner of the processor that is held: the own end of its queue, where machines are threads.
     #[inline(always)]
     pub fn owner(&mut self) -> Option<&mut Q>
         ensures* lends { sem 𝓛 (lends_owner T.row Q.row self.entry result) }

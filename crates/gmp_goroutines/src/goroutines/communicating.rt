@@ -1,5 +1,8 @@
 //! What a running goroutine does with channels. A send, a receive or a case of a select proceeds and serves who waits for it, or the
 //! goroutine waits itself: a plain one by gmp_chan, a select by gmp_select.
+//!
+//! A plain send has nothing to ask of selects. Whoever is served is made ready and told by one function all the same (`serve`), and a case
+//! of a select proceeds as a plain communication does.
 ghost use Rattle.std.specs.Prelude.{◌≡◌, ◌<◌, ◌≤◌, ◌^◌, ◌∷◌, [], Some, None, IfNone, IfOk, IfSome, OnErr, OnOk, is_some, true, false, length, slice_get};
 ghost use Rattle.gmp_base.specs.declared.cases.Case.{Case};
 ghost use Rattle.gmp_base.specs.declared.number.GNo.{GNo};
@@ -27,7 +30,8 @@ use gmp_seq::{Kind, MOST_CAPACITY, Offers, Relay, Reply, Taken, Transfer, channe
 use gmp_table::{StatusTable, Wake};
 use std::alloc::{AllocError, Global};
 
-/// Makes ready who was served by a communication, and answers what it comes to.
+/// Makes ready who was served by a communication, and answers what it comes to. Who is served is told what it would have been told without
+/// waiting. Its offers are gone already: the channels took them out.
 fn serve(table: &mut StatusTable, case: Case, how: Transfer) -> Taken
     requires way { IsWayOf case how }
     requires off { (w : Waiter) → served how ≡ Some w → IsOffShelf table.old.table w.g }
@@ -39,6 +43,7 @@ fn serve(table: &mut StatusTable, case: Case, how: Transfer) -> Taken
     match how {
         Transfer::Failed => Taken::Failed,
         Transfer::Handed(w) => {
+            // A receiver is served by a send alone, and a sender by a receive.
             let Case::Send(_, v) = case else {
                 unreachable!()
             };
@@ -53,11 +58,12 @@ fn serve(table: &mut StatusTable, case: Case, how: Transfer) -> Taken
             let value = w.offered();
             Taken::Got(v, true, Some(Relay { sender, value }))
         }
+        // Zero, and that it was not sent (Go specification, Close).
         Transfer::Drained => Taken::Got(0, false, None),
     }
 }
 
-/// What a plain send or receive is answered that came to this.
+/// What a plain send or receive is answered that came to this. A send on a closed channel is a fault at once.
 #[inline(always)]
 fn plain_reply(taken: Taken) -> Reply
     ensures { result ≡ plain_reply taken }
@@ -69,7 +75,8 @@ fn plain_reply(taken: Taken) -> Reply
     }
 }
 
-/// Makes ready who was served by a plain send or receive, and writes its reply in place.
+/// Makes ready who was served by a plain send or receive, and writes its reply in place. The three that serve nobody are written here,
+/// since they come most often.
 #[inline(always)]
 fn serve_plain(table: &mut StatusTable, case: Case, how: &Transfer, out: &mut Reply)
     requires way { IsWayOf case how.now }
@@ -101,13 +108,15 @@ fn serve_other(table: &mut StatusTable, case: Case, how: Transfer, out: &mut Rep
 }
 
 impl Goroutines {
-    /// Makes an open, empty channel with this capacity, by the next number, or answers the fault. Only a channel takes memory.
+    /// Makes an open, empty channel with this capacity, by the next number, or answers the fault (Go specification, Making slices, maps and
+    /// channels). Only a channel takes memory: a fault is answered without any. Refused memory, nothing has changed.
     pub fn make(&mut self, alloc: Global, capacity: u32) -> Result<Reply, AllocError>
         ensures makes { IfOk result (λ reply. (limits : Limits) → limits.channels ≡ self.old.limit → Makes limits capacity reply self.old.channels self.new.channels) }
         ensures table { OnOk result (self.new ≡ record self.old { channels = self.new.channels }) }
         ensures err { OnErr result (self.new ≡ self.old) }
         ensures needed { OnErr result ((capacity ≤ 4096) × (length self.old.channels < self.old.limit)) }
     {
+        // The capacity is judged before the number of channels, and both before memory is taken.
         if capacity > MOST_CAPACITY {
             return Ok(Reply::Fault(Fault::BadCapacity));
         }
@@ -118,7 +127,8 @@ impl Goroutines {
         Ok(Reply::Channel(c))
     }
 
-    /// Closes a channel. All that wait on it go onto the shelf, by their arrivals; the answer counts them.
+    /// Closes a channel (Go specification, Close). All that wait on it go onto the shelf, by their arrivals; the answer counts them.
+    /// Receivers are told zero and false, senders the fault. nil, and a channel that was closed before, is a fault.
     pub fn close(&mut self, c: Option<CNo>) -> Reply
         requires young { (g : GNo) → epoch_at self.old.table g < 2 ^ 63 }
         ensures closes { Closes c result (state_of self.old) (state_of self.new) }
@@ -134,11 +144,12 @@ impl Goroutines {
         if self.channels.is_closed(c) {
             return Reply::Fault(Fault::CloseOfClosed);
         }
+        // Closed first: whoever is woken finds the channel closed.
         self.channels.close(c);
         Reply::Closed(self.wake_all(Wake::Closed(c)))
     }
 
-    /// How many values the channel holds, 0 for nil.
+    /// How many values the channel holds, 0 for nil (Go specification, Length and capacity).
     pub fn len(&self, c: Option<CNo>) -> Reply
         ensures { Tells (λ n. length (items_at self.now.channels n)) c result self.now.channels self.now.channels }
     {
@@ -151,7 +162,7 @@ impl Goroutines {
         }
     }
 
-    /// For how many values the channel has room, 0 for nil.
+    /// For how many values the channel has room, 0 for nil (Go specification, Length and capacity).
     pub fn cap(&self, c: Option<CNo>) -> Reply
         ensures { Tells (capacity_at self.now.channels) c result self.now.channels self.now.channels }
     {
@@ -183,7 +194,8 @@ impl Goroutines {
         }
     }
 
-    /// g, which runs, sends or receives, or waits until it can. The reply is written in place.
+    /// g, which runs, sends or receives, or waits until it can (Go specification, Send statements and Receive operator). On nil it waits
+    /// for good. The reply is written in place, so that the frequent call moves no wide value.
     pub fn deal(&mut self, g: GNo, case: Case, out: &mut Reply)
         requires runs { (m : MNo) × IsRunning self.old.table g m }
         requires young { (h : GNo) → epoch_at self.old.table h < 2 ^ 63 }
@@ -214,7 +226,8 @@ impl Goroutines {
         self.wait(g, Kind::Plain, Offers::of(&[case]), None);
     }
 
-    /// Which case is taken: of the r that can proceed, in order, number `word mod r`.
+    /// Which case is taken: of the r that can proceed, in order, number `word mod r`. Go's choice is uniform; here the word decides, so
+    /// that a run can be made again from its words.
     fn chosen(&self, cases: &Cases, word: u64) -> Option<u8>
         requires { length cases.now ≤ 8 }
         ensures number { result ≡ choice (state_of self.now) cases.now word }
@@ -232,11 +245,12 @@ impl Goroutines {
         ensures communicates { Communicates case result (state_of self.old) (state_of self.new) }
         ensures rest { self.new ≡ record self.old { table = self.new.table; channels = self.new.channels } }
     {
+        // The case was chosen among those that can proceed, and nothing has changed since.
         let how = complete(&mut self.channels, case).unwrap();
         serve(&mut self.table, case, how)
     }
 
-    /// g, which runs, begins to wait for any of these cases, until this moment.
+    /// g, which runs, begins to wait for any of these cases, until this moment. The first that can proceed, or the moment, ends it.
     fn wait_for_any(&mut self, g: GNo, cases: &Cases, until: Option<u64>)
         requires runs { (m : MNo) × IsRunning self.old.table g m }
         requires few { self.old.table.arrivals < 2 ^ 63 }
@@ -248,8 +262,9 @@ impl Goroutines {
         self.table.wait(g, Kind::Select, offers, until);
     }
 
-    /// g, which runs, takes one of the cases that can proceed, or else the default, where it has one, or else waits for any of
-    /// them, until this moment.
+    /// g, which runs, takes one of the cases that can proceed, or else the default, where it has one, or else waits for any of them, until
+    /// this moment, in nanoseconds (Go specification, Select statements). A channel that was not made is a fault before any case is looked
+    /// at. The word is the caller's, drawn before the call.
     pub fn select(
         &mut self,
         g: GNo,
@@ -271,6 +286,7 @@ impl Goroutines {
         }
         match self.chosen(cases, word) {
             Some(i) => Reply::Chose(i, self.take_case(cases.as_slice()[i as usize])),
+            // A default keeps the select from waiting, whatever its deadline (Go specification, Select statements).
             None if has_default => Reply::Default,
             None => {
                 self.wait_for_any(g, cases, until);

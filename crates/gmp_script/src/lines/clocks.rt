@@ -1,4 +1,4 @@
-//! Reads a line of the clock's readings.
+//! Reads a line of the clock's readings: one at least, each in nanoseconds. They need not go up.
 
 ghost use Rattle.std.specs.Prelude.{◌≡◌, IfOk, map, option_map};
 ghost use Rattle.gmp_script.specs.Lines.{clocked, values};
@@ -10,6 +10,7 @@ use std::marker::Model;
 /// Readings of the clock in nanoseconds, in order. A contract sees the list of them.
 #[derive(Debug, Drop)]
 pub struct Readings {
+    /// As they stand in the line.
     list: Vec<u64>,
 }
 

@@ -1,4 +1,5 @@
-//! Reads a select.
+//! Reads a select: its cases, `recv:C` or `send:C:V`, then a default where there is one, then a deadline where there is one. From behind,
+//! so that the words before need no look ahead.
 
 ghost use Rattle.std.specs.Prelude.{◌≡◌, ◌==◌, IfOk, map};
 ghost use Rattle.std.specs.List.{slice_split};

@@ -1,5 +1,5 @@
-//! Reads the line of a start that a text begins with. What it may say is guessed, the guess is written, and the text must begin with what was
-//! written: so what is read is spelled so, to the byte.
+//! Reads the line of a start that a text begins with. What it may say is guessed, the guess is written, and the text must begin with what
+//! was written: so what is read is spelled so, to the byte. Whether it is within the limits `heads`, `channels` and `rows` ask.
 
 ghost use Rattle.std.specs.Prelude.{◌≡◌, ◌++◌, ◌<◌, ◌≤◌, ◌^◌, ℕ, List, Bool, Option, true, length, map, All, IfOk, IfSome, IsSomeAnd};
 ghost use Rattle.gmp_base.specs.declared.number.MNo.{MNo};
@@ -29,9 +29,13 @@ use std::alloc::{AllocError, Global};
 /// What line 3 says: how many entries were made, the moment, how many waits began, how many processors are active.
 #[derive(Clone, Copy, Debug, PartialEq, Eq)]
 pub struct Head {
+    /// The sum of the counts, which `begin` compares.
     pub made: u64,
+    /// In nanoseconds.
     pub clock: u64,
+    /// The number that the next wait has.
     pub arrivals: u64,
+    /// How many processors are active.
     pub active: u8,
 }
 

@@ -1,4 +1,5 @@
-//! What has to hold at `begin`, where all lines before it are right.
+//! What has to hold at `begin`, where all lines before it are right: that the counts add up, and the parts of the state fit together.
+//! Whether a run from an opening leads to that state isn't asked, and the state doesn't say.
 ghost use Rattle.std.specs.Prelude.{◌≡◌, ◌↔◌, ◌+◌, ◌≤◌, IsTrue, length, sum};
 ghost use Rattle.gmp_seq.specs.Laws.{FitsTogether};
 ghost use Rattle.gmp_start.specs.Start.{state_of};

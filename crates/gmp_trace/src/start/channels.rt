@@ -1,4 +1,5 @@
-//! The lines of channels.
+//! The lines of channels, one each, as many as there are: the first line that is none of a channel is the first goroutine's. A channel's
+//! line has at most 4,096 values, so its words find room that is taken once, of a text of which nothing is known yet.
 ghost use Rattle.std.specs.Prelude.{◌≡◌, ◌≤◌, map, length, IfOk, MatchOption};
 ghost use Rattle.gmp_start.specs.Start.{channel_of};
 ghost use Rattle.gmp_trace.specs.StartNext.{IsNext, AreChannels, NoChannel, behind_channels, chan_line};

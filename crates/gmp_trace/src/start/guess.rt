@@ -1,4 +1,5 @@
 //! What the words of a start's line may say. Nothing is refused: who reads writes the guess, and compares.
+//! A word that says nothing of its kind stands for the last kind in the match, whose text it is not.
 
 ghost use Rattle.std.specs.Prelude.{◌≡◌, ◌<◌, ◌++◌, ◌∷◌, [], length, map, IfOk};
 ghost use Rattle.gmp_trace.specs.Guess.{number_read};

@@ -1,4 +1,6 @@
-//! The six lines of a start before those of channels and goroutines: each is read where it may stand, or nothing that may stand there stands there.
+//! The six lines of a start before those of channels and goroutines: each is read where it may stand, or nothing that may stand there
+//! stands there. What a line says must be within the limits: lists as long as these have machines and processors, and machines that are
+//! there.
 ghost use Rattle.std.specs.Prelude.{◌≡◌, ◌↔◌, ◌<◌, ◌^◌, All, IfOk, IfSome, IsTrue, MatchOption};
 ghost use Rattle.gmp_base.specs.Fits.{IsWord};
 ghost use Rattle.gmp_trace.specs.StartForms.{BelowAll, FitsStatus, NoneFollows};
@@ -55,6 +57,7 @@ pub fn counts_of<'a>(
     Ok(Some((counts, rest)))
 }
 
+/// Whether a processor is idle or its holder is a machine that is there.
 fn is_below(machines: u8, holder: Option<MNo>) -> bool
     ensures { IsTrue result ↔ IfSome holder (λ m. m.0 < machines) }
 {
@@ -64,6 +67,7 @@ fn is_below(machines: u8, holder: Option<MNo>) -> bool
     }
 }
 
+/// The same of all processors.
 fn are_below(machines: u8, holders: &[Option<MNo>]) -> bool
     ensures { IsTrue result ↔ BelowAll machines holders.now }
 {

@@ -1,4 +1,4 @@
-//! Puts the lines of a start at the end of a text.
+//! Puts the lines of a start at the end of a text. `guess` is their mirror, word by word.
 
 ghost use Rattle.std.specs.Prelude.{◌≡◌, ◌++◌, ◌∷◌, OnOk, map};
 ghost use Rattle.gmp_trace.specs.Pieces.{boolean, fields, piece_text};
@@ -44,6 +44,7 @@ pub fn put_counts(out: &mut Vec<u8>, counts: &[u64]) -> Result<(), AllocError>
     Ok(())
 }
 
+/// The machine that holds a processor, or `idle`.
 fn put_holder(out: &mut Vec<u8>, holder: Option<MNo>) -> Result<(), AllocError>
     ensures { OnOk result (out.new.items ≡ out.old.items ++ 32 ∷ piece_text (holder_piece holder)) }
 {
@@ -66,6 +67,7 @@ pub fn put_procs(out: &mut Vec<u8>, holders: &[Option<MNo>]) -> Result<(), Alloc
     Ok(())
 }
 
+/// What a machine does.
 fn put_mode(out: &mut Vec<u8>, mode: Mode) -> Result<(), AllocError>
     ensures { OnOk result (out.new.items ≡ out.old.items ++ 32 ∷ piece_text (mode_piece mode)) }
 {
@@ -124,6 +126,7 @@ pub fn put_channel_line(out: &mut Vec<u8>, c: u64, channel: &StartChannel) -> Re
     Ok(())
 }
 
+/// `true` or `false`.
 fn put_bool(out: &mut Vec<u8>, b: bool) -> Result<(), AllocError>
     ensures { OnOk result (out.new.items ≡ out.old.items ++ 32 ∷ piece_text (boolean b)) }
 {
@@ -158,6 +161,7 @@ fn put_woke(out: &mut Vec<u8>, woke: Woke) -> Result<(), AllocError>
     }
 }
 
+/// What a goroutine waits by.
 fn put_kind(out: &mut Vec<u8>, kind: Kind) -> Result<(), AllocError>
     ensures { OnOk result (out.new.items ≡ out.old.items ++ 32 ∷ piece_text (kind_piece kind)) }
 {
@@ -169,6 +173,7 @@ fn put_kind(out: &mut Vec<u8>, kind: Kind) -> Result<(), AllocError>
     }
 }
 
+/// An offer by its case: what is done, the channel, and of a send the value.
 fn put_offer(out: &mut Vec<u8>, offer: Offer) -> Result<(), AllocError>
     ensures { OnOk result (out.new.items ≡ out.old.items ++ 32 ∷ offer_text offer) }
 {
@@ -187,6 +192,7 @@ fn put_offer(out: &mut Vec<u8>, offer: Offer) -> Result<(), AllocError>
     }
 }
 
+/// All offers of one that waits.
 fn put_offers(out: &mut Vec<u8>, offers: &[Offer]) -> Result<(), AllocError>
     ensures { OnOk result (out.new.items ≡ out.old.items ++ fields (map offer_piece offers.now)) }
 {
@@ -196,6 +202,7 @@ fn put_offers(out: &mut Vec<u8>, offers: &[Offer]) -> Result<(), AllocError>
     Ok(())
 }
 
+/// What stands behind `waits`: the arrival, the kind, the deadline and the offers.
 fn put_wait(out: &mut Vec<u8>, wait: &Wait) -> Result<(), AllocError>
     ensures { OnOk result (out.new.items ≡ out.old.items ++ fields (status_pieces (Status.Waiting wait.now))) }
 {
@@ -207,6 +214,7 @@ fn put_wait(out: &mut Vec<u8>, wait: &Wait) -> Result<(), AllocError>
     put_offers(out, wait.offers.as_slice())
 }
 
+/// What a goroutine does.
 fn put_status(out: &mut Vec<u8>, status: &Status) -> Result<(), AllocError>
     ensures { OnOk result (out.new.items ≡ out.old.items ++ fields (status_pieces status.now)) }
 {
@@ -240,6 +248,7 @@ pub fn put_goroutine_line(out: &mut Vec<u8>, g: u64, row: &Goroutine) -> Result<
     Ok(())
 }
 
+/// A line for each channel.
 fn put_channels(out: &mut Vec<u8>, channels: &[StartChannel]) -> Result<(), AllocError>
     ensures { OnOk result (out.new.items ≡ out.old.items ++ channels_text 0 (map channel_of channels.now)) }
 {
@@ -249,6 +258,7 @@ fn put_channels(out: &mut Vec<u8>, channels: &[StartChannel]) -> Result<(), Allo
     Ok(())
 }
 
+/// A line for each goroutine.
 fn put_rows(out: &mut Vec<u8>, rows: &[Goroutine]) -> Result<(), AllocError>
     ensures { OnOk result (out.new.items ≡ out.old.items ++ goroutines_text 0 rows.now) }
 {
@@ -258,8 +268,8 @@ fn put_rows(out: &mut Vec<u8>, rows: &[Goroutine]) -> Result<(), AllocError>
     Ok(())
 }
 
-/// Puts the lines of a start, from `start` to `begin`, at the end of a text. The first says that `made` entries were made before it; who reads
-/// them wants the sum of the counts there. They can be read where the start's state has the forms that `gmp_start` defines.
+/// Puts the lines of a start, from `start` to `begin`, at the end of a text. The first says that `made` entries were made before it; who
+/// reads them wants the sum of the counts there. They can be read where the start's state has the forms that `gmp_start` defines.
 pub fn put_start(out: &mut Vec<u8>, made: u64, start: &Start) -> Result<(), AllocError>
     ensures { OnOk result (out.new.items ≡ out.old.items ++ start_text made (state_of start.now)) }
 {

@@ -1,4 +1,4 @@
-//! The lines of goroutines.
+//! The lines of goroutines, one each, in order: as many as the limits' line has bodies.
 ghost use Rattle.std.specs.Prelude.{◌≡◌, ◌≤◌, ◌<◌, length, IfOk, IfErr, MatchOption};
 ghost use Rattle.gmp_trace.specs.StartNext.{AreRows, IsNext, NoRow, RowsEnd, behind_rows, row_line};
 

@@ -1,4 +1,4 @@
-//! All lines of a start.
+//! All lines of a start, the six heads (`Heads`) first, then channels, goroutines and `begin`.
 ghost use Rattle.std.specs.Prelude.{◌≡◌, ◌≤◌, ℕ, List, [], None, IfOk, IfErr, IsOkAnd};
 ghost use Rattle.gmp_seq.specs.Fits.{AreLimits};
 ghost use Rattle.gmp_seq.specs.State.{State};
@@ -69,8 +69,8 @@ fn heads_of<'a>(
     Ok(Ok((heads, rest)))
 }
 
-/// The start whose lines the text begins with, the number of entries that line 3 says before it, and the text behind `begin`. Or the number of
-/// the first line that isn't right.
+/// The start whose lines the text begins with, the number of entries that line 3 says before it, and the text behind `begin`. Or the number
+/// of the first line that isn't right.
 fn read_start<'a>(
     alloc: Global,
     limits: Limits,
@@ -114,9 +114,9 @@ fn read_start<'a>(
 
 /// The start whose lines the text begins with, and the text behind `begin`; or the number of the first bad line.
 ///
-/// The text begins behind the limits, so its first line has the number 3. The line of `begin` is bad where all lines before it are right and the
-/// counts don't add up to the number of entries that line 3 says, or the parts don't fit together, as `Start::fits` tests. It takes memory for the
-/// start, the words of one line and that line written anew.
+/// The text begins behind the limits, so its first line has the number 3. The line of `begin` is bad where all lines before it are right
+/// and the counts don't add up to the number of entries that line 3 says, or the parts don't fit together, as `Start::fits` tests. It takes
+/// memory for the start, the words of one line and that line written anew.
 pub fn read_whole_start<'a>(
     alloc: Global,
     limits: Limits,

@@ -25,7 +25,7 @@ returns-in-Ok-written-clause-traced g c = λ nothing.
       run = is_run s script.capacities.items script.readings.items script.bodies.items (stage c.in-Ok.player) behind x opened c.play.ensures.same.opened c.history.ensures.headline c.history.ensures.within c.history.ensures.fits c.limits-limits.ensures stock (ap AtOpening c.deref-2.ensures.value) c.history.ensures.entries ended c.play.ensures.played;
       has_text = has_text s script.capacities.items script.readings.items script.bodies.items (stage c.in-Ok.player) behind x opened c.play.ensures.same.opened c.history.ensures.headline c.history.ensures.within c.history.ensures.fits c.limits-limits.ensures stock (ap AtOpening c.deref-2.ensures.value) c.history.ensures.entries ended;
       written = c.in-Ok-written.ensures.written;
-      told = c.traced.ensures.status;
+      told = c.written.ensures.status;
     }
 
 pub returns-clause-traced : goal.returns-clause-traced

@@ -19,15 +19,15 @@ overflow_cast-result-5 c = omega (arith, c.in_ok-read-6.ensures.in_range)
 pub returns : goal.returns
 returns c = record {
   task = c.requires;
-  procs = c.in_ok-read.ensures.value;
-  machines = c.in_ok-read-2.ensures.value;
-  channels = c.in_ok-read-3.ensures.value;
-  entries = c.in_ok-read-4.ensures.value;
-  word = c.in_ok-read-5.ensures.value;
-  acts = c.in_ok-read-6.ensures.value;
-  random = c.in_ok-read-7.ensures.value;
-  trace = c.is_given.ensures;
-  at = c.in_ok-read-8.ensures.value;
+  procs = search rules;
+  machines = search rules;
+  channels = search rules;
+  entries = search rules;
+  word = search rules;
+  acts = search rules;
+  random = search rules;
+  trace = search rules;
+  at = search rules;
 }
 
 pub invariant_of-result : goal.invariant_of-result

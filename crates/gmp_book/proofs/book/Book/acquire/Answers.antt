@@ -1,4 +1,4 @@
-use Rattle.gmp_ledger.proofs.Saying.{says_alone}
+use Rattle.gmp_journal.proofs.Saying.{says_alone}
 use Rattle.gmp_book.proofs.book.Book.acquire.Goals as goal
 
 pub returns-in-None-None-None-None-Err-clause-refused : goal.returns-in-None-None-None-None-Err-clause-refused

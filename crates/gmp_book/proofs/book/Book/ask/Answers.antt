@@ -1,6 +1,6 @@
 use Rattle.std.proofs.Common.{None, Some}
-use Rattle.gmp_ledger.specs.Handed.{by_held}
-use Rattle.gmp_ledger.specs.Refusals.{refusal_of}
+use Rattle.gmp_journal.specs.Handed.{by_held}
+use Rattle.gmp_journal.specs.Refusals.{refusal_of}
 use Rattle.gmp_book.proofs.Asking.{Asked, asked, ours, plain}
 use Rattle.gmp_book.proofs.book.Book.ask.Given.{Over}
 use Rattle.gmp_book.proofs.book.Book.ask.Goals as goal

@@ -4,11 +4,11 @@ use Rattle.std.proofs.lemmas.Bool.{false≢true}
 use Rattle.gmp_seq.specs.declared.call.Call.{Call}
 use Rattle.gmp_seq.specs.declared.call.Call.TheVariants as call
 use Rattle.gmp_seq.specs.Needs.{WantsMemory}
-use Rattle.gmp_ledger.specs.Done.{IsDoneTo}
-use Rattle.gmp_ledger.specs.Grants.{NeedsMemory}
-use Rattle.gmp_ledger.specs.Handed.{goroutine_in, processor_in}
-use Rattle.gmp_ledger.specs.Refusals.{Says, refusal_of}
-use Rattle.gmp_ledger.proofs.Done.{done}
+use Rattle.gmp_journal.specs.Done.{IsDoneTo}
+use Rattle.gmp_journal.specs.Grants.{NeedsMemory}
+use Rattle.gmp_journal.specs.Handed.{goroutine_in, processor_in}
+use Rattle.gmp_journal.specs.Refusals.{Says, refusal_of}
+use Rattle.gmp_journal.proofs.Done.{done}
 use Rattle.gmp_book.specs.Book.{BookContents}
 use Rattle.gmp_book.specs.Hands.{back_where, handed_of, is_make}
 use Rattle.gmp_book.proofs.Settled.{body_fits, owner_fits, settled}
@@ -32,7 +32,7 @@ settle_body-held-requires g c =
     let k = c.in-Ok in
     let grants = rw c.handed-given.ensures at k.ensures.grants in
     rw (c.parts-held.ensures, c.way_of-way.ensures, c.claimed-g.ensures)
-    (body_fits i.ledger c.call-made.new.self i.bodies i.owners c.self.invariant k.ensures.order a.pass.now c.call-made.new.pass a.values a.call c.call-made.new.out c.requires.suits grants k.ensures.records)
+    (body_fits i.journal c.call-made.new.self i.bodies i.owners c.self.invariant k.ensures.order a.pass.now c.call-made.new.pass a.values a.call c.call-made.new.out c.requires.suits grants k.ensures.records)
 
 pub settle_owner-proc-requires : goal.settle_owner-proc-requires
 settle_owner-proc-requires g c =
@@ -41,7 +41,7 @@ settle_owner-proc-requires g c =
     let k = c.in-Ok in
     let grants = rw c.handed-given.ensures at k.ensures.grants in
     rw c.parts-held.ensures
-    (owner_fits i.ledger c.call-made.new.self i.bodies i.owners c.self.invariant k.ensures.order a.pass.now c.call-made.new.pass a.values a.call c.call-made.new.out c.requires.suits grants k.ensures.records)
+    (owner_fits i.journal c.call-made.new.self i.bodies i.owners c.self.invariant k.ensures.order a.pass.now c.call-made.new.pass a.values a.call c.call-made.new.out c.requires.suits grants k.ensures.records)
 
 pub invariant_of-self-in-Ok : goal.invariant_of-self-in-Ok
 invariant_of-self-in-Ok g c =
@@ -51,7 +51,7 @@ invariant_of-self-in-Ok g c =
     let grants = rw c.handed-given.ensures at k.ensures.grants in
     let body = rw (c.parts-held.ensures, c.way_of-way.ensures, c.claimed-g.ensures) at c.settle_body-held.ensures in
     let owner = rw c.parts-held.ensures at c.settle_owner-proc.ensures in
-    settled i.ledger c.call-made.new.self i.bodies i.owners c.self.invariant k.ensures.order a.pass.now c.call-made.new.pass a.values a.call c.call-made.new.out c.requires.suits grants k.ensures.records _ _ _ _ _ _ _
+    settled i.journal c.call-made.new.self i.bodies i.owners c.self.invariant k.ensures.order a.pass.now c.call-made.new.pass a.values a.call c.call-made.new.out c.requires.suits grants k.ensures.records _ _ _ _ _ _ _
     body owner
 
 pub returns-after-ticket-clause-done : goal.returns-after-ticket-clause-done
@@ -63,7 +63,7 @@ returns-after-ticket-clause-done g c =
     let g = goroutine_in (handed_of a.values) in
     let p = processor_in (handed_of a.values) in
     subst (λ (b : BookContents _ _). IsDoneTo a.call a.pass.now.m g p c.call-made.new.out b.log.state c.call-made.new.self.state) c.self.view_is
-    (done a.call i.ledger.limits a.pass.now.m g p c.call-made.new.out i.ledger.state c.call-made.new.self.state k.ensures.order grants k.ensures.records.step)
+    (done a.call i.journal.limits a.pass.now.m g p c.call-made.new.out i.journal.state c.call-made.new.self.state k.ensures.order grants k.ensures.records.step)
 
 pub returns-in-Err-clause-refused : goal.returns-in-Err-clause-refused
 returns-in-Err-clause-refused g c =

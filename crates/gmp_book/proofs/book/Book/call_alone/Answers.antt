@@ -1,8 +1,8 @@
 use Rattle.std.proofs.Common.{None, subst, refl}
-use Rattle.gmp_ledger.specs.Done.{IsDoneTo}
-use Rattle.gmp_ledger.specs.Handed.{goroutine_in, nothing_handed, processor_in}
-use Rattle.gmp_ledger.specs.Known.{known_by}
-use Rattle.gmp_ledger.proofs.Done.{done}
+use Rattle.gmp_journal.specs.Done.{IsDoneTo}
+use Rattle.gmp_journal.specs.Handed.{goroutine_in, nothing_handed, processor_in}
+use Rattle.gmp_journal.specs.Known.{known_by}
+use Rattle.gmp_journal.proofs.Done.{done}
 use Rattle.gmp_book.specs.Book.{BookContents}
 use Rattle.gmp_book.specs.Hands.{Hands, claimed, told_by, way_of}
 use Rattle.gmp_book.specs.InPlace.{no_values, own_back}
@@ -16,25 +16,25 @@ invariant_of-self-2 g c =
     let i = c.self.inside in
     let k = c.in_ok-call in
     let a = c.args in
-    let moved = moves i.ledger.limits a.pass.now.m a.call.now c.call.new.out i.ledger.state c.call.new.self.state k.ensures.records.step.1 in
-    let told = told_by (known_by a.call.now i.ledger.state.table) c.call.new.out in
-    settled i.ledger c.call.new.self i.bodies i.owners c.self.invariant k.ensures.order a.pass.now c.call.new.pass no_values a.call.now c.call.new.out c.requires.suits k.ensures.grants k.ensures.records
-    i.ledger.run told None None None i.bodies i.owners
-    (body_none (way_of c.call.new.out) a.call.now a.pass.now.m i.ledger.state.table c.call.new.self.state.table i.ledger.run (claimed a.call.now) told i.bodies c.requires.still moved.0)
-    (owner_still c.call.new.out a.call.now a.pass.now.m i.ledger.state.machines c.call.new.self.state.machines i.ledger.run i.owners c.requires.still moved.1)
+    let moved = moves i.journal.limits a.pass.now.m a.call.now c.call.new.out i.journal.state c.call.new.self.state k.ensures.records.step.1 in
+    let told = told_by (known_by a.call.now i.journal.state.table) c.call.new.out in
+    settled i.journal c.call.new.self i.bodies i.owners c.self.invariant k.ensures.order a.pass.now c.call.new.pass no_values a.call.now c.call.new.out c.requires.suits k.ensures.grants k.ensures.records
+    i.journal.run told None None None i.bodies i.owners
+    (body_none (way_of c.call.new.out) a.call.now a.pass.now.m i.journal.state.table c.call.new.self.state.table i.journal.run (claimed a.call.now) told i.bodies c.requires.still moved.0)
+    (owner_still c.call.new.out a.call.now a.pass.now.m i.journal.state.machines c.call.new.self.state.machines i.journal.run i.owners c.requires.still moved.1)
 
 pub returns-clause-hands : goal.returns-clause-hands
 returns-clause-hands g c =
     let i = c.self.inside in
     let k = c.in_ok-call in
     let a = c.args in
-    let moved = moves i.ledger.limits a.pass.now.m a.call.now c.call.new.out i.ledger.state c.call.new.self.state k.ensures.records.step.1 in
-    let told = told_by (known_by a.call.now i.ledger.state.table) c.call.new.out in
+    let moved = moves i.journal.limits a.pass.now.m a.call.now c.call.new.out i.journal.state c.call.new.self.state k.ensures.records.step.1 in
+    let told = told_by (known_by a.call.now i.journal.state.table) c.call.new.out in
     subst (λ (b : BookContents _ _). Hands a.call.now c.call.new.out no_values (own_back b.log.run None c.call.new.out) b (record { log = c.call.new.self; bodies = i.bodies; owners = i.owners })) c.self.view_is
     (record {
       ticket = refl;
-      body = body_none (way_of c.call.new.out) a.call.now a.pass.now.m i.ledger.state.table c.call.new.self.state.table i.ledger.run (claimed a.call.now) told i.bodies c.requires.still moved.0;
-      owner = owner_still c.call.new.out a.call.now a.pass.now.m i.ledger.state.machines c.call.new.self.state.machines i.ledger.run i.owners c.requires.still moved.1;
+      body = body_none (way_of c.call.new.out) a.call.now a.pass.now.m i.journal.state.table c.call.new.self.state.table i.journal.run (claimed a.call.now) told i.bodies c.requires.still moved.0;
+      owner = owner_still c.call.new.out a.call.now a.pass.now.m i.journal.state.machines c.call.new.self.state.machines i.journal.run i.owners c.requires.still moved.1;
     })
 
 pub returns-clause-done : goal.returns-clause-done
@@ -45,4 +45,4 @@ returns-clause-done g c =
     let g = goroutine_in nothing_handed in
     let p = processor_in nothing_handed in
     subst (λ (b : BookContents _ _). IsDoneTo a.call.now a.pass.now.m g p c.call.new.out b.log.state c.call.new.self.state) c.self.view_is
-    (done a.call.now i.ledger.limits a.pass.now.m g p c.call.new.out i.ledger.state c.call.new.self.state k.ensures.order k.ensures.grants k.ensures.records.step)
+    (done a.call.now i.journal.limits a.pass.now.m g p c.call.new.out i.journal.state c.call.new.self.state k.ensures.order k.ensures.grants k.ensures.records.step)

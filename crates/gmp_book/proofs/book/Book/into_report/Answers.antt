@@ -3,7 +3,7 @@ use Rattle.std.proofs.lemmas.List.{length-map}
 use Rattle.gmp_seq.specs.Fits.{AreLimits, Fits}
 use Rattle.gmp_seq.specs.declared.call.Entry.{Entry}
 use Rattle.gmp_seq.specs.Run.{IsLegal, Run}
-use Rattle.gmp_ledger.specs.Log.{Log}
+use Rattle.gmp_journal.specs.Log.{Log}
 use Rattle.gmp_book.proofs.book.Book.into_report.Goals as goal
 
 pub returns-clause-report : goal.returns-clause-report

@@ -1,5 +1,5 @@
 use Rattle.std.proofs.Common.{refl}
-use Rattle.gmp_ledger.proofs.Saying.{says_alone}
+use Rattle.gmp_journal.proofs.Saying.{says_alone}
 use Rattle.gmp_book.proofs.book.Book.leave.Goals as goal
 
 pub call-values-requires-clause-suits : goal.call-values-requires-clause-suits

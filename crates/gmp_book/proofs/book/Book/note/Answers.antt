@@ -1,6 +1,6 @@
 use Rattle.std.proofs.Common.{None, Some}
-use Rattle.gmp_ledger.specs.Handed.{nothing_handed}
-use Rattle.gmp_ledger.specs.Refusals.{refusal_of}
+use Rattle.gmp_journal.specs.Handed.{nothing_handed}
+use Rattle.gmp_journal.specs.Refusals.{refusal_of}
 use Rattle.gmp_book.proofs.Asking.{plain}
 use Rattle.gmp_book.proofs.book.Book.note.Goals as goal
 

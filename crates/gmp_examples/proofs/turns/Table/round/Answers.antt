@@ -1,5 +1,0 @@
-use Rattle.gmp_core.proofs.Moves.{opened_on}
-use Rattle.gmp_examples.proofs.turns.Table.round.Goals as goal
-
-pub loop-m-preserved : goal.loop-m-preserved
-loop-m-preserved g c = opened_on _ _ _ c.loop-m.invariant c.act.ensures

@@ -1,6 +1,0 @@
-use Rattle.gmp_acts.specs.Headline.{SameOpening}
-use Rattle.gmp_examples.proofs.turns.Table.round.Given as goal
-
--- what was given at the opening stays
-abbrev pub invariant-loop-m : goal.invariant-loop-m
-invariant-loop-m g l = SameOpening l.initial.self.core.system.book l.self.core.system.book

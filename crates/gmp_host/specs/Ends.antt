@@ -1,0 +1,18 @@
+-- What is told of a run.
+use Rattle.std.specs.Prelude.{◌≡◌, ℕ, List, length, Some}
+use Rattle.gmp_seq.specs.declared.call.Entry.{Entry}
+use Rattle.gmp_seq.specs.declared.call.Limits.{Limits}
+use Rattle.gmp_seq.specs.Fits.{AreLimits}
+use Rattle.gmp_seq.specs.Run.{IsLegal}
+use Rattle.gmp_seq.specs.State.{State}
+use Rattle.gmp_host.specs.declared.ending.Ended.{Ended}
+
+-- There is a legal run, from the opening under these limits, which are in range, with these capacities and so many bodies, that has this
+-- outcome and as many entries.
+pub record IsOfLegalRun (limits : Limits) (capacities : List ℕ) (bodies : ℕ) (ended : Ended) : Type 0 where
+  pub history : List Entry
+  pub last : State
+  pub legal : IsLegal limits bodies capacities history last
+  pub outcome : last.outcome ≡ Some ended.outcome
+  pub entries : length history ≡ ended.entries
+  pub within : AreLimits limits bodies capacities

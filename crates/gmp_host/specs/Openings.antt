@@ -1,0 +1,7 @@
+-- What a host gives its run.
+use Rattle.gmp_seq.specs.declared.call.Limits.{Limits}
+use Rattle.gmp_host.specs.declared.settings.Settings.{Settings}
+
+-- the limits that settings give
+abbrev pub limits_of : Settings → Limits
+limits_of s = record { procs = s.procs; machines = s.machines; channels = s.channels; entries = s.entries }

@@ -1,0 +1,210 @@
+//! A host's goroutines and channels, and their run.
+ghost use Rattle.std.specs.Prelude.{◌≡◌, ◌++◌, ◌∷◌, [], IfErr, IfOk, OnOk, Some, length};
+ghost use Rattle.gmp_seq.specs.Fits.{AreLimits};
+ghost use Rattle.gmp_host.specs.Ends.{IsOfLegalRun};
+ghost use Rattle.gmp_host.specs.Openings.{limits_of};
+
+use crate::channel::Channel;
+use crate::clock::Since;
+use crate::ending::{Ended, Lost, Short};
+use crate::goroutine::{Go, Goroutine, Loss};
+use crate::note::{Note, Time};
+use crate::settings::Settings;
+use crate::stamps::Stamps;
+use crate::table::play_all;
+use gmp_base::{CNo, GNo};
+use gmp_run::{Clock, Gate, Open, run};
+use gmp_worker::{Boxed, audit};
+use std::alloc::Global;
+use std::sync::{Arc, Mutex, Wait};
+use std::thread::Threads;
+use std::time;
+
+/// The number of the run: a host has one.
+const RUN: u64 = 0;
+
+/// Goroutines and channels that a program hands over to be run. `channel` adds to the capacities, and `push` to the bodies.
+#[derive(Drop)]
+pub struct Host {
+    alloc: Global,
+    pub settings: Settings,
+    /// How much room each channel has, by its number.
+    pub capacities: Vec<u32>,
+    /// The goroutines, by their numbers.
+    pub bodies: Vec<Boxed>,
+    /// How many goroutines were boxed.
+    boxed: Note,
+    loss: Loss,
+    shown: Note,
+    /// Whether a goroutine reads the time.
+    is_timed: bool,
+}
+
+/// Which goroutine was lost first, if one was.
+fn first(loss: &Loss) -> Option<Lost> {
+    *loss.try_lock()?
+}
+
+impl Host {
+    /// A host with no goroutine and no channel.
+    pub fn new(alloc: Global, settings: Settings) -> Result<Self, Short>
+        ensures { IfOk result (λ h. (h.settings ≡ settings) × (h.capacities.items ≡ []) × (h.bodies.items ≡ [])) }
+    {
+        Ok(Host {
+            alloc,
+            settings,
+            capacities: Vec::new(alloc),
+            bodies: Vec::new(alloc),
+            boxed: Note::new(alloc)?,
+            loss: Arc::new(alloc, Mutex::new(None))?,
+            shown: Note::new(alloc)?,
+            is_timed: false,
+        })
+    }
+
+    /// One more channel, with room for so many values, at most 4096: `make(chan T, capacity)`.
+    pub fn channel(&mut self, capacity: u32) -> Result<Channel, Short>
+        ensures number { IfOk result (λ c. c.0 ≡ Some (record { 0 = length self.old.capacities.items })) }
+        ensures capacities { OnOk result (self.new.capacities.items ≡ self.old.capacities.items ++ capacity ∷ []) }
+        ensures bodies { self.new.bodies ≡ self.old.bodies }
+        ensures settings { self.new.settings ≡ self.old.settings }
+    {
+        let number = u16::try_from(self.capacities.len()).map_err(|_| Short::BadLimits)?;
+        self.capacities.push(capacity)?;
+        Ok(Channel::of(CNo(number)))
+    }
+
+    /// A number that goroutines leave for the host.
+    pub fn note(&self) -> Result<Note, Short> {
+        Note::new(self.alloc)
+    }
+
+    /// The time, for a goroutine that reads it.
+    pub fn time(&mut self) -> Result<Time, Short>
+        ensures capacities { self.new.capacities ≡ self.old.capacities }
+        ensures bodies { self.new.bodies ≡ self.old.bodies }
+        ensures settings { self.new.settings ≡ self.old.settings }
+    {
+        self.is_timed = true;
+        Ok(Time::of(self.shown.share()?))
+    }
+
+    /// Boxes a goroutine. What is boxed is pushed, in the same order.
+    pub fn boxed<B: Goroutine>(&self, goroutine: B) -> Result<Box<Go<B>>, Short> {
+        let number = self.boxed.get();
+        let number = GNo(u16::try_from(number).map_err(|_| Short::BadLimits)?);
+        let loss = Arc::try_clone(&self.loss)?;
+        let go = Box::new(self.alloc, Go::of(goroutine, number, loss))?;
+        self.boxed.add(1);
+        Ok(go)
+    }
+
+    /// One more goroutine, in the box that `boxed` made for it. The first is main, which alone runs at the start.
+    pub fn push(&mut self, goroutine: Boxed) -> Result<GNo, Short>
+        ensures number { IfOk result (λ g. g.0 ≡ length self.old.bodies.items) }
+        ensures bodies { OnOk result (self.new.bodies.items ≡ self.old.bodies.items ++ goroutine ∷ []) }
+        ensures capacities { self.new.capacities ≡ self.old.capacities }
+        ensures settings { self.new.settings ≡ self.old.settings }
+    {
+        let number = u16::try_from(self.bodies.len()).map_err(|_| Short::BadLimits)?;
+        self.bodies.push(goroutine)?;
+        Ok(GNo(number))
+    }
+
+    /// Whether all that was boxed was pushed.
+    fn is_pushed(&self) -> bool {
+        u64::try_from(self.bodies.len()) == Ok(self.boxed.get())
+    }
+
+    /// Runs the goroutines by a core in this thread, the same every time.
+    pub fn step(self) -> Result<Ended, Short>
+        ensures ended { IfOk result (IsOfLegalRun (limits_of self.settings) self.capacities.items (length self.bodies.items)) }
+        ensures limits { IfErr result (λ e. e ≡ Short.BadLimits
+            → AreLimits (limits_of self.settings) (length self.bodies.items) self.capacities.items → ⊥) }
+    {
+        if !self.is_pushed() {
+            return Err(Short::NotPushed);
+        }
+        let Host {
+            alloc,
+            settings,
+            capacities,
+            bodies,
+            loss,
+            shown,
+            ..
+        } = self;
+        let limits = settings.limits();
+        let ended = play_all(alloc, limits, capacities.as_slice(), bodies, &shown)?;
+        Ok(Ended {
+            lost: first(&loss),
+            ..ended
+        })
+    }
+
+    /// Runs the goroutines by machines in threads, until the run is over and each thread has ended. Who goes first is the threads' own
+    /// affair.
+    pub fn run<R: Threads + Wait + time::Clock + Sync>(self, rt: &R) -> Result<Ended, Short>
+        ensures ended { IfOk result (IsOfLegalRun (limits_of self.settings) self.capacities.items (length self.bodies.items)) }
+        ensures limits { IfErr result (λ e. e ≡ Short.BadLimits
+            → AreLimits (limits_of self.settings) (length self.bodies.items) self.capacities.items → ⊥) }
+    {
+        let clock = Since::now(rt);
+        self.run_by(rt, &clock, &Open)
+    }
+
+    /// The same by a clock and a gate of one's own.
+    pub fn run_by<R: Threads + Wait + Sync, C: Clock + Sync, G: Gate + Sync>(
+        self,
+        rt: &R,
+        clock: &C,
+        gate: &G,
+    ) -> Result<Ended, Short>
+        ensures ended { IfOk result (IsOfLegalRun (limits_of self.settings) self.capacities.items (length self.bodies.items)) }
+        ensures limits { IfErr result (λ e. e ≡ Short.BadLimits
+            → AreLimits (limits_of self.settings) (length self.bodies.items) self.capacities.items → ⊥) }
+    {
+        if !self.is_pushed() {
+            return Err(Short::NotPushed);
+        }
+        let Host {
+            alloc,
+            settings,
+            capacities,
+            bodies,
+            loss,
+            shown,
+            is_timed,
+            ..
+        } = self;
+        let gate = Stamps {
+            clock,
+            shown: &shown,
+            is_read: is_timed,
+            gate,
+        };
+        let capacities = capacities.as_slice();
+        let report = match run(
+            rt,
+            alloc,
+            RUN,
+            settings.limits(),
+            capacities,
+            bodies,
+            clock,
+            &gate,
+            settings.random,
+        ) {
+            Ok(report) => report,
+            Err(unrun) => return Err(unrun.why.into()),
+        };
+        if audit(&report.history, &report.logs).is_err() {
+            return Err(Short::Mismatch);
+        }
+        Ok(Ended {
+            outcome: report.outcome,
+            entries: report.history.len(),
+            lost: first(&loss),
+        })
+    }
+}

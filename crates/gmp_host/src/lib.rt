@@ -1,0 +1,33 @@
+//! For a program that embeds the runtime: goroutines, channels and selects of its own, run by machines in threads or by a core.
+//!
+//! A `Host` takes the goroutines, the first of which is main, and runs them: `run` by machines in threads, `step` in one thread, the same
+//! every time. Both tell how it `Ended`, as a legal run from the opening ended.
+//!
+//! A goroutine is a `Goroutine`: a state machine without clauses. `Go` makes a body of it, whose clauses say nothing, and notes where it
+//! was lost. Boxes are made where the goroutine's type is known: no function hands out a box of a type parameter. So `Host::boxed` gives a
+//! box of its own type, and the caller of `Host::push` makes it a box of any.
+#![tactic(auto)]
+
+mod channel;
+mod clock;
+mod ending;
+mod goroutine;
+mod host;
+mod note;
+mod select;
+mod settings;
+mod stamps;
+mod table;
+
+pub use channel::Channel;
+pub use clock::Since;
+pub use ending::{Ended, Lost, Short};
+pub use gmp_base::{Ask, CNo, Case, Cases, Fault, GNo, MNo, Woke};
+pub use gmp_driver::Act;
+pub use gmp_run::{Clock, Gate, MOST_REST, Open};
+pub use gmp_seq::Outcome;
+pub use goroutine::{Go, Goroutine, Nonsense};
+pub use host::Host;
+pub use note::{Note, Time};
+pub use select::Select;
+pub use settings::Settings;

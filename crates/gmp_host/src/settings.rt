@@ -1,0 +1,49 @@
+//! How a host runs.
+ghost use Rattle.std.specs.Prelude.{◌≡◌};
+ghost use Rattle.gmp_host.specs.Openings.{limits_of};
+
+use gmp_seq::Limits;
+
+/// How a host runs: the limits of its run, and where its words begin.
+#[derive(Clone, Copy, Debug, PartialEq, Eq)]
+pub struct Settings {
+    /// How many processors run goroutines: 1 to 32.
+    pub procs: u8,
+    /// How many machines there are, a thread for each: as many as processors to 64.
+    pub machines: u8,
+    /// How many channels there may be, with those that are made: at most 1024.
+    pub channels: u16,
+    /// How many calls a run may make before it ends, its book full: 16 to 1,000,000. Memory for all is taken at the start.
+    pub entries: u32,
+    /// The words that choose among cases and victims are drawn from it on.
+    pub random: u64,
+}
+
+impl Default for Settings {
+    /// Four processors, six machines, 64 channels, 200,000 entries, and words from 0 on.
+    fn default() -> Self
+        ensures { result ≡ record { procs = 4; machines = 6; channels = 64; entries = 200000; random = 0 } }
+    {
+        Settings {
+            procs: 4,
+            machines: 6,
+            channels: 64,
+            entries: 200_000,
+            random: 0,
+        }
+    }
+}
+
+impl Settings {
+    /// The limits of a run.
+    pub(crate) fn limits(self) -> Limits
+        ensures { result ≡ limits_of self }
+    {
+        Limits {
+            procs: self.procs,
+            machines: self.machines,
+            channels: self.channels,
+            entries: self.entries,
+        }
+    }
+}

@@ -1,0 +1,12 @@
+pub mod Handed
+pub mod Log
+pub mod Refusals
+pub mod Kept
+pub mod Scene
+pub mod Grants
+pub mod JournalView
+pub mod Known
+pub mod Done
+pub mod Laws
+pub mod Frequent
+pub mod Segments

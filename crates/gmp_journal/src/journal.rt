@@ -1,0 +1,352 @@
+//! The run so far, and the call that goes on with it.
+//! One function makes all calls (`Journal::call`): refusal, effect, count and entry are stated and proved once, and not 29 times.
+ghost use Rattle.std.specs.Prelude.{◌≡◌, ◌<◌, ◌≤◌, ◌+◌, [], All, List, None, true, false, is_some, slice_get, sum, IfErr, IfNone, IfOk, OnErr, OnOk};
+ghost use Rattle.gmp_seq.specs.declared.call.Entry.{Entry};
+ghost use Rattle.gmp_seq.specs.Fits.{AreLimits, Fits};
+ghost use Rattle.gmp_seq.specs.Machines.{is_parked_mode};
+ghost use Rattle.gmp_seq.specs.Run.{IsLegal, Run};
+ghost use Rattle.gmp_seq.specs.Table.{is_outstanding, is_shelved};
+ghost use Rattle.gmp_start.specs.Start.{state_of};
+ghost use Rattle.gmp_table.specs.Kept.{IsListing};
+ghost use Rattle.std.specs.Option.{option_map_or};
+ghost use Rattle.gmp_seq.specs.Needs.{WantsMemory};
+ghost use Rattle.gmp_journal.specs.Frequent.{is_frequent};
+ghost use Rattle.gmp_journal.specs.Grants.{Chooses, Grants, NeedsMemory, Suits};
+ghost use Rattle.gmp_journal.specs.Handed.{goroutine_in, names_other, processor_in};
+ghost use Rattle.gmp_journal.specs.Known.{known_by};
+ghost use Rattle.gmp_seq.specs.Laws.{IsInOrder};
+ghost use Rattle.gmp_journal.specs.Log.{Records, entries_made, opening_log};
+ghost use Rattle.gmp_journal.specs.Refusals.{IsAllowed, IsCurrent, Says, first_refusal, is_foreign, refusal_in, refusal_of, turn_lines};
+ghost use Rattle.gmp_journal.specs.Segments.{IsSegment, WhyNoSegment};
+
+use crate::handed::Handed;
+use crate::scheduler::Scheduler;
+use crate::segment::{Kept, Segment};
+use gmp_base::{MNo, Pass, Readiness, Refusal, Woke};
+use gmp_history::History;
+use gmp_seq::{Call, Limits, Outcome, Reply};
+use gmp_start::Start;
+use std::alloc::{AllocError, Global};
+use std::marker::Model;
+use std::mem;
+
+/// A run of the scheduler. A contract sees what it was opened with, its history, and its present state.
+///
+/// The history is a run from a state of a legal run to the present state, whatever is called. That is the opening, or the state at which
+/// the last segment was taken. Only the opening, a make and a segment take memory.
+#[derive(Drop)]
+pub struct Journal {
+    /// Which run this is. Values and passes name it, so that none of another run is taken.
+    run: u64,
+    limits: Limits,
+    bodies: u16,
+    /// Of the channels that the opening made, in order.
+    capacities: Vec<u32>,
+    scheduler: Scheduler,
+    /// The entries since the last segment. Room for all that the limit allows is taken at the opening and left untouched: its first write
+    /// costs as much later, and a run that ends early never pays.
+    entries: History,
+    /// None until a segment is taken: then the start is the opening.
+    kept: Option<Kept>,
+}
+
+impl Model for Journal {
+    ghost use Rattle.gmp_journal.specs.Kept.{IsJournal, IsSized};
+    ghost use Rattle.gmp_journal.specs.JournalView.{log_of};
+    ghost use Rattle.gmp_journal.specs.Log.{Log};
+
+    ghost Value = { Log };
+
+    ghost view = { log_of };
+
+    ghost invariant = { λ l. IsJournal (log_of l) l.entries.room × IsSized l.limits l.scheduler };
+}
+
+impl Journal {
+    /// A run that has made no call yet. All memory is taken here, but that of channels that are made later and of segments; where it is
+    /// refused nothing is left behind.
+    pub fn open(
+        alloc: Global,
+        run: u64,
+        limits: Limits,
+        bodies: u16,
+        capacities: Vec<u32>,
+    ) -> Result<Self, AllocError>
+        requires { AreLimits limits bodies capacities.items }
+        ensures { IfOk result (λ l. l ≡ opening_log run limits bodies capacities.items) }
+    {
+        let scheduler = Scheduler::open(alloc, limits, bodies, &capacities)?;
+        let entries = History::with_room(alloc, limits.entries)?;
+        Ok(Journal {
+            run,
+            limits,
+            bodies,
+            capacities,
+            scheduler,
+            entries,
+            kept: None,
+        })
+    }
+
+    /// The run's number.
+    #[inline(always)]
+    pub fn run(&self) -> u64
+        ensures { result ≡ self.now.run }
+    {
+        self.run
+    }
+
+    /// How the run ended, if it did.
+    pub fn outcome(&self) -> Option<Outcome>
+        ensures outcome { result ≡ self.now.state.outcome }
+        // While the run lasts another entry fits.
+        ensures ongoing { IfNone result (entries_made self.now < self.now.limits.entries) }
+    {
+        self.scheduler.outcome
+    }
+
+    /// Every accepted call since the last segment, with its reply, in order: a run from the start.
+    pub fn history(&self) -> &History
+        ensures entries { result.now.list ≡ self.now.history }
+        ensures legal { Run self.now.limits self.now.start self.now.history self.now.state }
+        // A legal run leads to the start.
+        ensures before { (h : List Entry) × IsLegal self.now.limits self.now.bodies self.now.capacities h self.now.start }
+        ensures fits { All Fits self.now.history }
+        ensures within { AreLimits self.now.limits self.now.bodies self.now.capacities }
+        // The shelf has each goroutine on it once, and no other.
+        ensures listing { IsListing is_shelved self.now.state.table.goroutines self.now.shelf }
+    {
+        // It tells that the shelf lists those on it.
+        let _ = self.scheduler.goroutines.has_shelved();
+        &self.entries
+    }
+
+    /// Whether the ticket of this readiness is given out, and not yet claimed or put back.
+    pub fn is_outstanding(&self, r: Readiness) -> bool
+        ensures { result ≡ is_outstanding self.now.state.table r }
+    {
+        self.scheduler.goroutines.is_outstanding(r)
+    }
+
+    /// Whether the machine is parked. One that isn't there is not.
+    pub fn is_parked(&self, m: MNo) -> bool
+        ensures { result ≡ option_map_or is_parked_mode (slice_get self.now.state.machines.modes m.0) false }
+    {
+        self.scheduler.machines.is_parked(m)
+    }
+
+    /// What a call has for a goroutine to be told, whatever the reply: of a claim what was stored for the goroutine when it became ready,
+    /// of a `leave` the number that its blocking call brought.
+    #[inline(always)]
+    pub fn known(&self, call: &Call) -> Option<Woke>
+        ensures { result ≡ known_by call.now self.now.state.table }
+    {
+        match call {
+            Call::Claim(r) => Some(self.scheduler.goroutines.stored(r.g)),
+            Call::Leave(number) => Some(Woke::Number(*number)),
+            _ => None,
+        }
+    }
+
+    /// Why a call with these values is refused, if it is: first by the pass and the values' runs, and then by the state.
+    #[inline(always)]
+    fn refusal(&self, pass: &Pass, call: &Call, values: &Handed) -> Option<Refusal>
+        ensures why { result ≡ refusal_of self.now pass.now call.now values.now }
+        ensures allowed { IfNone result (IsAllowed self.now pass.now call.now values.now) }
+    {
+        if let Some(why) = self.turn_refusal(pass, values) {
+            return Some(why);
+        }
+        self.scheduler.need_refusal(pass.m, call, values)
+    }
+
+    /// Why the pass or the values' runs forbid the call, if they do: is the pass the machine's latest, of this run, and does the run last?
+    /// A pass that has seen more entries than there are was forged.
+    #[inline(always)]
+    fn turn_refusal(&self, pass: &Pass, values: &Handed) -> Option<Refusal>
+        ensures why { result ≡ first_refusal (turn_lines self.now pass.now values.now) }
+        ensures current { IfNone result (IsCurrent self.now pass.now) }
+        ensures ours { IfNone result (names_other self.now.run values.now ≡ false) }
+    {
+        if self.is_foreign(pass, values) {
+            return Some(Refusal::WrongRun);
+        }
+        let calls = self.scheduler.counts.of(pass.m);
+        if pass.calls != calls {
+            return Some(Refusal::OutOfTurn(calls));
+        }
+        let made = self.scheduler.counts.all();
+        if pass.seen > made {
+            return Some(Refusal::Behind(made, pass.seen));
+        }
+        if self.scheduler.outcome.is_some() {
+            return Some(Refusal::Over);
+        }
+        None
+    }
+
+    /// Whether the pass or a value is of another run. A machine that the limits don't have is one too.
+    #[inline(always)]
+    fn is_foreign(&self, pass: &Pass, values: &Handed) -> bool
+        ensures { result ≡ is_foreign self.now pass.now values.now }
+    {
+        pass.run != self.run || pass.m.0 >= self.limits.machines || values.names_other(self.run)
+    }
+
+    /// The machine of the pass makes the call, which is allowed. Where that is refused memory there is no entry.
+    /// What a refusal would have to find was looked at before; here nothing is tested again.
+    #[inline(always)]
+    fn accept(
+        &mut self,
+        memory: Option<Global>,
+        pass: &mut Pass,
+        call: &Call,
+        values: &Handed,
+        word: u64,
+        frequent: bool,
+        out: &mut Reply,
+    ) -> Result<(), AllocError>
+        requires often { frequent ≡ true → is_frequent call.now ≡ true }
+        requires suits { Suits call.now values.now }
+        requires memory { NeedsMemory call.now memory }
+        requires allowed { IsAllowed self.old pass.old call.now values.now }
+        ensures records { OnOk result (Records self.old pass.old call.now out.new self.new pass.new) }
+        ensures choice { OnOk result (Chooses call.now word out.new self.old.state self.old.shelf) }
+        ensures grants { Grants pass.old.m (goroutine_in values.now) (processor_in values.now) call.now self.old.state }
+        ensures ours { names_other self.old.run values.now ≡ false }
+        ensures order { OnOk result (IsInOrder self.old.limits self.old.state) }
+        ensures err { OnErr result ((self.new ≡ self.old) × (pass.new ≡ pass.old)) }
+        ensures wanted { OnErr result (WantsMemory self.old.limits call.now self.old.state) }
+    {
+        let (m, k) = (pass.m, pass.calls);
+        let (g, p) = (values.goroutine(), values.processor());
+        self.scheduler
+            .effect(memory, self.limits, m, g, p, call, word, frequent, out)?;
+        // The count comes after the effect and before the entry: the entry has the count before (`k`), the pass the one after.
+        self.scheduler.count_one(self.limits, m, *out);
+        self.entries.add(m, k, call, out, frequent);
+        pass.advance(self.scheduler.counts.all());
+        Ok(())
+    }
+
+    /// The machine of the pass makes the call, with these values, and the reply is written in place; or it is refused. `word` chooses among
+    /// the cases of a select. Whoever says that the call is a frequent one, at compile time, has no arm of another compiled in.
+    /// A refusal leaves journal and pass as they were, and `out` without meaning.
+    // Inlined, here and below: of a call whose kind is known its own arms alone are left.
+    #[inline(always)]
+    pub fn call(
+        &mut self,
+        memory: Option<Global>,
+        pass: &mut Pass,
+        call: &Call,
+        values: &Handed,
+        word: u64,
+        frequent: bool,
+        out: &mut Reply,
+    ) -> Result<(), Refusal>
+        requires often { frequent ≡ true → is_frequent call.now ≡ true }
+        requires suits { Suits call.now values.now }
+        requires memory { NeedsMemory call.now memory }
+        ensures refused { Says (WantsMemory self.old.limits call.now self.old.state) (refusal_of self.old pass.old call.now values.now) (refusal_in result) }
+        ensures err { OnErr result ((self.new ≡ self.old) × (pass.new ≡ pass.old)) }
+        ensures records { OnOk result (Records self.old pass.old call.now out.new self.new pass.new) }
+        ensures choice { OnOk result (Chooses call.now word out.new self.old.state self.old.shelf) }
+        ensures grants { OnOk result (Grants pass.old.m (goroutine_in values.now) (processor_in values.now) call.now self.old.state) }
+        ensures order { OnOk result (IsInOrder self.old.limits self.old.state) }
+        ensures ours { OnOk result (names_other self.old.run values.now ≡ false) }
+    {
+        if let Some(why) = self.refusal(pass, call, values) {
+            return Err(why);
+        }
+        self.accept(memory, pass, call, values, word, frequent, out)
+            .map_err(|_| Refusal::OutOfMemory)
+    }
+
+    /// Whether a segment was taken since the outcome: the last one is out.
+    fn is_over(&self) -> bool
+        ensures { result ≡ is_some self.now.start.outcome }
+    {
+        match &self.kept {
+            Some(kept) => kept.outcome.is_some(),
+            None => false,
+        }
+    }
+
+    /// The start once more, for the segment that begins there.
+    fn start(&self, alloc: Global) -> Result<Start, AllocError>
+        requires { self.now.start.outcome ≡ None }
+        ensures { IfOk result (λ s. state_of s ≡ self.now.start) }
+    {
+        match &self.kept {
+            Some(kept) => kept.start.copied(alloc),
+            None => Start::opening(alloc, self.limits, self.bodies, &self.capacities),
+        }
+    }
+
+    /// No entry, and room for as many as may still be made.
+    fn room(&self, alloc: Global) -> Result<History, AllocError>
+        ensures list { IfOk result (λ h. h.list ≡ []) }
+        ensures room { IfOk result (λ h. self.now.limits.entries ≤ h.room + entries_made self.now) }
+    {
+        let left = u64::from(self.limits.entries).saturating_sub(self.scheduler.counts.all());
+        History::with_room(alloc, left as u32)
+    }
+
+    /// Hands out the entries since the last segment, with the state before the first of them. It takes no pass and makes no entry, and the
+    /// start is the present state from then on. All memory is taken first; no later call but a make or a segment takes any.
+    pub fn segment(&mut self, alloc: Global) -> Result<Segment, Refusal>
+        ensures taken { IfOk result (λ x. IsSegment self.old x self.new) }
+        ensures few { IfOk result (λ x. sum x.start.counts.items ≤ 1000000) }
+        ensures why { IfErr result (WhyNoSegment self.old) }
+        ensures err { OnErr result (self.new ≡ self.old) }
+    {
+        if self.is_over() {
+            return Err(Refusal::Over);
+        }
+        // Each of the three may want memory, and until all are there nothing is changed.
+        let Ok(start) = self.start(alloc) else {
+            return Err(Refusal::OutOfMemory);
+        };
+        let Ok(next) = self.scheduler.copied(alloc) else {
+            return Err(Refusal::OutOfMemory);
+        };
+        let Ok(room) = self.room(alloc) else {
+            return Err(Refusal::OutOfMemory);
+        };
+        let end = self.scheduler.outcome;
+        self.kept = Some(Kept {
+            start: next,
+            outcome: end,
+        });
+        let entries = mem::replace(&mut self.entries, room);
+        Ok(Segment {
+            start,
+            entries,
+            end,
+        })
+    }
+
+    /// The limits, what the channels of the opening could hold, and the entries since the last segment. The run ends here, whatever its
+    /// outcome.
+    pub fn into_parts(self) -> (Limits, Vec<u32>, History)
+        ensures limits { result.0 ≡ self.limits }
+        ensures capacities { result.1.items ≡ self.capacities }
+        ensures history { result.2.list ≡ self.history }
+        ensures legal { Run self.limits self.start self.history self.state }
+        // A legal run leads to the start.
+        ensures before { (h : List Entry) × IsLegal self.limits self.bodies self.capacities h self.start }
+        ensures fits { All Fits self.history }
+        ensures within { AreLimits self.limits self.bodies self.capacities }
+    {
+        let Journal {
+            run: _,
+            limits,
+            bodies: _,
+            capacities,
+            scheduler: _,
+            entries,
+            kept: _,
+        } = self;
+        (limits, capacities, entries)
+    }
+}

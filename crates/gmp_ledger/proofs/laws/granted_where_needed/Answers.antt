@@ -1,5 +1,0 @@
-use Rattle.gmp_ledger.proofs.Needed.{granted_where}
-use Rattle.gmp_ledger.proofs.laws.granted_where_needed.Goals as goal
-
-pub returns : goal.returns
-returns c = granted_where

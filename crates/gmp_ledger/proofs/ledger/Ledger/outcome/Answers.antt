@@ -1,6 +1,0 @@
-use Rattle.gmp_ledger.proofs.Common.{refl, log_of}
-use Rattle.gmp_ledger.proofs.Granted.{ongoing_room}
-use Rattle.gmp_ledger.proofs.ledger.Ledger.outcome.Goals as goal
-
-pub returns-clause-ongoing : goal.returns-clause-ongoing
-returns-clause-ongoing c = ongoing_room (log_of c.self.inside) c.args.self.now _ _ c.self.view_is c.self.invariant.0 refl

@@ -1,5 +1,0 @@
-use Rattle.std.proofs.Common.{rules}
-use Rattle.gmp_ledger.proofs.scheduler.Scheduler.is_spent.Goals as goal
-
-pub returns : goal.returns
-returns c = search rules

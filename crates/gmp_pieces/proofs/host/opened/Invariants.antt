@@ -1,5 +1,0 @@
-use Rattle.gmp_pieces.proofs.host.opened.Given as goal
-
--- one pass fewer is left
-abbrev pub decreases-loop-pass : goal.decreases-loop-pass
-decreases-loop-pass l = goal.left-loop-pass l

@@ -1,0 +1,116 @@
+//! Runs that a limit of entries ends: each machine that isn't parked gets done, and none has a goroutine in its hand. That a machine which
+//! is done holds nothing at all is a clause of the driver.
+use gmp_acts::Choice;
+use gmp_base::{Body, MNo};
+use gmp_core::{Core, Want};
+use gmp_script::ScriptBody;
+use gmp_seq::{Limits, Outcome};
+use gmp_words::script;
+use std::alloc::Global;
+use std::process::Abort;
+use std::test::Fail;
+
+/// A script for two machines with so many processors, and how many entries its run has where no limit ends it: main's exit is the last.
+type Row = (&'static str, u8, usize);
+
+/// The hand-off, and two machines that run at once.
+const ROWS: [Row; 2] = [
+    ("body\ngo 1\nblock 9\nexit\nbody\nexit\n", 1, 20),
+    ("body\ngo 1\ngo 2\nyield\nexit\nbody\nbody\n", 2, 22),
+];
+
+const MACHINES: [MNo; 2] = [MNo(0), MNo(1)];
+
+/// More than the acts that a machine makes in such a run.
+const ROUNDS: usize = 100;
+
+/// What the machine's next act reads.
+fn choice(core: &mut Core<ScriptBody>, m: MNo) -> Choice {
+    let mut choice = Choice::default();
+    let wants = core.wants(m);
+    let told = core.held(m);
+    if let Some(body) = core.body(m) {
+        match (wants, told) {
+            (Want::Ask, Some(woke)) => choice.ask = body.resume(woke),
+            (Want::Number, _) => choice.number = body.blocking(),
+            _ => {}
+        }
+    }
+    choice
+}
+
+/// The machines act in turn, but for those that are parked.
+fn play(core: &mut Core<ScriptBody>) {
+    for _ in 0..ROUNDS {
+        for m in MACHINES {
+            if !core.parked(m) {
+                let choice = choice(core, m);
+                core.act(m, &choice);
+            }
+        }
+    }
+}
+
+/// Each machine that isn't parked is done, and none has a goroutine in its hand.
+fn are_done(core: &Core<ScriptBody>) -> bool {
+    for m in MACHINES {
+        let is_done = core.parked(m) || core.done(m);
+        if !is_done || core.held(m).is_some() {
+            return false;
+        }
+    }
+    true
+}
+
+/// The core of a script under these limits.
+fn opened(
+    rt: &impl Abort,
+    alloc: Global,
+    text: &str,
+    limits: Limits,
+) -> Result<Core<ScriptBody>, Fail> {
+    let bodies = script(alloc, &mut text.as_bytes())
+        .ok()
+        .ok_or("the script")?
+        .bodies;
+    match Core::open(alloc, 1, limits, &[], bodies) {
+        Ok(core) => Ok(core),
+        Err(refused) => {
+            let (why, _) = refused.open();
+            panic!(rt; "refused: {why}")
+        }
+    }
+}
+
+/// A run under this limit of entries: it has as many, or all that the script makes, and ends by main where these fit.
+fn fills(rt: &impl Abort, alloc: Global, row: Row, entries: u32) -> Result<(), Fail> {
+    let (text, procs, whole) = row;
+    let limits = Limits {
+        procs,
+        machines: 2,
+        channels: 16,
+        entries,
+    };
+    let mut core = opened(rt, alloc, text, limits)?;
+    play(&mut core);
+    let limit = entries as usize;
+    let outcome = if limit < whole {
+        Outcome::BookFull
+    } else {
+        Outcome::MainEnded
+    };
+    assert_eq!(rt; core.history().len(), limit.min(whole), "{entries}: {text}");
+    assert!(rt; are_done(&core), "{entries}: {text}");
+    assert_eq!(rt; core.close(), Some(outcome), "{entries}: {text}");
+    Ok(())
+}
+
+#[test]
+fn a_full_book_leaves_nobody_at_work(rt: HostRuntime) -> Result<(), Fail> {
+    for row in ROWS {
+        for entries in 16..=24u32 {
+            fills(&rt, rt.alloc(), row, entries)?;
+        }
+    }
+    Ok(())
+}

@@ -1,0 +1,212 @@
+//! The command line, the input, and how the program ends. `Pieces` is a reader that is interrupted before each piece.
+use gmp_trace::{Bad, Why};
+use gmp_words::{Ended, Said, Settings, input, settings};
+use std::alloc::{AllocError, Global};
+use std::io;
+use std::io::{ErrorKind, Read};
+use std::process::Abort;
+use std::test::Fail;
+
+/// What the words of a command line say, which are parted by single spaces.
+fn read(alloc: Global, line: &str) -> Result<Result<Settings, Ended>, Fail> {
+    let mut words = Vec::new(alloc);
+    for word in line.split(' ') {
+        words.push(String::from_str(alloc, word)?)?;
+    }
+    Ok(settings(alloc, &words))
+}
+
+/// The same of a line that is right.
+pub(super) fn settings_of(rt: &impl Abort, alloc: Global, line: &str) -> Result<Settings, Fail> {
+    match read(alloc, line)? {
+        Ok(settings) => Ok(settings),
+        Err(e) => panic!(rt; "{line}: {e:?}"),
+    }
+}
+
+#[test]
+fn options_are_read(rt: HostRuntime) -> Result<(), Fail> {
+    for (line, want) in [
+        ("gmp step", (1, 1, 16, 10_000, 0, 10_000_000)),
+        (
+            "gmp step --procs=32 --machines 64 --acts 1",
+            (32, 64, 16, 10_000, 0, 1),
+        ),
+        (
+            "gmp step --channels 0 --entries 16 --acts=1000000000",
+            (1, 1, 0, 16, 0, 1_000_000_000),
+        ),
+        (
+            "gmp step --entries=1000000 --channels=1024 --word 18446744073709551615",
+            (1, 1, 1024, 1_000_000, u64::MAX, 10_000_000),
+        ),
+        ("gmp step --machines 007", (1, 7, 16, 10_000, 0, 10_000_000)),
+    ] {
+        let s = settings_of(&rt, rt.alloc(), line)?;
+        let got = (s.procs, s.machines, s.channels, s.entries, s.word, s.acts);
+        assert_eq!(rt; got, want, "{line}");
+    }
+    Ok(())
+}
+
+/// A line is refused with this status, and a text is told.
+fn is_refused(said: &Result<Settings, Ended>, status: u8) -> bool {
+    match said {
+        Ok(_) => false,
+        Err(e) => {
+            e.status == status && matches!(&e.said, Said::Usage(text) if text.ends_with('\n'))
+        }
+    }
+}
+
+#[test]
+fn bad_lines_are_refused(rt: HostRuntime) -> Result<(), Fail> {
+    for (line, status) in [
+        ("gmp step --procs 33", 64),
+        ("gmp step --machines 0", 64),
+        ("gmp step --channels 1025", 64),
+        ("gmp step --entries 15", 64),
+        ("gmp step --acts 0", 64),
+        ("gmp step --acts 1000000001", 64),
+        ("gmp step --procs 1 --procs 1", 64),
+        ("gmp step --procs +1", 64),
+        ("gmp step --procs", 64),
+        ("gmp step --word=18446744073709551616", 64),
+        ("gmp step --words 1", 64),
+        ("gmp step extra", 64),
+        ("gmp step --random 1", 64),
+        ("gmp step --trace", 64),
+        ("gmp check --procs 1", 64),
+        ("gmp check extra", 64),
+        ("gmp check --help", 0),
+        ("gmp cut --at", 64),
+        ("gmp cut --at -1", 64),
+        ("gmp cut --at 18446744073709551616", 64),
+        ("gmp cut --procs 1", 64),
+        ("gmp cut --help", 0),
+        ("gmp run --machines 65", 64),
+        ("gmp run --trace=1", 64),
+        ("gmp run extra", 64),
+        ("gmp run --word 1", 64),
+        ("gmp run --acts 1", 64),
+        ("gmp run --help", 0),
+        ("gmp", 64),
+        ("gmp --help", 0),
+        ("gmp --version", 0),
+        ("gmp step --version", 64),
+        ("gmp step --help", 0),
+    ] {
+        let said = read(rt.alloc(), line)?;
+        assert!(rt; is_refused(&said, status), "{line}");
+    }
+    Ok(())
+}
+
+/// The program ends with this status and says this.
+fn tells(
+    rt: &impl Abort,
+    alloc: Global,
+    ended: Ended,
+    status: u8,
+    text: &str,
+) -> Result<(), AllocError> {
+    assert_eq!(rt; ended.status, status, "{text}");
+    let said = ended.said;
+    assert_eq!(rt; format!(in alloc; "{said}")?.as_str(), text);
+    Ok(())
+}
+
+#[test]
+fn texts_are_those_asked_for(rt: HostRuntime) -> Result<(), Fail> {
+    let alloc = rt.alloc();
+    let bad_line = Ended::bad_line(2);
+    tells(&rt, alloc, bad_line, 1, "gmp: line 2: bad script line\n")?;
+    let bad = Bad {
+        line: 8,
+        why: Why::Step,
+    };
+    tells(&rt, alloc, Ended::bad_trace(bad), 1, "gmp: line 8: step\n")?;
+    tells(&rt, alloc, Ended::too_long(), 1, "gmp: input too long\n")?;
+    let unreadable = Ended::unreadable();
+    tells(&rt, alloc, unreadable, 1, "gmp: input unreadable\n")?;
+    let failed = Ended::output_failed();
+    tells(&rt, alloc, failed, 1, "gmp: output failed\n")?;
+    tells(&rt, alloc, Ended::bad_limits(), 64, "gmp: bad limits\n")?;
+    let no_memory = Ended::out_of_memory();
+    tells(&rt, alloc, no_memory, 5, "gmp: out of memory\n")?;
+    let usage = String::from_str(alloc, "error: no\n")?;
+    tells(&rt, alloc, Ended::usage(usage), 64, "error: no\n")?;
+    Ok(())
+}
+
+/// A reader that gives the text piece by piece, interrupted before each, and fails after so many reads.
+#[derive(Drop)]
+struct Pieces<'a> {
+    text: &'a [u8],
+    interrupted: bool,
+    reads_left: usize,
+}
+
+impl Read for Pieces<'_> {
+    fn read(&mut self, buf: &mut [u8]) -> io::Result<usize> {
+        self.interrupted = !self.interrupted;
+        if self.interrupted {
+            return Err(io::Error::from(ErrorKind::Interrupted));
+        }
+        if self.reads_left == 0 {
+            return Err(io::Error::from(ErrorKind::TimedOut));
+        }
+        self.reads_left -= 1;
+        let count = self.text.len().min(buf.len()).min(3);
+        buf[..count].copy_from_slice(&self.text[..count]);
+        self.text = &self.text[count..];
+        Ok(count)
+    }
+}
+
+/// What was read is this text.
+fn is_text(got: &Result<Vec<u8>, Ended>, want: &[u8]) -> bool {
+    matches!(got, Ok(text) if text.as_slice() == want)
+}
+
+/// The input is said to be unreadable.
+fn is_unreadable(got: &Result<Vec<u8>, Ended>) -> bool {
+    matches!(got, Err(e) if e.status == 1 && matches!(e.said, Said::InputUnreadable))
+}
+
+#[test]
+fn input_is_read_whole(rt: HostRuntime) -> Result<(), Fail> {
+    for (reads, is_whole) in [(0, false), (1, false), (3, false), (4, true)] {
+        let mut reader = Pieces {
+            text: b"one two",
+            interrupted: false,
+            reads_left: reads,
+        };
+        let got = input(rt.alloc(), &mut reader, 7);
+        let is_told = if is_whole {
+            is_text(&got, b"one two")
+        } else {
+            is_unreadable(&got)
+        };
+        assert!(rt; is_told, "{reads}");
+    }
+    Ok(())
+}
+
+/// So many bytes are read, or the input is said to be too long.
+fn is_limited(got: &Result<Vec<u8>, Ended>, len: usize, is_fine: bool) -> bool {
+    match got {
+        Ok(text) => is_fine && text.len() == len,
+        Err(e) => !is_fine && matches!(e.said, Said::InputTooLong),
+    }
+}
+
+#[test]
+fn input_has_a_limit(rt: HostRuntime) -> Result<(), Fail> {
+    for (len, is_fine) in [(9_999, true), (10_000, true), (10_001, false)] {
+        let bytes = vec![in rt.alloc(); b'\n'; len]?;
+        let got = input(rt.alloc(), &mut bytes.as_slice(), 10_000);
+        assert!(rt; is_limited(&got, len, is_fine), "{len}");
+    }
+    Ok(())
+}

@@ -1,0 +1,154 @@
+//! What no clause says of a host's run: who is lost and with which answer, a gate of one's own, and how a run falls short. `rt run` proves,
+//! builds and runs it; the gate compares what it prints with `stdout`.
+#![tactic(auto)]
+
+use anyhow::Result;
+use gmp_host::{
+    Act, Ask, Channel, Ended, GNo, Gate, Goroutine, Host, MNo, Nonsense, Note, Settings, Short,
+    Since, Woke,
+};
+use std::alloc::Global;
+use std::sync::Wait;
+use std::thread::Threads;
+use std::time::Clock;
+
+/// A channel that nobody receives from, and one that nobody sends on.
+#[derive(Clone, Copy, Drop)]
+struct Channels {
+    closed: Channel,
+    empty: Channel,
+}
+
+/// Main closes a channel, starts goroutine 1, and receives on the other one.
+#[derive(Drop)]
+struct Closer {
+    channels: Channels,
+    step: u8,
+}
+
+impl Goroutine for Closer {
+    fn resume(&mut self, _woke: Woke) -> Result<Ask, Nonsense> {
+        self.step = self.step.saturating_add(1);
+        match self.step {
+            1 => Ok(self.channels.closed.close()),
+            2 => Ok(Ask::Go(GNo(1))),
+            _ => Ok(self.channels.empty.recv()),
+        }
+    }
+}
+
+/// Goroutine 1 sends on the channel that is closed, and can make no sense of what it is told.
+#[derive(Drop)]
+struct Late {
+    channels: Channels,
+}
+
+impl Goroutine for Late {
+    fn resume(&mut self, woke: Woke) -> Result<Ask, Nonsense> {
+        match woke {
+            Woke::First => Ok(self.channels.closed.send(7)),
+            _ => Err(Nonsense),
+        }
+    }
+}
+
+/// Main yields for ever.
+#[derive(Drop)]
+struct Yielder;
+
+impl Goroutine for Yielder {
+    fn resume(&mut self, _woke: Woke) -> Result<Ask, Nonsense> {
+        Ok(Ask::Yield)
+    }
+}
+
+/// Lets machine 0 in alone, and counts the acts of machine 0 and of all others.
+#[derive(Drop)]
+struct Counts {
+    own: Note,
+    others: Note,
+}
+
+impl Gate for Counts {
+    fn before(&self, m: MNo, _act: &Act) {
+        if m == MNo(0) {
+            self.own.add(1);
+        } else {
+            self.others.add(1);
+        }
+    }
+
+    fn admits(&self, m: MNo) -> bool {
+        m == MNo(0)
+    }
+}
+
+/// How a host runs.
+#[derive(Clone, Copy, Drop)]
+enum Way<'a> {
+    Step,
+    Run,
+    By(&'a Counts),
+}
+
+/// The end of a run of both, or how it falls short.
+fn lossy<R: Threads + Wait + Clock + Sync>(
+    rt: &R,
+    alloc: Global,
+    way: Way,
+) -> Result<Ended, Short> {
+    let mut host = Host::new(alloc, Settings::default())?;
+    let (closed, empty) = (host.channel(0)?, host.channel(0)?);
+    let channels = Channels { closed, empty };
+    let closer = host.boxed(Closer { channels, step: 0 })?;
+    host.push(closer)?;
+    let late = host.boxed(Late { channels })?;
+    host.push(late)?;
+    match way {
+        Way::Step => host.step(),
+        Way::Run => host.run(rt),
+        Way::By(gate) => host.run_by(rt, &Since::now(rt), gate),
+    }
+}
+
+/// The end of a run of one who yields, under these settings, or how it falls short. What is boxed is pushed, if it is to be.
+fn yielding(alloc: Global, settings: Settings, is_pushed: bool) -> Result<Ended, Short> {
+    let mut host = Host::new(alloc, settings)?;
+    let yielder = host.boxed(Yielder)?;
+    if is_pushed {
+        host.push(yielder)?;
+    }
+    host.step()
+}
+
+fn main(rt: HostRuntime) -> Result<()> {
+    let alloc = rt.alloc();
+    println!(rt; "step: {}", lossy(&rt, alloc, Way::Step)?)?;
+    println!(rt; "run: {}", lossy(&rt, alloc, Way::Run)?)?;
+    let (own, others) = (Note::new(alloc)?, Note::new(alloc)?);
+    let gate = Counts {
+        own: own.share()?,
+        others: others.share()?,
+    };
+    let ended = lossy(&rt, alloc, Way::By(&gate))?;
+    let is_told = own.get() > 0;
+    println!(rt;
+        "by a gate: {ended}; machine 0 is told: {is_told}, others: {}",
+        others.get()
+    )?;
+    let few = Settings {
+        entries: 16,
+        ..Settings::default()
+    };
+    let none = Settings {
+        procs: 0,
+        ..Settings::default()
+    };
+    for (settings, is_pushed) in [(few, true), (none, true), (few, false)] {
+        match yielding(alloc, settings, is_pushed) {
+            Ok(ended) => println!(rt; "{ended}, {} entries", ended.entries)?,
+            Err(short) => println!(rt; "{short}")?,
+        }
+    }
+    Ok(())
+}

@@ -1,0 +1,129 @@
+//! One run: a script in threads under the gate, and what is judged of its report. `Counting` is the clock, by which every deadline comes
+//! soon.
+
+use crate::asleep::leaves_work_asleep;
+use crate::error::RaceError;
+use crate::gate::Turnstile;
+use crate::scripts::Row;
+use gmp_check::outcome_of;
+use gmp_run::{Clock, Report, run};
+use gmp_script::{Script, ScriptBody};
+use gmp_seq::{Limits, Outcome};
+use gmp_worker::{Boxed, audit};
+use std::alloc::Global;
+use std::sync::Wait;
+use std::sync::atomic::{AtomicU64, Ordering};
+use std::thread::Threads;
+
+/// A clock that goes on by 100 at each reading.
+#[derive(Drop)]
+struct Counting {
+    next: AtomicU64,
+}
+
+impl Clock for Counting {
+    fn now(&self) -> u64 {
+        self.next.fetch_add(100, Ordering::SeqCst)
+    }
+
+    // No rest takes time, so a machine at Mind reads on until its deadline: each reading brings it nearer.
+    fn rest(&self, _most: u64) {}
+}
+
+/// The script of lines that are parted by `/`.
+fn script(alloc: Global, text: &[u8]) -> Result<Script, RaceError> {
+    let mut script = Script::new(alloc);
+    for line in text.split(|b| *b == b'/') {
+        if !script.add(alloc, line)? {
+            return Err(RaceError::BadLine);
+        }
+    }
+    Ok(script)
+}
+
+/// Judges a run's report: how it ended, that the history is legal and leaves no work asleep, and that the logs agree with it.
+fn judge(
+    alloc: Global,
+    limits: Limits,
+    bodies: u16,
+    capacities: &[u32],
+    report: &Report<Boxed>,
+    ends: Outcome,
+) -> Result<(), RaceError> {
+    if audit(&report.history, &report.logs).is_err() {
+        return Err(RaceError::Mismatch);
+    }
+    if leaves_work_asleep(alloc, limits.machines, &report.history)? {
+        return Err(RaceError::Asleep);
+    }
+    match outcome_of(alloc, limits, bodies, capacities, &report.history) {
+        Ok(Some(outcome)) if outcome == report.outcome => {}
+        _ => return Err(RaceError::NotLegal),
+    }
+    if report.outcome == ends {
+        Ok(())
+    } else {
+        Err(RaceError::OtherEnd)
+    }
+}
+
+/// Runs the bodies of a row's script by machines in threads, under a gate of this seed, and judges the run.
+fn raced<R: Threads + Wait + Sync>(
+    rt: &R,
+    alloc: Global,
+    limits: Limits,
+    capacities: &[u32],
+    bodies: Vec<ScriptBody>,
+    row: &Row,
+    seed: u64,
+) -> Result<(), RaceError> {
+    let Ok(count) = u16::try_from(bodies.len()) else {
+        return Err(RaceError::NotBegun);
+    };
+    let mut boxes: Vec<Boxed> = Vec::new(alloc);
+    for body in bodies {
+        let Ok(body) = Box::new(alloc, body) else {
+            return Err(RaceError::OutOfMemory);
+        };
+        if boxes.push(body).is_err() {
+            return Err(RaceError::OutOfMemory);
+        }
+    }
+    let clock = Counting {
+        next: AtomicU64::new(0),
+    };
+    let others = if row.meets {
+        limits.machines.saturating_sub(1)
+    } else {
+        0
+    };
+    let gate = Turnstile::new(seed, others);
+    match run(
+        rt, alloc, seed, limits, capacities, boxes, &clock, &gate, seed,
+    ) {
+        Ok(report) => judge(alloc, limits, count, capacities, &report, row.ends),
+        Err(_) => Err(RaceError::NotBegun),
+    }
+}
+
+/// Runs the row's script by so many processors and machines, under a gate of this seed, and judges it.
+pub fn played<R: Threads + Wait + Sync>(
+    rt: &R,
+    alloc: Global,
+    row: &Row,
+    size: (u8, u8),
+    seed: u64,
+) -> Result<(), RaceError> {
+    let Script {
+        capacities,
+        bodies,
+        ..
+    } = script(alloc, row.script)?;
+    let limits = Limits {
+        procs: size.0,
+        machines: size.1,
+        channels: 16,
+        entries: 10_000,
+    };
+    raced(rt, alloc, limits, &capacities, bodies, row, seed)
+}

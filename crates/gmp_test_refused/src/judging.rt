@@ -1,0 +1,38 @@
+//! How a command may end where an allocation is refused: as `Way` says, and in no other way.
+
+use gmp_words::{Ended, Said};
+use std::fmt;
+
+/// How a command ended.
+#[derive(Clone, Copy)]
+pub enum Way {
+    /// Nothing was refused.
+    Whole,
+    /// A make was refused memory, of which the goroutine was told, and the run went on.
+    NoMemory,
+    /// It ended with `gmp: out of memory` and status 5.
+    OutOfMemory,
+    /// None of these.
+    Wrong,
+}
+
+impl fmt::Display for Way {
+    fn fmt<W: fmt::Write>(&self, f: &mut fmt::Formatter<W>) -> fmt::Result {
+        f.write_str(match self {
+            Way::Whole => "whole",
+            Way::NoMemory => "no memory",
+            Way::OutOfMemory => "out of memory",
+            Way::Wrong => "wrong",
+        })
+    }
+}
+
+/// How a command ended that wrote this. It writes `whole` where nothing is refused, and `unmade` where a make is.
+pub fn judged(ended: &Ended, written: &[u8], whole: &str, unmade: &str) -> Way {
+    match &ended.said {
+        Said::OutOfMemory if ended.status == 5 => Way::OutOfMemory,
+        Said::Nothing if ended.status == 0 && written == whole.as_bytes() => Way::Whole,
+        Said::Nothing if ended.status == 0 && written == unmade.as_bytes() => Way::NoMemory,
+        _ => Way::Wrong,
+    }
+}

@@ -1,0 +1,172 @@
+//! Runs the commands of `gmp` on small inputs where one allocation may be refused, and says how each ended (`.ci/refusals` has each
+//! allocation refused in turn): docs/HACKING.md.
+//!
+//! Standard input has a number. Memory is taken and given back so often before the first command, so that of two numbers one after the
+//! other the greater has an allocation refused that comes one earlier. The toolchain refuses the Nth, with N fixed when the program is
+//! built: so the program's own allocations move, and one build does for all.
+#![tactic(auto)]
+
+mod judging;
+mod texts;
+
+use crate::judging::{Way, judged};
+use crate::texts::{PART, SCRIPT, SUMMARY, TRACE, UNMADE};
+use gmp_check_cli::{check, cut};
+use gmp_cli::step;
+use gmp_run::Clock;
+use gmp_run_cli::run;
+use gmp_words::{Ended, Settings, Task, arguments, settings};
+use std::alloc::{AllocError, Global};
+use std::io;
+use std::io::Read;
+use std::process::ExitCode;
+use std::sync::Wait;
+use std::thread::Threads;
+
+/// The command line of a run that prints its trace; the other commands have no use for the flag.
+const LINE: &str = "gmp run --trace --entries 16";
+
+/// The entry from which `cut` prints.
+const AT: u64 = 4;
+
+/// A clock that stands still.
+struct Stopped;
+
+impl Clock for Stopped {
+    fn now(&self) -> u64 {
+        0
+    }
+
+    fn rest(&self, _most: u64) {}
+}
+
+/// The number that the input has.
+fn number(rt: &HostRuntime) -> io::Result<u32> {
+    let mut digits = [0u8; 16];
+    let count = rt.reader().read(&mut digits)?;
+    let text = str::from_utf8(digits.get(..count).unwrap_or(&[])).unwrap_or("");
+    match text.trim_end().parse() {
+        Ok(number) => Ok(number),
+        Err(_) => Err(io::Error::from(io::ErrorKind::InvalidData)),
+    }
+}
+
+/// Takes memory so often, and gives it back.
+fn burn(alloc: Global, times: u32) -> Result<(), AllocError> {
+    for _ in 0..times {
+        let _taken = Box::new(alloc, 0u8)?;
+    }
+    Ok(())
+}
+
+/// What the words of a command line say, which are parted by single spaces.
+fn settings_of(alloc: Global, line: &str) -> Result<Settings, Ended> {
+    let mut words = Vec::new(alloc);
+    for word in line.split(' ') {
+        let word = String::from_str(alloc, word)?;
+        if words.push(word).is_err() {
+            return Err(Ended::out_of_memory());
+        }
+    }
+    settings(alloc, &words)
+}
+
+/// A command, with what it writes, and what it writes where a make is refused memory.
+#[derive(Clone, Copy)]
+struct Command {
+    name: &'static str,
+    task: Task,
+    whole: &'static str,
+    unmade: &'static str,
+}
+
+const COMMANDS: [Command; 4] = [
+    Command {
+        name: "step",
+        task: Task::Step,
+        whole: TRACE,
+        unmade: UNMADE,
+    },
+    Command {
+        name: "run",
+        task: Task::Run,
+        whole: TRACE,
+        unmade: UNMADE,
+    },
+    Command {
+        name: "check",
+        task: Task::Check,
+        whole: SUMMARY,
+        unmade: SUMMARY,
+    },
+    Command {
+        name: "cut",
+        task: Task::Cut,
+        whole: PART,
+        unmade: PART,
+    },
+];
+
+impl Command {
+    /// Does what the settings say; what is written goes to `output`.
+    fn done<R: Threads + Wait + Sync>(
+        &self,
+        rt: &R,
+        alloc: Global,
+        settings: &Settings,
+        output: &mut &mut [u8],
+    ) -> Ended {
+        let mut script = SCRIPT.as_bytes();
+        match self.task {
+            Task::Step => step(alloc, settings, &mut script, output),
+            Task::Run => run(rt, alloc, settings, &mut script, output, &Stopped),
+            Task::Check => check(alloc, &mut TRACE.as_bytes(), output, &mut ()),
+            Task::Cut => cut(alloc, AT, &mut TRACE.as_bytes(), output),
+        }
+    }
+
+    /// How the command ends.
+    fn way<R: Threads + Wait + Sync>(&self, rt: &R, alloc: Global, settings: &Settings) -> Way {
+        let mut room = [0u8; 1024];
+        let mut output = &mut room[..];
+        let ended = self.done(rt, alloc, settings, &mut output);
+        let count = 1024usize.saturating_sub(output.len());
+        let written = room.get(..count).unwrap_or(&[]);
+        judged(&ended, written, self.whole, self.unmade)
+    }
+}
+
+/// Says how the command line is read, and gives what it says where that is fine.
+fn line(rt: &impl Print, ended: Result<Settings, Ended>) -> io::Result<Option<Settings>> {
+    match ended {
+        Ok(settings) => {
+            println!(rt; "line: whole")?;
+            Ok(Some(settings))
+        }
+        Err(ended) => {
+            println!(rt; "line: {}", judged(&ended, b"", "", ""))?;
+            Ok(None)
+        }
+    }
+}
+
+/// The line of each command, in order, and how it ended.
+fn main(rt: HostRuntime) -> io::Result<ExitCode> {
+    let alloc = rt.alloc();
+    if burn(alloc, number(&rt)?).is_err() {
+        println!(rt; "refused before")?;
+        return Ok(ExitCode::SUCCESS);
+    }
+    let read = match arguments(&rt) {
+        Ok(_) => settings_of(alloc, LINE),
+        Err(ended) => Err(ended),
+    };
+    let Some(settings) = line(&rt, read)? else {
+        return Ok(ExitCode::SUCCESS);
+    };
+    for command in COMMANDS {
+        let way = command.way(&rt, alloc, &settings);
+        println!(rt; "{}: {way}", command.name)?;
+    }
+    Ok(ExitCode::SUCCESS)
+}

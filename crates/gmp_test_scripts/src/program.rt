@@ -1,0 +1,74 @@
+//! The program, run on a text by its functions, and no process: `Ran` is what it wrote and said.
+
+use gmp_check_cli::check;
+use gmp_cli::step;
+use gmp_words::{Said, settings};
+use std::alloc::{AllocError, Global};
+
+/// What it wrote and what it said.
+#[derive(Drop)]
+pub struct Ran {
+    pub written: Vec<u8>,
+    /// The text, which is empty where nothing is wrong.
+    pub said: String,
+    pub status: u8,
+}
+
+/// The first line, where it is a comment that begins with `gmp step`, and else `gmp step`.
+fn command_of(script: &[u8]) -> &str {
+    let first = script.split(|byte| *byte == b'\n').next().unwrap_or(&[]);
+    let first = str::from_utf8(first).unwrap_or("");
+    match first.strip_prefix("# ") {
+        Some(command) if command.starts_with("gmp step") => command,
+        _ => "gmp step",
+    }
+}
+
+/// The words of a command line, parted by single spaces.
+fn words_of(alloc: Global, command: &str) -> Result<Vec<String>, AllocError> {
+    let mut words = Vec::new(alloc);
+    for word in command.split(' ') {
+        words.push(String::from_str(alloc, word)?)?;
+    }
+    Ok(words)
+}
+
+/// `gmp step` on a script. Its options are those of the first line, where that is a comment that begins with `gmp step`.
+pub fn stepped(alloc: Global, script: &[u8]) -> Result<Ran, AllocError> {
+    let words = words_of(alloc, command_of(script))?;
+    step_by(alloc, &words, script)
+}
+
+/// The same with this limit of entries.
+pub fn stepped_within(alloc: Global, script: &[u8], entries: &str) -> Result<Ran, AllocError> {
+    let command = format!(in alloc; "{} --entries {entries}", command_of(script))?;
+    let words = words_of(alloc, command.as_str())?;
+    step_by(alloc, &words, script)
+}
+
+/// What the words of a command line say, on a script.
+fn step_by(alloc: Global, words: &[String], script: &[u8]) -> Result<Ran, AllocError> {
+    let mut written = Vec::new(alloc);
+    let ended = match settings(alloc, words) {
+        Ok(settings) => step(alloc, &settings, &mut &script[..], &mut written),
+        Err(ended) => ended,
+    };
+    done(alloc, written, ended.status, &ended.said)
+}
+
+/// `gmp check` on a trace.
+pub fn checked(alloc: Global, trace: &[u8]) -> Result<Ran, AllocError> {
+    let mut written = Vec::new(alloc);
+    let ended = check(alloc, &mut &trace[..], &mut written, &mut ());
+    done(alloc, written, ended.status, &ended.said)
+}
+
+/// What was written, with the text of what was said.
+fn done(alloc: Global, written: Vec<u8>, status: u8, said: &Said) -> Result<Ran, AllocError> {
+    let said = format!(in alloc; "{said}")?;
+    Ok(Ran {
+        written,
+        said,
+        status,
+    })
+}

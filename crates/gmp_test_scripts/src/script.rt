@@ -1,0 +1,109 @@
+//! Scripts, each with the trace that is to be written of it: run, compared, read again, checked and cut.
+
+use crate::error::ScriptError;
+use crate::program::{checked, stepped};
+use gmp_test_cuts::cut_everywhere;
+use gmp_trace::{read, write};
+use std::alloc::Global;
+use std::io::ErrorKind;
+use std::{fs, io};
+
+/// A trace is cut at so many entries at most.
+const MOST_CUTS: usize = 2_000;
+
+/// The number of the first line in which two texts differ, if they do.
+fn differs(got: &[u8], want: &[u8]) -> Option<usize> {
+    if got == want {
+        return None;
+    }
+    let mut line = 1usize;
+    for (a, b) in got.iter().zip(want.iter()) {
+        if *a != *b {
+            return Some(line);
+        }
+        if *a == b'\n' {
+            line = line.wrapping_add(1);
+        }
+    }
+    Some(line)
+}
+
+/// Where two texts differ, this is said of the first line in which they do.
+pub(crate) fn same(alloc: Global, got: &[u8], want: &[u8], said: &str) -> Result<(), ScriptError> {
+    match differs(got, want) {
+        None => Ok(()),
+        Some(line) => Err(ScriptError::line(alloc, line, said)),
+    }
+}
+
+/// The text of the file beside the script that ends like this.
+pub(crate) fn read_beside(rt: &HostRuntime, stem: &str, end: &str) -> io::Result<String> {
+    let name = format!(in rt.alloc(); "{stem}{end}")?;
+    fs::read_to_string(rt, name.as_str())
+}
+
+/// `gmp step` writes this trace of the script of this name.
+fn judge_step(rt: &HostRuntime, name: &str, trace: &[u8]) -> Result<(), ScriptError> {
+    let script = fs::read_to_string(rt, name)?;
+    let ran = stepped(rt.alloc(), script.as_bytes())?;
+    same(
+        rt.alloc(),
+        &ran.written,
+        trace,
+        "gmp step wrote another line",
+    )
+}
+
+/// The trace that is read is written as it was.
+fn judge_read(alloc: Global, text: &[u8]) -> Result<(), ScriptError> {
+    let mut out = Vec::new(alloc);
+    if let Ok(trace) = read(alloc, text) {
+        let _ = write(alloc, &trace, &mut out);
+    }
+    same(alloc, &out, text, "another line was read and written")
+}
+
+/// This is the summary that lies beside the script, if one does.
+fn judge_summary(rt: &HostRuntime, stem: &str, got: &[u8]) -> Result<(), ScriptError> {
+    match read_beside(rt, stem, ".summary") {
+        Ok(want) => same(
+            rt.alloc(),
+            got,
+            want.as_bytes(),
+            "gmp check wrote another line",
+        ),
+        Err(error) if error.kind() == ErrorKind::NotFound => Ok(()),
+        Err(error) => Err(ScriptError::Io(error)),
+    }
+}
+
+/// `gmp check` passes the trace, with the summary that lies beside the script.
+fn judge_check(rt: &HostRuntime, stem: &str, trace: &[u8]) -> Result<(), ScriptError> {
+    let ran = checked(rt.alloc(), trace)?;
+    if ran.status != 0 {
+        return Err(ScriptError::line(rt.alloc(), 0, ran.said.trim_end()));
+    }
+    judge_summary(rt, stem, &ran.written)
+}
+
+/// The trace cut at each entry, and its parts joined.
+fn judge_cuts(alloc: Global, trace: &[u8]) -> Result<(), ScriptError> {
+    match cut_everywhere(alloc, trace, MOST_CUTS, 1) {
+        Ok(()) => Ok(()),
+        Err(uncut) => {
+            let said = format!(in alloc; "{uncut}")?;
+            Err(ScriptError::line(alloc, 0, said.as_str()))
+        }
+    }
+}
+
+/// Runs the script of this name: how many calls its trace has, or what falls short.
+pub fn judged(rt: &HostRuntime, name: &str) -> Result<usize, ScriptError> {
+    let stem = name.strip_suffix(".gmp").unwrap_or(name);
+    let trace = read_beside(rt, stem, ".trace")?;
+    judge_step(rt, name, trace.as_bytes())?;
+    judge_read(rt.alloc(), trace.as_bytes())?;
+    judge_check(rt, stem, trace.as_bytes())?;
+    judge_cuts(rt.alloc(), trace.as_bytes())?;
+    Ok(trace.matches(" -> ").count())
+}
