@@ -1,5 +1,5 @@
 //! A host's goroutines and channels, and their run.
-ghost use Rattle.std.specs.Prelude.{◌≡◌, ◌++◌, ◌∷◌, [], IfErr, IfOk, OnOk, Some, length};
+ghost use Rattle.std.specs.Prelude.{◌≡◌, ◌++◌, ◌∷◌, [], IfErr, IfOk, OnErr, OnOk, Some, length};
 ghost use Rattle.gmp_seq.specs.Fits.{AreLimits};
 ghost use Rattle.gmp_host.specs.Ends.{IsOfLegalRun};
 ghost use Rattle.gmp_host.specs.Openings.{limits_of};
@@ -66,6 +66,7 @@ impl Host {
     pub fn channel(&mut self, capacity: u32) -> Result<Channel, Short>
         ensures number { IfOk result (λ c. c.0 ≡ Some (record { 0 = length self.old.capacities.items })) }
         ensures capacities { OnOk result (self.new.capacities.items ≡ self.old.capacities.items ++ capacity ∷ []) }
+        ensures err { OnErr result (self.new.capacities.items ≡ self.old.capacities.items) }
         ensures bodies { self.new.bodies ≡ self.old.bodies }
         ensures settings { self.new.settings ≡ self.old.settings }
     {
@@ -103,6 +104,7 @@ impl Host {
     pub fn push(&mut self, goroutine: Boxed) -> Result<GNo, Short>
         ensures number { IfOk result (λ g. g.0 ≡ length self.old.bodies.items) }
         ensures bodies { OnOk result (self.new.bodies.items ≡ self.old.bodies.items ++ goroutine ∷ []) }
+        ensures err { OnErr result (self.new.bodies.items ≡ self.old.bodies.items) }
         ensures capacities { self.new.capacities ≡ self.old.capacities }
         ensures settings { self.new.settings ≡ self.old.settings }
     {

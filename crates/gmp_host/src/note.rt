@@ -1,5 +1,7 @@
 //! What goroutines and their host share: a number that they leave for it, and the time.
 
+ghost use Rattle.std.specs.Prelude.{◌≡◌, ◌⊎◌, ◌*◌, ◌≤◌};
+
 use crate::ending::Short;
 use gmp_base::Woke;
 use std::alloc::Global;
@@ -65,8 +67,10 @@ impl Time {
         self.shown.get()
     }
 
-    /// The moment so many milliseconds later.
-    pub fn in_ms(&self, ms: u64) -> u64 {
+    /// The moment so many milliseconds later, or the last moment that there is.
+    pub fn in_ms(&self, ms: u64) -> u64
+        ensures later { (ms * 1000000 ≤ result) ⊎ (result ≡ 18446744073709551615) }
+    {
         self.now().saturating_add(ms.saturating_mul(1_000_000))
     }
 }
