@@ -48,7 +48,7 @@ pub fn opened(alloc: Global) -> Result<(Book<(), ()>, Pass), PieceError> {
 
 /// The goroutine comes from the shelf, runs, and yields.
 /// Where a call is refused the value comes back with the refusal, and is spent here.
-pub fn turn(book: &mut Book<(), ()>, pass: &mut Pass) -> Result<(), Refusal> {
+pub fn yield_once(book: &mut Book<(), ()>, pass: &mut Pass) -> Result<(), Refusal> {
     let Some(ticket) = book.take(pass)? else {
         return Err(Refusal::NotOutstanding);
     };

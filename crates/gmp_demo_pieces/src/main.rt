@@ -10,7 +10,7 @@ mod error;
 mod host;
 
 use crate::error::PieceError;
-use crate::host::{hand_out, opened, turn};
+use crate::host::{hand_out, opened, yield_once};
 use anyhow::Result;
 use gmp_base::{Pass, Refusal};
 use gmp_book::Book;
@@ -31,7 +31,7 @@ fn fill(book: &mut Book<(), ()>, pass: &mut Pass) -> Result<(), PieceError> {
         if EACH <= book.history().len() {
             break;
         }
-        match turn(book, pass) {
+        match yield_once(book, pass) {
             Ok(()) => {}
             Err(Refusal::Over) => break,
             Err(why) => return Err(why.into()),

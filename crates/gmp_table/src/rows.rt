@@ -125,7 +125,7 @@ impl Rows {
 
     /// Gives a goroutine another status by the same epoch: its ticket moves, or is spent, or it stops.
     #[inline(always)]
-    pub(crate) fn turn(&mut self, g: GNo, status: Status)
+    pub(crate) fn put_status(&mut self, g: GNo, status: Status)
         requires { g.0 < length self.old }
         ensures { self.new ≡ turned self.old g status }
     {

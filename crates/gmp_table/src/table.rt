@@ -180,7 +180,7 @@ impl StatusTable {
         // The answer stands in the row: the shelf has numbers alone, so both can't differ.
         let g = self.shelf.pop_front()?;
         let woke = self.rows.answer(g).unwrap();
-        self.rows.turn(g, Status::Ready(Place::Out, woke));
+        self.rows.put_status(g, Status::Ready(Place::Out, woke));
         Some(Readiness {
             g,
             epoch: self.rows.epoch(g),
@@ -194,7 +194,7 @@ impl StatusTable {
         ensures last { self.new.shelf ≡ self.old.shelf ++ r.g ∷ [] }
     {
         let woke = self.rows.answer(r.g).unwrap();
-        self.rows.turn(r.g, Status::Ready(Place::Shelf, woke));
+        self.rows.put_status(r.g, Status::Ready(Place::Shelf, woke));
         self.shelf.push_back(r.g);
     }
 
@@ -206,7 +206,7 @@ impl StatusTable {
         ensures shelf { self.new.shelf ≡ self.old.shelf }
     {
         let woke = self.rows.answer(r.g).unwrap();
-        self.rows.turn(r.g, Status::Running(m));
+        self.rows.put_status(r.g, Status::Running(m));
         woke
     }
 
@@ -254,7 +254,7 @@ impl StatusTable {
         ensures table { self.new.table ≡ set_status self.old.table g Status.Dead }
         ensures shelf { self.new.shelf ≡ self.old.shelf }
     {
-        self.rows.turn(g, Status::Dead);
+        self.rows.put_status(g, Status::Dead);
     }
 
     /// A goroutine that is off the shelf goes into a blocking call, which m makes.
@@ -263,7 +263,7 @@ impl StatusTable {
         ensures table { self.new.table ≡ set_status self.old.table g (Status.Calling m) }
         ensures shelf { self.new.shelf ≡ self.old.shelf }
     {
-        self.rows.turn(g, Status::Calling(m));
+        self.rows.put_status(g, Status::Calling(m));
     }
 
     /// A goroutine that is off the shelf comes back from its blocking call, and m runs it. One that finds no processor is requeued.
@@ -272,7 +272,7 @@ impl StatusTable {
         ensures table { self.new.table ≡ set_status self.old.table g (Status.Running m) }
         ensures shelf { self.new.shelf ≡ self.old.shelf }
     {
-        self.rows.turn(g, Status::Running(m));
+        self.rows.put_status(g, Status::Running(m));
     }
 
     /// A goroutine that is off the shelf begins to wait, with these offers, until this moment, in nanoseconds. That the offers stand with
@@ -284,7 +284,7 @@ impl StatusTable {
         ensures shelf { self.new.shelf ≡ self.old.shelf }
     {
         let arrival = self.arrivals;
-        self.rows.turn(
+        self.rows.put_status(
             g,
             Status::Waiting(Wait {
                 arrival,

@@ -39,7 +39,7 @@ pub use bad::{Bad, Why};
 pub use line::{put_end, put_entry};
 pub use reading::{read_call, read_capacities, read_entry, read_limits};
 pub use start::{put_start, read_whole_start};
-pub use summing::summary;
+pub use summing::{CALLS, call_name, call_place, summary};
 pub use trace::{Beginning, BeginningView, End, Trace, TraceView};
 pub use watch::{Watch, Work, tell};
 pub use whole::{read, read_watched};

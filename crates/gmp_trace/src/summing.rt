@@ -18,12 +18,12 @@ use itoa::Buffer;
 use std::alloc::{AllocError, Global};
 use std::io::Write;
 
-/// How many calls there are, and so how long the table is.
-const CALLS: usize = 29;
+/// How many calls there are, and so how long a table of them is.
+pub const CALLS: usize = 29;
 
-/// The place of a call in the table.
+/// The place of a call in a table of all, in the order of the definitions.
 #[tactic(auto, unfolding(crate::specs::Summary::names))]
-fn place(call: &Call) -> usize
+pub fn call_place(call: &Call) -> usize
     ensures bound { result < 29 }
     ensures name { slice_index_or names result [] ≡ call_name call.now }
 {
@@ -60,9 +60,9 @@ fn place(call: &Call) -> usize
     }
 }
 
-/// The name of the call at a place in the table.
+/// The first word of the call at a place in the table.
 #[tactic(auto, unfolding(crate::specs::Summary::names))]
-fn name(place: usize) -> &'static [u8]
+pub fn call_name(place: usize) -> &'static [u8]
     requires { place < 29 }
     ensures { result.now ≡ slice_index_or names place [] }
 {
@@ -123,7 +123,7 @@ fn count(entries: &History) -> Counts
     let mut calls = [0u64; CALLS];
     for entry in entries.iter() {
         machines[machine_place(entry.m)] += 1;
-        calls[place(&entry.call)] += 1;
+        calls[call_place(&entry.call)] += 1;
     }
     Counts { machines, calls }
 }
@@ -208,7 +208,7 @@ fn put_call_lines(out: &mut Vec<u8>, counts: &[u64; CALLS]) -> Result<(), AllocE
     ensures { (es : List Entry) → CountsCalls counts.now es → OnOk result (out.new.items ≡ out.old.items ++ call_lines names es) }
 {
     for (place, n) in counts.iter().enumerate() {
-        put_call_line(out, name(place), *n)?;
+        put_call_line(out, call_name(place), *n)?;
     }
     Ok(())
 }

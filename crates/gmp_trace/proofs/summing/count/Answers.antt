@@ -24,8 +24,8 @@ overflow_add-machines c =
 pub overflow_add-calls : goal.overflow_add-calls
 overflow_add-calls c =
     let es = c.loop-entry.yielded in
-    let i = c.place.result in
-    let counted = c.loop-entry.invariant.calls i c.place.ensures.bound in
+    let i = c.call_place.result in
+    let counted = c.loop-entry.invariant.calls i c.call_place.ensures.bound in
     let most = count_by-le-length (λ (x : Entry). bytes_eq (call_name x.call) (get_or names i [])) es in
     let t = YieldsList-turn (YieldsList-at c.into_iter-entry-iterator.ensures.into_iter_gives (YieldsList-from_first (λ x. x) (λ left. left) c.args.entries.now.list c.iter-entry-items.ensures.list))
     es _ c.loop-entry.yielded_by _ _ c.in-Some.entry c.in-Some.is c.next.ensures.steps in
@@ -38,7 +38,7 @@ loop-entry-preserved c =
     let there : e.m.0 < 256 = omega (arith, c.machine_place.ensures.value, c.machine_place.ensures.bound) in
     record {
       machines = rw c.machine_place.ensures.value (machines_more c.loop-entry.machines es e c.loop-entry.invariant.all_machines c.loop-entry.invariant.machines there);
-      calls = calls_counted c.loop-entry.calls es e c.place.result c.loop-entry.invariant.all_calls c.loop-entry.invariant.calls c.place.ensures.bound c.place.ensures.name;
+      calls = calls_counted c.loop-entry.calls es e c.call_place.result c.loop-entry.invariant.all_calls c.loop-entry.invariant.calls c.call_place.ensures.bound c.call_place.ensures.name;
       all_machines = length-set c.loop-entry.machines _ _ ∙ c.loop-entry.invariant.all_machines;
       all_calls = length-set c.loop-entry.calls _ _ ∙ c.loop-entry.invariant.all_calls;
     }

@@ -7,7 +7,7 @@ pub loop-place-preserved : goal.loop-place-preserved
 loop-place-preserved c es h =
     let lt : c.loop-place.place < 29 = omega arith in
     let next = call_lines_next c.loop-place.place es c.loop-place.out.items lt in
-    rw (c.in_ok-put_call_line.ensures, c.name.ensures, h c.loop-place.place lt) (sym next ∙ c.loop-place.invariant es h)
+    rw (c.in_ok-put_call_line.ensures, c.call_name.ensures, h c.loop-place.place lt) (sym next ∙ c.loop-place.invariant es h)
 
 pub returns : goal.returns
 returns c es h =

@@ -6,7 +6,7 @@ pub invariant_of-self : goal.invariant_of-self
 invariant_of-self c =
     let rows = ap (λ v. v.table.goroutines) c.self.view_is in
     let out = given_out c.self.inside.rows c.args.r (rw rows c.requires) in
-    rw c.turn.ensures (off_turned c.self.inside.rows c.args.r.g _ _ _ c.self.invariant (out_off c.self.inside.rows c.args.r out) refl)
+    rw c.put_status.ensures (off_turned c.self.inside.rows c.args.r.g _ _ _ c.self.invariant (out_off c.self.inside.rows c.args.r out) refl)
 
 pub returns-clause-claims : goal.returns-clause-claims
 returns-clause-claims c = search rules

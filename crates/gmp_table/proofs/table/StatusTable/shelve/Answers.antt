@@ -6,7 +6,7 @@ pub invariant_of-self : goal.invariant_of-self
 invariant_of-self c =
     let rows = ap (λ v. v.table.goroutines) c.self.view_is in
     let off = out_off c.self.inside.rows c.args.r (given_out c.self.inside.rows c.args.r (rw rows c.requires)) in
-    rw (c.turn.ensures, c.push_back.ensures.items) (off_pushed c.self.inside.rows c.args.r.g _ _ _ c.self.invariant off refl)
+    rw (c.put_status.ensures, c.push_back.ensures.items) (off_pushed c.self.inside.rows c.args.r.g _ _ _ c.self.invariant off refl)
 
 pub returns-clause-last : goal.returns-clause-last
 returns-clause-last c =

@@ -14,8 +14,8 @@ returns-in_err-g-clause-none c =
     let nobody = some_on_shelf c.self.inside.rows _ _ c.self.invariant ∙ ap (λ xs. nat_lt 0 (length xs)) (empty_of c.self.inside.shelf.items none) in
     rw c.from_residual.ensures (rw (← rows) nobody, ap (λ v. v.table) c.self.view_is)
 
-pub turn-requires : goal.turn-requires
-turn-requires c =
+pub put_status-requires : goal.put_status-requires
+put_status-requires c =
     let first = sym c.pop_front.ensures.value ∙ c.in_ok-g.was in
     let top = top_is_shelved c.self.inside.rows c.self.inside.shelf.items _ c.in_ok-g.g c.self.invariant first in
     slice_get_within c.self.inside.rows c.in_ok-g.g.0 _ top.at
@@ -23,7 +23,7 @@ turn-requires c =
 pub invariant_of-self-2 : goal.invariant_of-self-2
 invariant_of-self-2 c =
     let first = sym c.pop_front.ensures.value ∙ c.in_ok-g.was in
-    rw (c.turn.ensures, c.pop_front.ensures.items) (top_popped c.self.inside.rows c.self.inside.shelf.items _ c.in_ok-g.g
+    rw (c.put_status.ensures, c.pop_front.ensures.items) (top_popped c.self.inside.rows c.self.inside.shelf.items _ c.in_ok-g.g
     (record { status = Ready Out c.unwrap-woke.result; epoch = epoch_in c.self.inside.rows c.in_ok-g.g }) c.self.invariant first refl)
 
 pub returns-clause-taken : goal.returns-clause-taken
@@ -31,6 +31,6 @@ returns-clause-taken c =
     let first = sym c.pop_front.ensures.value ∙ c.in_ok-g.was in
     let top = top_is_shelved c.self.inside.rows c.self.inside.shelf.items _ c.in_ok-g.g c.self.invariant first in
     let woke = top_answer c.self.inside.rows c.in_ok-g.g c.unwrap-woke.result top (sym c.answer.ensures ∙ c.unwrap-woke.ensures) in
-    let epoch = c.epoch.ensures ∙ top_turned c.self.inside.rows c.in_ok-g.g c.turn.new.self _ top c.turn.ensures in
+    let epoch = c.epoch.ensures ∙ top_turned c.self.inside.rows c.in_ok-g.g c.put_status.new.self _ top c.put_status.ensures in
     let rows = ap (λ v. v.table.goroutines) c.self.view_is in
-    (top.answer, rw (← rows, epoch) top.at, rw (c.turn.ensures, woke) (ap (λ v. set_status v.table c.in_ok-g.g (Ready Out top.answer)) c.self.view_is))
+    (top.answer, rw (← rows, epoch) top.at, rw (c.put_status.ensures, woke) (ap (λ v. set_status v.table c.in_ok-g.g (Ready Out top.answer)) c.self.view_is))

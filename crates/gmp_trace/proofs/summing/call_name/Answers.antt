@@ -1,6 +1,6 @@
 use Rattle.std.proofs.Common.{◌≡◌, arith, refl}
 use Rattle.gmp_trace.specs.Summary.{names}
-use Rattle.gmp_trace.proofs.summing.name.Goals as goal
+use Rattle.gmp_trace.proofs.summing.call_name.Goals as goal
 
 pub returns-in_default : goal.returns-in_default
 unfolding names
