@@ -9,3 +9,4 @@ pub mod Replayed
 pub mod Checked
 pub mod Active
 pub mod Parts
+pub mod Missing

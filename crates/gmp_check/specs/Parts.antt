@@ -46,6 +46,10 @@ pub record IsPart (x : Content) (n : ℕ) (y : Content) : Type 0 where
   pub led : Run x.limits (start_of x) (take n x.entries) start
   pub part : y ≡ record x { begins = AtState start; entries = drop n x.entries }
 
+-- they are of the same size
+abbrev pub AreAlike : Content → Content → Type 0
+AreAlike x y = (y.limits ≡ x.limits) × (y.bodies ≡ x.bodies)
+
 -- y goes on where x stops: it is of the same size, and the entries of x lead to the state before its own
 pub record Meets (x y : Content) : Type 0 where
   pub limits : y.limits ≡ x.limits

@@ -89,7 +89,7 @@ fn may_go_on(limits: Limits, bodies: u16, start: &Start) -> bool
 }
 
 /// A replay that begins as a trace does, or what is wrong with the beginning.
-fn begun(
+pub fn begun(
     alloc: Global,
     limits: Limits,
     bodies: u16,

@@ -11,7 +11,7 @@
 //! Refused are limits, bodies or capacities that no run may have (`OpenError`), an entry that is no step (`Ok(false)`, and nothing
 //! changed), and want of memory, which a beginning and a make alone can have.
 //! Each relation of the definitions has a method that answers with the reply in hand (`Decides`): no list of allowed replies, and no test
-//! beside a change. Tables are plain and scanned: `channels`, `machines`, `table`, together `state`; `replay` is a run over it, `checked` a
+//! beside a change. Who asks why an entry is no step tries other replies on a copy (`Replay::allows`), and is told what its call lacks. Tables are plain and scanned: `channels`, `machines`, `table`, together `state`; `replay` is a run over it, `checked` a
 //! trace, `pieces` and `cut` its parts.
 #![tactic(auto)]
 
@@ -29,7 +29,8 @@ mod state;
 mod table;
 
 pub use begin::{meets, state_before};
-pub use checked::{check, check_view};
+pub use checked::{begun, check, check_view};
 pub use error::{JoinError, OpenError, OutOfMemory, ReplayError, SplitError};
 pub use pieces::{join, split};
 pub use replay::{Replay, outcome_of};
+pub use state::Need;

@@ -105,6 +105,20 @@ impl Machines {
         })
     }
 
+    /// The same machines once more.
+    pub(crate) fn cloned(&self, alloc: Global) -> Result<Self, AllocError>
+        ensures { IfOk result (λ w. w ≡ self.now) }
+    {
+        Ok(Machines {
+            holders: self.holders.to_vec(alloc)?,
+            modes: self.modes.to_vec(alloc)?,
+            spinning: self.spinning.to_vec(alloc)?,
+            marked: self.marked.to_vec(alloc)?,
+            awake: self.awake.to_vec(alloc)?,
+            active: self.active,
+        })
+    }
+
     pub(crate) fn holders(&self) -> &[Option<MNo>]
         ensures { result.now ≡ self.now.holders }
     {

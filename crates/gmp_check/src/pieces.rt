@@ -7,7 +7,7 @@ ghost use Rattle.gmp_trace.specs.Text.{IsCounted, begins_at, content};
 ghost use Rattle.gmp_check.specs.declared.error.JoinError.TheVariants as join_error;
 ghost use Rattle.gmp_check.specs.declared.error.SplitError.TheVariants as split_error;
 ghost use Rattle.gmp_check.specs.Checked.{IsRight, start_at};
-ghost use Rattle.gmp_check.specs.Parts.{IsJoined, IsPart, IsPast, IsPastEnd, Meets};
+ghost use Rattle.gmp_check.specs.Parts.{AreAlike, IsJoined, IsPart, IsPast, IsPastEnd, Meets};
 
 use crate::cut::{join_runs, split_run};
 use crate::error::{JoinError, SplitError};
@@ -78,7 +78,7 @@ pub fn split(alloc: Global, trace: &Trace, n: u64) -> Result<Trace, SplitError>
 
 /// Whether both are within the same limits, and of as many goroutines.
 fn are_alike(first: &Trace, second: &Trace) -> bool
-    ensures { IsTrue result ↔ ((second.now.limits ≡ first.now.limits) × (second.now.bodies ≡ first.now.bodies)) }
+    ensures { IsTrue result ↔ AreAlike (content first.now) (content second.now) }
 {
     second.limits == first.limits && second.bodies == first.bodies
 }
@@ -93,6 +93,7 @@ pub fn join(alloc: Global, first: &Trace, second: &Trace) -> Result<Trace, JoinE
     ensures joined { IfOk result (λ z. IsJoined (content first.now) (content second.now) (content z)) }
     ensures right { IfOk result (λ z. (o : Option Outcome) → IsRight (content second.now) o → IsRight (content z) o) }
     ensures counted { IfOk result (λ z. IsCounted (begins_at z.beginning)) }
+    ensures alike { IfErr result (λ e. e ≡ join_error.OutOfMemory → AreAlike (content first.now) (content second.now)) }
     ensures apart { IfErr result (λ e. e ≡ join_error.Apart → Meets (content first.now) (content second.now) → ⊥) }
 {
     if !are_alike(first, second) {

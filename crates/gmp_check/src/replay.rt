@@ -1,19 +1,22 @@
 //! A replay of a history: one entry after another, each taken where it is a step. Nothing of the entries is kept, so a replay takes no
 //! memory for them.
-ghost use Rattle.std.specs.Prelude.{◌≡◌, None, IfErr, IfOk, OnErr, OnOk};
+ghost use Rattle.std.specs.Prelude.{◌≡◌, ◌↔◌, None, IfErr, IfOk, IsTrue, OnErr, OnOk};
 ghost use Rattle.gmp_seq.specs.Fits.{AreLimits};
+ghost use Rattle.gmp_seq.specs.Needs.{Needs};
 ghost use Rattle.gmp_seq.specs.Run.{IsStep};
 ghost use Rattle.gmp_seq.specs.State.{State, opening};
 ghost use Rattle.gmp_start.specs.Start.{state_of};
 ghost use Rattle.gmp_check.specs.Calls.{IsMake};
 ghost use Rattle.gmp_check.specs.Decides.{Decides, Leads};
 ghost use Rattle.gmp_check.specs.Consistent.{IsConsistentUnder, MayBegin};
+ghost use Rattle.gmp_check.specs.Missing.{Lacks};
 ghost use Rattle.gmp_check.specs.Replayed.{EndsWith, IsOpenError, IsReplayError, IsStop};
 
 use crate::error::{OpenError, OutOfMemory, ReplayError, Stop};
-use crate::state::State;
+use crate::state::{Need, State};
+use gmp_base::MNo;
 use gmp_history::History;
-use gmp_seq::{Entry, Limits, Outcome};
+use gmp_seq::{Call, Entry, Goroutine, Limits, Outcome};
 use gmp_start::Start;
 use gmp_trace::{Watch, Work, tell};
 use std::alloc::Global;
@@ -88,6 +91,30 @@ impl Replay {
         ensures determined { (a b : State) → IsStep self.old.limits entry.now self.old.state a → IsStep self.old.limits entry.now self.old.state b → a ≡ b }
     {
         Ok(self.state.step(self.limits, entry)?)
+    }
+
+    /// Whether the entry is a step, which is tried on a copy of the state: who wants to know each reply that a call may have asks for one
+    /// after another.
+    pub fn allows(&self, alloc: Global, entry: &Entry) -> Result<bool, OutOfMemory>
+        ensures { IfOk result (λ b. IsTrue b ↔ Leads (IsStep self.now.limits entry.now) self.now.state) }
+    {
+        let mut state = self.state.cloned(alloc)?;
+        Ok(state.step(self.limits, entry)?)
+    }
+
+    /// What a call of m needs and doesn't have: the first of what is missing. While the run lasts a call has a reply exactly where nothing
+    /// is.
+    pub fn lacks(&self, m: MNo, call: &Call) -> Option<Need>
+        ensures { Lacks m call.now self.now.state (Needs m call.now self.now.state) result }
+    {
+        self.state.lacks(m, call)
+    }
+
+    /// What each goroutine does, by its number.
+    pub fn goroutines(&self) -> &[Goroutine]
+        ensures { result.now ≡ self.now.state.table.goroutines }
+    {
+        self.state.goroutines()
     }
 
     /// How the run ended, if it did.

@@ -1,5 +1,5 @@
 //! The state of the scheduler: table, channels, machines, counts and outcome, and the step from one to the next. `state/effect` has each
-//! call, `channel_calls` and `transfers` those on channels.
+//! call, `channel_calls` and `transfers` those on channels, `needs` what a call needs.
 ghost use Rattle.std.specs.Prelude.{◌≡◌, ◌<◌, ◌^◌, length, slice_get, sum, IfOk, OnErr};
 ghost use Rattle.gmp_seq.specs.Run.{IsStep};
 ghost use Rattle.gmp_seq.specs.State.{opening};
@@ -12,14 +12,16 @@ ghost use Rattle.gmp_check.specs.Consistent.{IsConsistent, IsConsistentUnder};
 
 mod channel_calls;
 mod effect;
+mod needs;
 mod transfers;
 
 use crate::channels::Channels;
 use crate::machines::Machines;
 use crate::table::Table;
 use gmp_base::{CNo, Case, MNo};
-use gmp_seq::{Direction, Entry, Limits, Outcome, Reply, Waiter};
+use gmp_seq::{Direction, Entry, Goroutine, Limits, Outcome, Reply, Waiter};
 use gmp_start::{Start, copied_rows};
+pub use needs::Need;
 use std::alloc::{AllocError, Global};
 use std::marker::Model;
 
@@ -107,6 +109,25 @@ impl State {
             channels: self.channels.copied(alloc)?,
             goroutines: copied_rows(alloc, self.table.rows())?,
         })
+    }
+
+    /// The same state once more.
+    pub(crate) fn cloned(&self, alloc: Global) -> Result<Self, AllocError>
+        ensures { IfOk result (λ s. s ≡ self.now) }
+    {
+        Ok(State {
+            table: self.table.cloned(alloc)?,
+            channels: self.channels.cloned(alloc)?,
+            machines: self.machines.cloned(alloc)?,
+            counts: self.counts.to_vec(alloc)?,
+            outcome: self.outcome,
+        })
+    }
+
+    pub(crate) fn goroutines(&self) -> &[Goroutine]
+        ensures { result.now ≡ self.now.table.goroutines }
+    {
+        self.table.rows()
     }
 
     pub(crate) fn outcome(&self) -> Option<Outcome>

@@ -2,7 +2,7 @@
 //! `waking` changes of many, `waiting` who waits on a channel.
 //! Who was last at each machine is noted beside the rows: with a look through all of them for whom a machine has, a check of 4,096
 //! goroutines took seven times as long.
-ghost use Rattle.std.specs.Prelude.{◌≡◌, ◌↔◌, ◌<◌, ◌^◌, ◌∷◌, ◌-◌, Some, None, Option, option_copied, replicate, length, slice_get, slice_set, IfOk, IfSome, IfNone};
+ghost use Rattle.std.specs.Prelude.{◌≡◌, ◌↔◌, ◌<◌, ◌^◌, ◌∷◌, ◌-◌, Some, None, Option, option_copied, replicate, length, slice_get, slice_set, IfOk, IfSome, IfNone, IsTrue};
 ghost use Rattle.gmp_base.specs.declared.ask.Woke.{Woke};
 ghost use Rattle.gmp_base.specs.declared.number.GNo.{GNo};
 ghost use Rattle.gmp_base.specs.declared.number.MNo.{MNo};
@@ -10,6 +10,7 @@ ghost use Rattle.gmp_seq.specs.declared.status.Place.{Place};
 ghost use Rattle.gmp_seq.specs.declared.status.Status.{Status};
 ghost use Rattle.gmp_check.specs.Last.{AreLast, IsAlone, IsAt};
 ghost use Rattle.gmp_start.specs.Start.{table_of};
+ghost use Rattle.gmp_seq.specs.Needs.{IsOutstanding};
 ghost use Rattle.gmp_seq.specs.State.{first_goroutine, dormant};
 ghost use Rattle.gmp_seq.specs.Table.{IsReady, IsRunning, IsCalling, IsHeld, epoch_at, is_astir, is_ready_or_running, is_running_on, is_shelved, made_ready, made_wait, next_of, set_status, some_status, status_at};
 
@@ -120,6 +121,18 @@ impl Table {
         })
     }
 
+    /// The same table once more.
+    pub(crate) fn cloned(&self, alloc: Global) -> Result<Self, AllocError>
+        ensures { IfOk result (λ t. t ≡ self.now) }
+    {
+        Ok(Table {
+            goroutines: copied_rows(alloc, &self.goroutines)?,
+            arrivals: self.arrivals,
+            clock: self.clock,
+            last: self.last,
+        })
+    }
+
     pub(crate) fn rows(&self) -> &[Goroutine]
         ensures { result.now ≡ self.now.goroutines }
     {
@@ -192,6 +205,13 @@ impl Table {
         ensures { result ≡ some_status is_astir self.now }
     {
         self.goroutines.iter().any(|row| row.status.is_astir())
+    }
+
+    /// Whether the ticket of this readiness is given out.
+    pub(crate) fn is_outstanding(&self, r: Readiness) -> bool
+        ensures { IsTrue result ↔ IsOutstanding self.now r }
+    {
+        self.answer(r, Place::Out).is_some()
     }
 
     /// Whether some goroutine is ready or runs, by a look at all.
