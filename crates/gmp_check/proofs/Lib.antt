@@ -14,3 +14,4 @@ pub mod Actives
 pub mod Beginning
 pub mod Parting
 pub mod Texts
+pub mod Trying
