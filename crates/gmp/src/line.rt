@@ -4,8 +4,8 @@
 use gmp_check_cli::Progress;
 use gmp_trace::{Watch, Work};
 
-/// An input of more bytes takes long enough for a line.
-const LONG: usize = 16 * 1024 * 1024;
+/// An input of more bytes takes long enough for a line: one of more than 100,000 entries has more.
+const LONG: usize = 2 * 1024 * 1024;
 
 /// The line, which is shown where standard error is a terminal and the input is long, and gone at the end.
 #[derive(Drop)]

@@ -14,6 +14,8 @@ mod line;
 use crate::line::Line;
 use gmp_check_cli::{check, cut};
 use gmp_cli::step;
+use gmp_draw::draw;
+use gmp_explain::{Explained, explain};
 use gmp_host::Since;
 use gmp_run_cli::run;
 use gmp_words::{Ended, Task, arguments, settings};
@@ -31,6 +33,15 @@ fn finish(rt: &(impl Print + Eprint), ended: &Ended) -> ExitCode {
     // Where the last words cannot be written, the status still says how it ended.
     let _ = told;
     ExitCode::from(ended.status)
+}
+
+/// Says how it ended, and writes the facts behind that.
+fn tell(rt: &(impl Print + Eprint), explained: &Explained) -> ExitCode {
+    let code = finish(rt, &explained.ended);
+    match print!(rt; "{}", explained.facts) {
+        Ok(()) => code,
+        Err(_) => finish(rt, &Ended::output_failed()),
+    }
 }
 
 /// Reads the command line, does what it says, and ends with what came of it.
@@ -59,6 +70,19 @@ fn main(rt: HostRuntime) -> ExitCode {
                 &mut Line::on(&rt, rt.stderr().is_terminal()),
             ),
             Task::Cut => cut(alloc, settings.at, &mut rt.reader(), &mut io::writer(&rt)),
+            Task::Explain => {
+                let mut line = Line::on(&rt, rt.stderr().is_terminal());
+                let explained = explain(alloc, settings.json, &mut rt.reader(), &mut line);
+                return tell(&rt, &explained);
+            }
+            Task::Draw => draw(
+                alloc,
+                settings.from,
+                settings.to,
+                &mut rt.reader(),
+                &mut io::writer(&rt),
+                &mut Line::on(&rt, rt.stderr().is_terminal()),
+            ),
         },
     };
     finish(&rt, &ended)

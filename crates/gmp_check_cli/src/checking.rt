@@ -14,8 +14,8 @@ use gmp_words::{Ended, MAX_TRACE, input};
 use std::alloc::Global;
 use std::io::{Read, Write};
 
-/// The right trace whose text the bytes are.
-fn judged<P: Progress>(alloc: Global, bytes: &[u8], progress: &mut P) -> Result<Trace, Ended>
+/// The right trace whose text the bytes are, or how `check` ends on them.
+pub fn judged<P: Progress>(alloc: Global, bytes: &[u8], progress: &mut P) -> Result<Trace, Ended>
     ensures right { IfOk result (λ trace. IsRightTrace (content trace)) }
     ensures read { IfOk result (λ trace. IsRead bytes.now (content trace)) }
     ensures kinds { IfErr result (λ e. is_of_trace e.said ≡ true) }

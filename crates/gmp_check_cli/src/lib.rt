@@ -14,6 +14,6 @@ mod checking;
 mod cutting;
 mod progress;
 
-pub use checking::check;
+pub use checking::{check, judged};
 pub use cutting::cut;
 pub use progress::Progress;

@@ -10,15 +10,17 @@ mod judging;
 mod texts;
 
 use crate::judging::{Way, judged};
-use crate::texts::{PART, SCRIPT, SUMMARY, TRACE, UNMADE};
+use crate::texts::{FACTS, PART, PICTURE, SCRIPT, SUMMARY, TRACE, UNMADE};
 use gmp_check_cli::{check, cut};
 use gmp_cli::step;
+use gmp_draw::draw;
+use gmp_explain::explain;
 use gmp_run::Clock;
 use gmp_run_cli::run;
 use gmp_words::{Ended, Settings, Task, arguments, settings};
 use std::alloc::{AllocError, Global};
 use std::io;
-use std::io::Read;
+use std::io::{Read, Write};
 use std::process::ExitCode;
 use std::sync::Wait;
 use std::thread::Threads;
@@ -28,6 +30,9 @@ const LINE: &str = "gmp run --trace --entries 16";
 
 /// The entry from which `cut` prints.
 const AT: u64 = 4;
+
+/// What a command writes has no more bytes.
+const ROOM: usize = 8192;
 
 /// A clock that stands still.
 struct Stopped;
@@ -80,7 +85,7 @@ struct Command {
     unmade: &'static str,
 }
 
-const COMMANDS: [Command; 4] = [
+const COMMANDS: [Command; 6] = [
     Command {
         name: "step",
         task: Task::Step,
@@ -105,7 +110,28 @@ const COMMANDS: [Command; 4] = [
         whole: PART,
         unmade: PART,
     },
+    Command {
+        name: "explain",
+        task: Task::Explain,
+        whole: FACTS,
+        unmade: FACTS,
+    },
+    Command {
+        name: "draw",
+        task: Task::Draw,
+        whole: PICTURE,
+        unmade: PICTURE,
+    },
 ];
+
+/// What `explain` tells goes to `output`.
+fn told(alloc: Global, output: &mut &mut [u8]) -> Ended {
+    let explained = explain(alloc, false, &mut TRACE.as_bytes(), &mut ());
+    match output.write_all(explained.facts.as_bytes()) {
+        Ok(()) => explained.ended,
+        Err(_) => Ended::output_failed(),
+    }
+}
 
 impl Command {
     /// Does what the settings say; what is written goes to `output`.
@@ -122,15 +148,17 @@ impl Command {
             Task::Run => run(rt, alloc, settings, &mut script, output, &Stopped),
             Task::Check => check(alloc, &mut TRACE.as_bytes(), output, &mut ()),
             Task::Cut => cut(alloc, AT, &mut TRACE.as_bytes(), output),
+            Task::Explain => told(alloc, output),
+            Task::Draw => draw(alloc, 0, 2, &mut TRACE.as_bytes(), output, &mut ()),
         }
     }
 
     /// How the command ends.
     fn way<R: Threads + Wait + Sync>(&self, rt: &R, alloc: Global, settings: &Settings) -> Way {
-        let mut room = [0u8; 1024];
+        let mut room = [0u8; ROOM];
         let mut output = &mut room[..];
         let ended = self.done(rt, alloc, settings, &mut output);
-        let count = 1024usize.saturating_sub(output.len());
+        let count = ROOM.saturating_sub(output.len());
         let written = room.get(..count).unwrap_or(&[]);
         judged(&ended, written, self.whole, self.unmade)
     }

@@ -1,5 +1,5 @@
-//! Judges `gmp step` and `gmp check` by files of lines, which lie in `data/`: docs/HACKING.md. A file is a script with its worked trace, a
-//! table of changes of a trace or script, or a table of limits of entries.
+//! Judges `gmp step` and `gmp check` by files of lines, which lie in `data/`: docs/HACKING.md. A file is a script with its worked trace
+//! (and what `gmp explain` tells of it, and its picture), a trace that is not right, a table of changes of a trace or script, or a table of limits of entries.
 //!
 //! For each file that an argument names it prints that all went well, or the first line that falls short; the gate compares that with
 //! `stdout`. Traces are compared byte for byte: that a trace is a legal run is proved, which legal run was meant is not.
@@ -9,6 +9,7 @@ mod changes;
 mod edit;
 mod error;
 mod program;
+mod reasons;
 mod script;
 mod sweep;
 
@@ -22,6 +23,8 @@ fn is_right(rt: &HostRuntime, name: &str) -> io::Result<bool> {
         (changes::judged(rt, name), "texts")
     } else if name.ends_with(".sweep") {
         (sweep::judged(rt, name), "limits")
+    } else if name.ends_with(".wrong") {
+        (script::judged_wrong(rt, name), "calls")
     } else {
         (script::judged(rt, name), "calls")
     };

@@ -2,6 +2,8 @@
 
 use gmp_check_cli::check;
 use gmp_cli::step;
+use gmp_draw::draw;
+use gmp_explain::explain;
 use gmp_words::{Said, settings};
 use std::alloc::{AllocError, Global};
 
@@ -60,6 +62,25 @@ fn step_by(alloc: Global, words: &[String], script: &[u8]) -> Result<Ran, AllocE
 pub fn checked(alloc: Global, trace: &[u8]) -> Result<Ran, AllocError> {
     let mut written = Vec::new(alloc);
     let ended = check(alloc, &mut &trace[..], &mut written, &mut ());
+    done(alloc, written, ended.status, &ended.said)
+}
+
+/// `gmp explain` on a trace.
+pub fn explained(alloc: Global, trace: &[u8]) -> Result<Ran, AllocError> {
+    let explained = explain(alloc, false, &mut &trace[..], &mut ());
+    let written = explained.facts.as_bytes().to_vec(alloc)?;
+    done(
+        alloc,
+        written,
+        explained.ended.status,
+        &explained.ended.said,
+    )
+}
+
+/// `gmp draw` on a trace.
+pub fn drawn(alloc: Global, trace: &[u8]) -> Result<Ran, AllocError> {
+    let mut written = Vec::new(alloc);
+    let ended = draw(alloc, 0, u64::MAX, &mut &trace[..], &mut written, &mut ());
     done(alloc, written, ended.status, &ended.said)
 }
 

@@ -1,12 +1,16 @@
-//! Scripts, each with the trace that is to be written of it: run, compared, read again, checked and cut.
+//! Scripts, each with the trace that is to be written of it: run, compared, read again, checked, cut, explained and drawn.
 
 use crate::error::ScriptError;
-use crate::program::{checked, stepped};
+use crate::program::{checked, drawn, explained, stepped};
+use crate::reasons::judge_reasons;
 use gmp_test_cuts::cut_everywhere;
 use gmp_trace::{read, write};
 use std::alloc::Global;
 use std::io::ErrorKind;
 use std::{fs, io};
+
+/// No line of an explanation is wider.
+const WIDTH: usize = 120;
 
 /// A trace is cut at so many entries at most.
 const MOST_CUTS: usize = 2_000;
@@ -86,6 +90,69 @@ fn judge_check(rt: &HostRuntime, stem: &str, trace: &[u8]) -> Result<(), ScriptE
     judge_summary(rt, stem, &ran.written)
 }
 
+/// No line of the text has more columns.
+fn judge_width(alloc: Global, text: &[u8]) -> Result<(), ScriptError> {
+    for (index, line) in text.split(|byte| *byte == b'\n').enumerate() {
+        if line.len() > WIDTH {
+            return Err(ScriptError::line(alloc, index.wrapping_add(1), "a line too wide"));
+        }
+    }
+    Ok(())
+}
+
+/// `gmp explain` on a trace tells what lies beside it, if that does.
+pub(crate) fn judge_explained(
+    rt: &HostRuntime,
+    stem: &str,
+    trace: &[u8],
+) -> Result<(), ScriptError> {
+    let alloc = rt.alloc();
+    let ran = explained(alloc, trace)?;
+    judge_width(alloc, &ran.written)?;
+    let got = format!(in alloc;
+        "{}{}",
+        ran.said,
+        str::from_utf8(&ran.written).unwrap_or("?")
+    )?;
+    match read_beside(rt, stem, ".explained") {
+        Ok(want) => same(
+            alloc,
+            got.as_bytes(),
+            want.as_bytes(),
+            "gmp explain wrote another line",
+        ),
+        Err(error) if error.kind() == ErrorKind::NotFound => Ok(()),
+        Err(error) => Err(ScriptError::Io(error)),
+    }
+}
+
+/// `gmp draw` draws the trace as the picture beside it, if one is.
+fn judge_drawn(rt: &HostRuntime, stem: &str, trace: &[u8]) -> Result<(), ScriptError> {
+    let alloc = rt.alloc();
+    let ran = drawn(alloc, trace)?;
+    if ran.status != 0 {
+        return Err(ScriptError::line(alloc, 0, ran.said.trim_end()));
+    }
+    match read_beside(rt, stem, ".svg") {
+        Ok(want) => same(
+            alloc,
+            &ran.written,
+            want.as_bytes(),
+            "gmp draw wrote another line",
+        ),
+        Err(error) if error.kind() == ErrorKind::NotFound => Ok(()),
+        Err(error) => Err(ScriptError::Io(error)),
+    }
+}
+
+/// The trace of this name is not right, and `gmp explain` says why: how many calls it has, or what falls short.
+pub fn judged_wrong(rt: &HostRuntime, name: &str) -> Result<usize, ScriptError> {
+    let stem = name.strip_suffix(".wrong").unwrap_or(name);
+    let trace = fs::read_to_string(rt, name)?;
+    judge_explained(rt, stem, trace.as_bytes())?;
+    Ok(trace.matches(" -> ").count())
+}
+
 /// The trace cut at each entry, and its parts joined.
 fn judge_cuts(alloc: Global, trace: &[u8]) -> Result<(), ScriptError> {
     match cut_everywhere(alloc, trace, MOST_CUTS, 1) {
@@ -105,5 +172,8 @@ pub fn judged(rt: &HostRuntime, name: &str) -> Result<usize, ScriptError> {
     judge_read(rt.alloc(), trace.as_bytes())?;
     judge_check(rt, stem, trace.as_bytes())?;
     judge_cuts(rt.alloc(), trace.as_bytes())?;
+    judge_explained(rt, stem, trace.as_bytes())?;
+    judge_drawn(rt, stem, trace.as_bytes())?;
+    judge_reasons(rt.alloc(), trace.as_bytes())?;
     Ok(trace.matches(" -> ").count())
 }

@@ -1,7 +1,9 @@
-//! What an entry did (`Deed`), and who is told (`Listener`).
+//! What an entry did (`Deed`, and `communication` on a channel), and who is told (`Listener`).
+ghost use Rattle.std.specs.Prelude.{◌≡◌};
+ghost use Rattle.gmp_seq.specs.Run.{communication};
 
-use gmp_base::{GNo, PNo};
-use gmp_seq::{Entry, Goroutine};
+use gmp_base::{Case, GNo, PNo};
+use gmp_seq::{Call, Entry, Goroutine, Reply, Taken};
 use std::alloc::AllocError;
 
 /// What one entry did.
@@ -22,4 +24,23 @@ pub struct Deed<'a> {
 pub trait Listener {
     /// An entry was a step. The rows are what each goroutine does after it.
     fn hear(&mut self, deed: &Deed, rows: &[Goroutine]) -> Result<(), AllocError>;
+}
+
+/// The communication that an entry records: what was offered, and what became of it. A select's is that of the case it took.
+pub fn communication(entry: &Entry) -> Option<(Case, Taken)>
+    ensures { result ≡ communication entry.now.call entry.now.reply }
+{
+    match (&entry.call, entry.reply) {
+        (Call::Send(c, v), Reply::Sent(to)) => Some((Case::Send(*c, *v), Taken::Sent(to))),
+        (Call::Recv(c), Reply::Got(v, sent, from)) => {
+            Some((Case::Recv(*c), Taken::Got(v, sent, from)))
+        }
+        (Call::Select(cases, _, _), Reply::Chose(i, taken)) => {
+            match cases.as_slice().get(usize::from(i)) {
+                Some(case) => Some((*case, taken)),
+                None => None,
+            }
+        }
+        _ => None,
+    }
 }

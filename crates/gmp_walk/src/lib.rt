@@ -11,8 +11,10 @@
 #![tactic(auto)]
 
 mod deed;
+mod places;
 mod post;
-mod walk;
+mod walking;
 
-pub use deed::{Deed, Listener};
-pub use walk::{Walked, walk};
+pub use deed::{Deed, Listener, communication};
+pub use places::{channel_at, goroutine_at, machine_at, processor_at};
+pub use walking::{Walked, first_number, walk};

@@ -2,6 +2,7 @@
 //! epoch.
 
 use crate::deed::Deed;
+use crate::places::{goroutine_at, processor_at};
 use gmp_base::{GNo, MNo, PNo};
 use gmp_seq::{Call, Entry, Goroutine, Reply, Status};
 use gmp_start::Start;
@@ -40,6 +41,14 @@ fn named(entry: &Entry) -> Option<GNo> {
     }
 }
 
+/// Whom a claim is of.
+fn claimed(call: &Call) -> Option<GNo> {
+    match call {
+        Call::Claim(r) => Some(r.g),
+        _ => None,
+    }
+}
+
 /// Whether goroutines become ready by the entry that it doesn't name.
 fn wakes_many(reply: Reply) -> bool {
     match reply {
@@ -66,13 +75,17 @@ impl Posts {
     pub fn begin(&mut self, start: &Start) {
         for (p, holder) in start.holders.iter().enumerate() {
             if let Some(m) = holder {
-                self.machines[usize::from(m.0)].p = Some(PNo(p as u8));
+                if let Some(post) = self.machines.get_mut(usize::from(m.0)) {
+                    post.p = Some(processor_at(p));
+                }
             }
         }
         for (g, row) in start.goroutines.iter().enumerate() {
             match row.status {
                 Status::Running(m) | Status::Calling(m) => {
-                    self.machines[usize::from(m.0)].g = Some(GNo(g as u16));
+                    if let Some(post) = self.machines.get_mut(usize::from(m.0)) {
+                        post.g = Some(goroutine_at(g));
+                    }
                 }
                 _ => {}
             }
@@ -87,10 +100,7 @@ impl Posts {
         rows: &[Goroutine],
     ) -> Result<Deed<'a>, AllocError> {
         let before = self.machines[usize::from(entry.m.0)];
-        let g = match entry.call {
-            Call::Claim(r) => Some(r.g),
-            _ => before.g,
-        };
+        let g = claimed(&entry.call).or(before.g);
         self.note_ready(entry, rows)?;
         self.move_on(entry);
         Ok(Deed {
@@ -107,7 +117,7 @@ impl Posts {
         self.readied.clear();
         if wakes_many(entry.reply) {
             for (g, row) in rows.iter().enumerate() {
-                self.note(GNo(g as u16), row)?;
+                self.note(goroutine_at(g), row)?;
             }
         } else if let Some(g) = named(entry) {
             if let Some(row) = rows.get(usize::from(g.0)) {
@@ -131,12 +141,12 @@ impl Posts {
     /// The machine's goroutine and processor after the entry.
     fn move_on(&mut self, entry: &Entry) {
         let post = &mut self.machines[usize::from(entry.m.0)];
-        match (&entry.call, entry.reply) {
-            (Call::Claim(r), Reply::Held) => post.g = Some(r.g),
-            (Call::Yield | Call::Leave(_), Reply::Shelved(_)) => post.g = None,
-            (Call::Exit, _) | (_, Reply::Waits) => post.g = None,
-            (_, Reply::Proc(p) | Reply::Runs(p)) => post.p = Some(p),
-            (_, Reply::Idle(_) | Reply::Entered(_, _)) => post.p = None,
+        match entry.reply {
+            Reply::Held => post.g = claimed(&entry.call),
+            Reply::Shelved(_) | Reply::Waits | Reply::Dead | Reply::MainEnded => post.g = None,
+            Reply::Proc(p) => post.p = Some(p),
+            Reply::Runs(p) => post.p = Some(p),
+            Reply::Idle(_) | Reply::Entered(_, _) => post.p = None,
             _ => {}
         }
     }

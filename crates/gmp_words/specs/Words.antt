@@ -14,6 +14,8 @@ name_of task.Step = codes "step"
 name_of task.Run = codes "run"
 name_of task.Check = codes "check"
 name_of task.Cut = codes "cut"
+name_of task.Explain = codes "explain"
+name_of task.Draw = codes "draw"
 
 -- the word behind the program's name is this task's
 abbrev pub is_named : {W : Type 0} → (W → List ℕ) → List W → Task → Bool
@@ -55,7 +57,7 @@ abbrev pub behind : {W : Type 0} → List W → List W
 behind words = drop 2 words
 
 -- The settings are what the words say: the task that they name, the number that they give each option behind it, or its default, and the
--- flag.
+-- flags.
 pub record AreSaid {W : Type 0} (text : W → List ℕ) (words : List W) (s : Settings) : Type 0 where
   pub task : is_named text words s.task ≡ true
   pub procs : number_given text (behind words) (codes "--procs") 1 ≡ Some s.procs
@@ -67,3 +69,6 @@ pub record AreSaid {W : Type 0} (text : W → List ℕ) (words : List W) (s : Se
   pub random : number_given text (behind words) (codes "--random") 0 ≡ Some s.random
   pub trace : s.trace ≡ is_given text (behind words) (codes "--trace")
   pub at : number_given text (behind words) (codes "--at") 0 ≡ Some s.at
+  pub json : s.json ≡ is_given text (behind words) (codes "--json")
+  pub from : number_given text (behind words) (codes "--from") 0 ≡ Some s.from
+  pub to : number_given text (behind words) (codes "--to") 18446744073709551615 ≡ Some s.to

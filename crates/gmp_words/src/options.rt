@@ -16,6 +16,10 @@ pub enum Task {
     Check,
     /// Reads a trace, checks it, and prints the part of it from an entry on.
     Cut,
+    /// Reads a trace, checks it, and says in words what it tells of its run.
+    Explain,
+    /// Reads a trace, checks it, and prints a picture of it.
+    Draw,
 }
 
 /// What the command line says: the task, and the number of each option.
@@ -40,6 +44,12 @@ pub struct Settings {
     pub trace: bool,
     /// The entry from which the part of a trace begins, counted from 0.
     pub at: u64,
+    /// Whether facts are told as one JSON object, and not as lines.
+    pub json: bool,
+    /// The first entry of a picture.
+    pub from: u64,
+    /// The entry before which a picture ends.
+    pub to: u64,
     pub ghost procs_in_range: { (1 ≤ procs) × (procs ≤ 32) },
     pub ghost machines_in_range: { (1 ≤ machines) × (machines ≤ 64) },
     pub ghost channels_in_range: { channels ≤ 1024 },

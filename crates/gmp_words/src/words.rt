@@ -1,9 +1,9 @@
 //! Reads the words of the command line. `clap` reads it first and says what is wrong; then the numbers are read anew by `Numeric`.
 //! Each option and each command is a function or a constant here, with its texts.
 
-ghost use Rattle.std.specs.Prelude.{◌≡◌, ◌≢◌, ◌⊎◌, string_bytes, true, IfOk, IfErr, IfSome};
+ghost use Rattle.std.specs.Prelude.{◌≡◌, ◌≢◌, ◌⊎◌, codes, string_bytes, true, Some, IfOk, IfErr, IfSome};
 ghost use Rattle.gmp_words.specs.Said.{is_of_words};
-ghost use Rattle.gmp_words.specs.Words.{AreSaid, behind, is_given, is_named};
+ghost use Rattle.gmp_words.specs.Words.{AreSaid, behind, is_given, is_named, number_given};
 ghost use Rattle.clap.specs.Values.{kind_of};
 
 use crate::ended::Ended;
@@ -88,12 +88,31 @@ const AT: Numeric = Numeric {
     default: 0,
 };
 
+const FROM: Numeric = Numeric {
+    id: "from",
+    option: "--from",
+    help: "The first entry that is drawn, 0 to 18446744073709551615 [default: 0]",
+    least: 0,
+    most: u64::MAX,
+    default: 0,
+};
+
+const TO: Numeric = Numeric {
+    id: "to",
+    option: "--to",
+    help: "The entry before which the picture ends [default: 5000 entries behind the first]",
+    least: 0,
+    most: u64::MAX,
+    default: u64::MAX,
+};
+
 /// The program's version, and that of the traces that it writes and reads.
 const VERSION: &str = "0.1.0 (gmp-trace 1, 2)";
 
 /// What stands behind the help of the program.
 const STATUSES: &str =
-    "A script, or for check and cut a trace, comes on standard input; what is asked for goes to standard output.
+    "A script, or for check, cut, explain and draw a trace, comes on standard input; what is asked for goes to standard
+output.
 
 Exit status:
   0   main ended, the trace is right, or help or the version was asked for
@@ -132,6 +151,19 @@ before entry N, which anybody can check alone.
 
 Exit status: 0 the part was written, 1 the trace is not right (the first bad line is named), or bad input or output,
 5 out of memory, 64 bad command line, or there is no such part.";
+
+const EXPLAIN_INPUT: &str =
+    "The trace comes on standard input, and what it tells of its run goes to standard output, one fact a line: how it ended,
+what each goroutine does and since when, who waits for whom, and what each machine did. Of an entry that is no step
+it says which replies are allowed there, or what is missing.
+
+Exit status: as of check.";
+
+const DRAW_INPUT: &str =
+    "The trace comes on standard input, and a picture of it (SVG) goes to standard output: a lane for each machine and
+each channel, from left to right by entries.
+
+Exit status: as of check.";
 
 /// The command with these options.
 fn with<'a>(
@@ -189,6 +221,27 @@ fn cut<'a>(alloc: Global) -> Result<Command<'a>, AllocError> {
     with(alloc, cut, &[AT])
 }
 
+/// The command `explain`, with its flag.
+fn explain<'a>(alloc: Global) -> Result<Command<'a>, AllocError> {
+    Command::new(alloc, "explain")
+        .about("Reads a trace, checks it and says what it tells of its run")
+        .after_help(EXPLAIN_INPUT)
+        .arg(
+            Arg::new(alloc, "json")
+                .long("json")
+                .action(ArgAction::SetTrue)
+                .help("Prints one JSON object, and not lines"),
+        )
+}
+
+/// The command `draw`, with its options.
+fn draw<'a>(alloc: Global) -> Result<Command<'a>, AllocError> {
+    let draw = Command::new(alloc, "draw")
+        .about("Reads a trace, checks it and prints a picture of it")
+        .after_help(DRAW_INPUT);
+    with(alloc, draw, &[FROM, TO])
+}
+
 /// The program with all its commands.
 fn command<'a>(alloc: Global) -> Result<Command<'a>, AllocError> {
     Command::new(alloc, "gmp")
@@ -201,7 +254,9 @@ fn command<'a>(alloc: Global) -> Result<Command<'a>, AllocError> {
         .subcommand(step(alloc)?)?
         .subcommand(run(alloc)?)?
         .subcommand(check(alloc))?
-        .subcommand(cut(alloc)?)
+        .subcommand(cut(alloc)?)?
+        .subcommand(explain(alloc)?)?
+        .subcommand(draw(alloc)?)
 }
 
 /// What a refusal by `clap` ends with: its own text, and for help or the version that was asked for status 0.
@@ -230,6 +285,8 @@ fn task(words: &[String]) -> Option<Task>
         b"run" => Some(Task::Run),
         b"check" => Some(Task::Check),
         b"cut" => Some(Task::Cut),
+        b"explain" => Some(Task::Explain),
+        b"draw" => Some(Task::Draw),
         _ => None,
     }
 }
@@ -251,6 +308,32 @@ fn is_given(words: &[String], flag: &[u8]) -> bool
     words.iter().any(|word| word.as_bytes() == flag)
 }
 
+/// What the options say to a command that reads a trace.
+#[derive(Clone, Copy)]
+struct OfTrace {
+    at: u64,
+    json: bool,
+    from: u64,
+    to: u64,
+}
+
+/// What the options say to a command that reads a trace.
+///
+/// None where a number is not written in digits alone, or is too great.
+fn of_trace(options: &[String]) -> Option<OfTrace>
+    ensures at { IfSome result (λ x. number_given string_bytes options.now (codes "--at") 0 ≡ Some x.at) }
+    ensures json { IfSome result (λ x. x.json ≡ is_given string_bytes options.now (codes "--json")) }
+    ensures from { IfSome result (λ x. number_given string_bytes options.now (codes "--from") 0 ≡ Some x.from) }
+    ensures to { IfSome result (λ x. number_given string_bytes options.now (codes "--to") 18446744073709551615 ≡ Some x.to) }
+{
+    Some(OfTrace {
+        at: AT.read(options)?,
+        json: is_given(options, b"--json"),
+        from: FROM.read(options)?,
+        to: TO.read(options)?,
+    })
+}
+
 /// What the words say for this task.
 ///
 /// None where a number is out of range, or is not written in digits alone.
@@ -259,6 +342,7 @@ fn settings_of(task: Task, words: &[String]) -> Option<Settings>
     ensures { IfSome result (AreSaid string_bytes words.now) }
 {
     let options = behind(words);
+    let of_trace = of_trace(options)?;
     Some(Settings {
         task,
         procs: PROCS.read(options)? as u8,
@@ -269,7 +353,10 @@ fn settings_of(task: Task, words: &[String]) -> Option<Settings>
         acts: ACTS.read(options)? as u32,
         random: RANDOM.read(options)?,
         trace: is_given(options, b"--trace"),
-        at: AT.read(options)?,
+        at: of_trace.at,
+        json: of_trace.json,
+        from: of_trace.from,
+        to: of_trace.to,
     })
 }
 

@@ -1,15 +1,11 @@
-use Rattle.std.proofs.Common.{◌≡◌, ℕ, List, Option, Some, None, Result, Ok, Err, IfErr, IfSome, subst}
+use Rattle.std.proofs.Common.{◌≡◌, ℕ, List, Option, Result, Ok, Err, IfErr, IfSome}
 use Rattle.gmp_trace.specs.declared.bad.Bad.{Bad}
 use Rattle.gmp_trace.specs.declared.trace.Trace.{Trace}
+use Rattle.gmp_check_cli.proofs.Inputs.{of_input}
 use Rattle.gmp_check_cli.specs.Check.{HasNoRightTrace, IsBadLine}
 use Rattle.gmp_words.specs.declared.ended.Ended.{Ended}
 use Rattle.gmp_words.specs.declared.said.Said.TheVariants.{BadTrace}
 use Rattle.gmp_check_cli.proofs.checking.right_trace.Goals as goal
-
--- what holds of the bytes that were read holds of the input, where it is known
-of_input : (input : Option (List ℕ)) (bytes : List ℕ) (P : List ℕ → Type 0) → IfSome input (λ all. bytes ≡ all) → P bytes → IfSome input P
-of_input None bytes P same holds = tt
-of_input (Some all) bytes P same holds = subst P same holds
 
 -- the same of each bad line that is told
 of_told : (r : Result Trace Ended) (input : Option (List ℕ)) (bytes : List ℕ) (P : Bad → List ℕ → Type 0) → IfSome input (λ all. bytes ≡ all)

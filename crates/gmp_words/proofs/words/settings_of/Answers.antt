@@ -28,6 +28,9 @@ returns c = record {
   random = search rules;
   trace = search rules;
   at = search rules;
+  json = search rules;
+  from = search rules;
+  to = search rules;
 }
 
 pub invariant_of-result : goal.invariant_of-result

@@ -1,0 +1,2 @@
+pub mod Svg
+pub mod Position

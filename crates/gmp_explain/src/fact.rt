@@ -1,0 +1,135 @@
+//! A fact of a run (`Fact`), and who is told it (`Sink`). `Display` of a fact is its line, which has at most 120 columns: a list that is
+//! longer is told as several facts.
+
+use crate::doing::{Dealing, Doing};
+use crate::heard::{Lost, Way};
+use gmp_base::{CNo, GNo, MNo, PNo};
+use gmp_check::Need;
+use gmp_seq::{Mode, Offer, Status};
+use gmp_trace::{CALLS, End, call_name};
+use std::alloc::AllocError;
+use std::fmt;
+
+/// What goroutines have to do with a channel.
+#[derive(Clone, Copy, Debug, PartialEq, Eq)]
+pub enum Role {
+    WaitsToSend,
+    WaitsToReceive,
+    Sent,
+    Received,
+    Closed,
+}
+
+/// What a goroutine alone has ever done that another waits for.
+#[derive(Clone, Copy, Debug, PartialEq, Eq)]
+pub enum Help {
+    Sent(CNo),
+    Received(CNo),
+    Readied,
+}
+
+/// Whose calls are counted.
+#[derive(Clone, Copy, Debug, PartialEq, Eq)]
+pub enum Unit {
+    Machine(MNo),
+    Processor(PNo),
+}
+
+/// A call's place in the table of calls, and how often it was made.
+pub type Made = (usize, u64);
+
+/// One fact.
+#[derive(Clone, Copy)]
+pub enum Fact<'a> {
+    /// How the run ended, and after how many entries.
+    End(End, usize),
+    /// What a goroutine does, and since which entry (None: since before the trace's first); whether it waits though the run is over.
+    Goroutine(GNo, &'a Status, Option<u64>, bool),
+    /// A case of the select in which a goroutine waits.
+    Case(GNo, &'a Offer),
+    /// A `ready` of the goroutine that found it not parked.
+    Lost(GNo, Lost),
+    /// A channel: whether it is closed, its room, and how many values it holds.
+    Channel(CNo, bool, u32, usize),
+    /// Some of the values that a channel holds, the first first.
+    Values(CNo, &'a [u64]),
+    /// Some of those that have this to do with the channel.
+    Dealers(CNo, Role, &'a [GNo]),
+    /// The first waits for what the second alone ever did.
+    Link(GNo, GNo, Help),
+    /// The links before it are a cycle.
+    Cycle,
+    /// How many entries a machine or a processor has.
+    Entries(Unit, u64),
+    /// How often some calls were made there.
+    Calls(Unit, &'a [Made]),
+    /// The longest way of a ticket.
+    Longest(Way),
+    /// An entry that is no step, or some of its words, as the trace has them.
+    NoStep(&'a [u8]),
+    /// What a machine does before that, with its processor, and whether it spins.
+    Machine(MNo, Mode, Option<PNo>, bool),
+    /// A reply that is allowed, as a trace has it.
+    Allowed(&'a [u8]),
+    /// No reply is allowed, since this is missing.
+    Lacks(Need),
+    /// No reply is allowed, since the run was over.
+    Over,
+    /// The end to which the entries lead.
+    Leads(End),
+}
+
+/// Is told facts, one after another.
+pub trait Sink {
+    fn tell(&mut self, fact: &Fact) -> Result<(), AllocError>;
+}
+
+/// How a run ended, in the words of a trace.
+pub fn end_words(end: End) -> &'static str {
+    match end {
+        End::MainEnded => "main ended",
+        End::AllAsleep => "all asleep",
+        End::BookFull => "book full",
+        End::Running => "running",
+    }
+}
+
+/// What is missing, in words.
+pub fn need_words(need: Need) -> &'static str {
+    match need {
+        Need::Awake => "the machine is not awake",
+        Need::AwakeOrParked => "the machine is neither awake nor parked",
+        Need::Processor => "the machine holds no processor",
+        Need::NoProcessor => "the machine holds a processor",
+        Need::Goroutine => "the machine runs no goroutine",
+        Need::NoGoroutine => "the machine runs a goroutine",
+        Need::BlockingCall => "the machine makes no blocking call",
+        Need::NoSpin => "the machine spins",
+        Need::Ticket => "the ticket is not given out",
+    }
+}
+
+/// What a machine does, in words.
+pub fn mode_words(mode: Mode) -> &'static str {
+    match mode {
+        Mode::Awake => "awake",
+        Mode::Parked => "parked",
+        Mode::Calling => "in a blocking call",
+    }
+}
+
+/// What goroutines have to do with a channel, in words.
+pub fn role_words(role: Role) -> &'static str {
+    match role {
+        Role::WaitsToSend => "waiting to send",
+        Role::WaitsToReceive => "waiting to receive",
+        Role::Sent => "ever sent on by",
+        Role::Received => "ever received from by",
+        Role::Closed => "closed by",
+    }
+}
+
+/// A call's word.
+pub fn call_words(call: usize) -> &'static [u8] {
+    if call < CALLS { call_name(call) } else { b"" }
+}

@@ -1,0 +1,53 @@
+//! What is told of a trace: the state to which its entries lead, as the checker has it, and what was heard on the way.
+ghost use Rattle.std.specs.Prelude.{◌≢◌, IfErr, IfOk};
+ghost use Rattle.gmp_trace.specs.declared.bad.Why.TheVariants.{OutOfMemory};
+ghost use Rattle.gmp_trace.specs.Text.{content_of};
+ghost use Rattle.gmp_check.specs.Checked.{IsFirstBad};
+ghost use Rattle.gmp_explain.specs.Told.{IsTold};
+
+use crate::heard::Heard;
+use gmp_check::Replay;
+use gmp_start::Start;
+use gmp_trace::{Bad, TraceView, Watch, Why};
+use gmp_walk::walk;
+use std::alloc::Global;
+
+/// A run as it is told.
+#[derive(Drop)]
+pub struct Story {
+    /// The scheduler after its entries.
+    pub replay: Replay,
+    /// The same state in its parts.
+    pub last: Start,
+    /// How many entries there are.
+    pub steps: usize,
+    pub heard: Heard,
+}
+
+/// Memory was refused.
+const NO_MEMORY: Bad = Bad {
+    line: 0,
+    why: Why::OutOfMemory,
+};
+
+/// What is told of a trace whose entries are steps. Of one with an entry that is none, the story ends before it.
+///
+/// The watch is told at each 65,536th entry how many were played.
+pub fn story_of<W: Watch>(alloc: Global, trace: TraceView, watch: &mut W) -> Result<Story, Bad>
+    ensures told { IfOk result (λ s. IsTold (content_of trace.entry) s.steps s.replay.state s.last) }
+    ensures wrong { IfErr result (λ bad. bad.why ≢ OutOfMemory → IsFirstBad (content_of trace.entry) bad) }
+{
+    let Ok(mut heard) = Heard::new(alloc, trace.limits, trace.bodies) else {
+        return Err(NO_MEMORY);
+    };
+    let walked = walk(alloc, trace, &mut heard, watch)?;
+    let Ok(last) = walked.replay.copied(alloc) else {
+        return Err(NO_MEMORY);
+    };
+    Ok(Story {
+        replay: walked.replay,
+        last,
+        steps: walked.steps,
+        heard,
+    })
+}
