@@ -72,16 +72,12 @@ fn tell_before<S: Sink>(
         let spins = last.spinning.get(i).copied().unwrap_or(false);
         sink.tell(&Fact::Machine(m, *mode, held_by(last, m), spins))?;
     }
-    let Some(g) = g else {
-        return Ok(());
-    };
-    match last.goroutines.get(usize::from(g.0)) {
-        Some(row) => {
-            let since = story.heard.since.get(usize::from(g.0)).copied().flatten();
-            sink.tell(&Fact::Goroutine(g, &row.status, since, false))
+    if let Some(g) = g {
+        if let Some(status) = story.does(g) {
+            sink.tell(&Fact::Goroutine(g, status, story.since(g), false))?;
         }
-        None => Ok(()),
     }
+    Ok(())
 }
 
 /// The replies that are allowed, or why there is none.

@@ -45,21 +45,16 @@ fn tell_cases<S: Sink>(g: GNo, status: &Status, sink: &mut S) -> Result<(), Allo
 }
 
 /// What a goroutine does, and the `ready` that it missed, where it waits for one.
-fn tell_goroutine<S: Sink>(
-    g: GNo,
-    row: &Goroutine,
-    story: &Story,
-    sink: &mut S,
-) -> Result<(), AllocError> {
-    let heard = &story.heard;
-    let i = usize::from(g.0);
-    let since = heard.since.get(i).copied().flatten();
+fn tell_goroutine<S: Sink>(g: GNo, story: &Story, sink: &mut S) -> Result<(), AllocError> {
+    let Some(status) = story.does(g) else {
+        return Ok(());
+    };
     let leak = story.replay.outcome() == Some(Outcome::MainEnded)
-        && matches!(row.status, Status::Waiting(_));
-    sink.tell(&Fact::Goroutine(g, &row.status, since, leak))?;
-    tell_cases(g, &row.status, sink)?;
-    if row.status.is_parked() {
-        if let Some(Some(lost)) = heard.lost.get(i) {
+        && matches!(status, Status::Waiting(_));
+    sink.tell(&Fact::Goroutine(g, status, story.since(g), leak))?;
+    tell_cases(g, status, sink)?;
+    if status.is_parked() {
+        if let Some(Some(lost)) = story.heard.lost.get(usize::from(g.0)) {
             sink.tell(&Fact::Lost(g, *lost))?;
         }
     }
@@ -199,8 +194,8 @@ fn tell_units<S: Sink>(alloc: Global, heard: &Heard, sink: &mut S) -> Result<(),
 /// All facts of the story.
 pub fn tell_story<S: Sink>(alloc: Global, story: &Story, sink: &mut S) -> Result<(), AllocError> {
     sink.tell(&Fact::End(End::of(story.replay.outcome()), story.steps))?;
-    for (g, row) in story.last.goroutines.iter().enumerate() {
-        tell_goroutine(goroutine_at(g), row, story, sink)?;
+    for g in 0..story.last.goroutines.len() {
+        tell_goroutine(goroutine_at(g), story, sink)?;
     }
     for (c, channel) in story.last.channels.iter().enumerate() {
         tell_channel(alloc, story, channel_at(c), channel, sink)?;

@@ -1,12 +1,16 @@
 //! What is told of a trace: the state to which its entries lead, as the checker has it, and what was heard on the way.
-ghost use Rattle.std.specs.Prelude.{◌≢◌, IfErr, IfOk};
+ghost use Rattle.std.specs.Prelude.{◌≡◌, ◌≢◌, IfErr, IfOk, option_copied};
+ghost use Rattle.gmp_seq.specs.Table.{status_at};
+ghost use Rattle.gmp_start.specs.Start.{table_of};
 ghost use Rattle.gmp_trace.specs.declared.bad.Why.TheVariants.{OutOfMemory};
 ghost use Rattle.gmp_trace.specs.Text.{content_of};
 ghost use Rattle.gmp_check.specs.Checked.{IsFirstBad};
 ghost use Rattle.gmp_explain.specs.Told.{IsTold};
 
 use crate::heard::Heard;
+use gmp_base::GNo;
 use gmp_check::Replay;
+use gmp_seq::Status;
 use gmp_start::Start;
 use gmp_trace::{Bad, TraceView, Watch, Why};
 use gmp_walk::walk;
@@ -22,6 +26,23 @@ pub struct Story {
     /// How many entries there are.
     pub steps: usize,
     pub heard: Heard,
+}
+
+impl Story {
+    /// What a goroutine does after the entries.
+    pub fn does(&self, g: GNo) -> Option<&Status>
+        ensures { option_copied result ≡ status_at (table_of self.now.last) g }
+    {
+        match self.last.goroutines.get(usize::from(g.0)) {
+            Some(row) => Some(&row.status),
+            None => None,
+        }
+    }
+
+    /// The entry since which the goroutine does that; None: since before the first.
+    pub(crate) fn since(&self, g: GNo) -> Option<u64> {
+        *self.heard.since.get(usize::from(g.0))?
+    }
 }
 
 /// Memory was refused.
