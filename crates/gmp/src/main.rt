@@ -1,8 +1,8 @@
 //! The program `gmp`: runs scripts of goroutines, in one thread (`step`) or in several (`run`), and prints what was done; and checks what
-//! was printed (`check`), and cuts it (`cut`).
+//! was printed (`check`), cuts it (`cut`), says what it tells (`explain`) and draws it (`draw`).
 //!
 //! It hands the commands what the host has: standard input and output, the memory, the threads and the clock. What each command promises
-//! stands in its crate (gmp_cli, gmp_run_cli, gmp_check_cli), what the command line may say in gmp_words.
+//! stands in its crate (gmp_cli, gmp_run_cli, gmp_check_cli, gmp_explain, gmp_draw), what the command line may say in gmp_words.
 //!
 //! Each way out is an `Ended`: a status, and a text that goes to standard error, or to standard output where the status is 0. Nothing is
 //! refused here that the commands don't refuse. Where even the last words can't be written the status stays, so that a script that calls
@@ -15,7 +15,7 @@ use crate::line::Line;
 use gmp_check_cli::{check, cut};
 use gmp_cli::step;
 use gmp_draw::draw;
-use gmp_explain::{Explained, explain};
+use gmp_explain::explain;
 use gmp_host::Since;
 use gmp_run_cli::run;
 use gmp_words::{Ended, Task, arguments, settings};
@@ -35,8 +35,10 @@ fn finish(rt: &(impl Print + Eprint), ended: &Ended) -> ExitCode {
     ExitCode::from(ended.status)
 }
 
-/// Says how it ended, and writes the facts behind that.
-fn tell(rt: &(impl Print + Eprint), explained: &Explained) -> ExitCode {
+/// Explains the trace on standard input: says how that ended, and writes the facts behind it.
+fn tell(rt: &HostRuntime, json: bool) -> ExitCode {
+    let mut line = Line::on(rt, rt.stderr().is_terminal());
+    let explained = explain(rt.alloc(), json, &mut rt.reader(), &mut line);
     let code = finish(rt, &explained.ended);
     match print!(rt; "{}", explained.facts) {
         Ok(()) => code,
@@ -70,11 +72,7 @@ fn main(rt: HostRuntime) -> ExitCode {
                 &mut Line::on(&rt, rt.stderr().is_terminal()),
             ),
             Task::Cut => cut(alloc, settings.at, &mut rt.reader(), &mut io::writer(&rt)),
-            Task::Explain => {
-                let mut line = Line::on(&rt, rt.stderr().is_terminal());
-                let explained = explain(alloc, settings.json, &mut rt.reader(), &mut line);
-                return tell(&rt, &explained);
-            }
+            Task::Explain => return tell(&rt, settings.json),
             Task::Draw => draw(
                 alloc,
                 settings.from,

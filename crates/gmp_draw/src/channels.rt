@@ -22,8 +22,10 @@ pub struct Level {
 /// What an entry did beside a change of the level.
 #[derive(Clone, Copy, Debug, PartialEq, Eq)]
 pub enum Happening {
-    /// A value went from a sender or to a receiver that waited.
+    /// A value went from a sender to a receiver, past the buffer.
     Handed,
+    /// A value went out of the buffer, and that of a sender that waited came in.
+    Moved,
     Closed,
 }
 
@@ -61,6 +63,7 @@ enum Change {
     Up,
     Down,
     Handed,
+    Relayed,
     Nothing,
 }
 
@@ -76,7 +79,8 @@ fn change_by(taken: Taken) -> Change {
     match taken {
         Taken::Sent(None) => Change::Up,
         Taken::Got(_, true, None) => Change::Down,
-        Taken::Sent(Some(_)) | Taken::Got(_, true, Some(_)) => Change::Handed,
+        Taken::Sent(Some(_)) => Change::Handed,
+        Taken::Got(_, true, Some(_)) => Change::Relayed,
         Taken::Got(_, false, _) | Taken::Failed => Change::Nothing,
     }
 }
@@ -182,7 +186,17 @@ impl Channels {
             Change::Up => self.shift(c, number, true),
             Change::Down => self.shift(c, number, false),
             Change::Handed => self.note(c, number, Happening::Handed),
+            Change::Relayed if self.has_buffer(c) => self.note(c, number, Happening::Moved),
+            Change::Relayed => self.note(c, number, Happening::Handed),
             Change::Nothing => Ok(()),
+        }
+    }
+
+    /// Whether the channel has a buffer.
+    fn has_buffer(&self, c: CNo) -> bool {
+        match self.list.get(usize::from(c.0)) {
+            Some(channel) => channel.capacity > 0,
+            None => false,
         }
     }
 

@@ -65,7 +65,7 @@ static LEGEND: [&[u8]; 19] = [
     b"<rect class=\"l\" x=\"940\" y=\"43\" width=\"30\" height=\"9\"/>",
     b"<text class=\"g\" x=\"976\" y=\"47\">fill level</text>\n",
     b"<rect class=\"t\" x=\"1064\" y=\"34\" width=\"2\" height=\"18\"/>",
-    b"<text class=\"g\" x=\"1072\" y=\"47\">handed over</text>\n",
+    b"<text class=\"g\" x=\"1072\" y=\"47\">value passed</text>\n",
     b"<path class=\"x\" d=\"M1168 38L1178 48M1178 38L1168 48\"/>",
     b"<text class=\"g\" x=\"1184\" y=\"47\">closed</text>\n",
 ];

@@ -146,12 +146,7 @@ fn put_title(pen: &mut Pen, span: &Span) -> Result<(), AllocError> {
         Doing::Spins => pen.put(b"spinning")?,
         Doing::Parked => pen.put(b"parked")?,
     }
-    let last = span.entries.to.saturating_sub(1);
-    match span.opening {
-        Some(first) => pen.put_named(b", entries ", first)?,
-        None => pen.put(b", entries before")?,
-    }
-    pen.put_named(b" to ", last)?;
+    pen.put_entries(span.opening, span.entries.to)?;
     pen.put_line(span.opening)?;
     if span.call != span.opening {
         pen.put_line(span.call)?;

@@ -75,11 +75,7 @@ fn put_level(
     let height = height_of(level.values, capacity);
     pen.put_named(b"<g><title>", level.values)?;
     pen.put_named(b" of ", capacity)?;
-    match level.opening {
-        Some(first) => pen.put_named(b", entries ", first)?,
-        None => pen.put(b", entries before")?,
-    }
-    pen.put_named(b" to ", level.entries.to.saturating_sub(1))?;
+    pen.put_entries(level.opening, level.entries.to)?;
     pen.put_line(level.opening)?;
     pen.put(b"</title>")?;
     let area = Area {
@@ -92,18 +88,19 @@ fn put_level(
     pen.put(b"</g>\n")
 }
 
-/// A bar where a value is handed over, and a cross where the channel is closed.
+/// A bar where a value passes from a sender to a receiver or to a full buffer, and a cross where the channel is closed.
 fn put_event(pen: &mut Pen, layout: &Layout, event: &Event, y: u64) -> Result<(), AllocError> {
     let x = layout.columns.middle(event.number);
     pen.put(b"<g><title>")?;
     match event.happening {
         Happening::Handed => pen.put(b"handed over")?,
+        Happening::Moved => pen.put(b"one out, one in")?,
         Happening::Closed => pen.put(b"closed")?,
     }
     pen.put_line(Some(event.number))?;
     pen.put(b"</title>")?;
     match event.happening {
-        Happening::Handed => {
+        Happening::Handed | Happening::Moved => {
             let bar = Area {
                 x: x.saturating_sub(1),
                 y,

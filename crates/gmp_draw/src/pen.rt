@@ -64,6 +64,20 @@ impl<'a> Pen<'a> {
         let entry = self.entries.get(number.wrapping_sub(self.first) as usize)?;
         Some(call_name(call_place(&entry.call)))
     }
+
+    /// Writes which entries something lasts for: from one on, where it began in the trace, to before another.
+    pub fn put_entries(&mut self, first: Option<u64>, to: u64) -> Result<(), AllocError> {
+        let last = to.saturating_sub(1);
+        match first {
+            None => self.put_named(b", up to entry ", last),
+            Some(first) if first == last => self.put_named(b", entry ", first),
+            Some(first) => {
+                self.put_named(b", entries ", first)?;
+                self.put_named(b" to ", last)
+            }
+        }
+    }
+
     /// What is written.
     pub fn finish(self) -> Vec<u8> {
         self.out

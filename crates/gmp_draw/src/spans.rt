@@ -75,7 +75,7 @@ fn begun_by(deed: &Deed) -> Option<Doing> {
 fn is_last(call: &Call, reply: Reply) -> bool {
     match (call, reply) {
         (Call::Yield | Call::Leave(_), Reply::Shelved(_)) => true,
-        (Call::Exit | Call::Unspin, _) | (_, Reply::Waits) => true,
+        (Call::Exit, _) | (_, Reply::Waits) => true,
         _ => false,
     }
 }
@@ -108,6 +108,14 @@ impl Spans {
         }
     }
 
+    /// Whether the entry is the last of what its machine does. One that runs a goroutine may stop to spin, though it doesn't.
+    fn is_end(&self, m: MNo, deed: &Deed) -> bool {
+        match (&deed.entry.call, self.open.get(usize::from(m.0))) {
+            (Call::Unspin, Some(Some(span))) => span.doing == Doing::Spins,
+            (call, _) => is_last(call, deed.entry.reply),
+        }
+    }
+
     /// Notes what an entry began and ended.
     pub fn hear(&mut self, deed: &Deed) -> Result<(), AllocError> {
         let m = deed.entry.m;
@@ -118,7 +126,7 @@ impl Spans {
             if is_asked(&deed.entry.call) {
                 self.ask(m, deed.number);
             }
-            if is_last(&deed.entry.call, deed.entry.reply) {
+            if self.is_end(m, deed) {
                 self.close(m, deed.number.saturating_add(1))?;
             }
         }

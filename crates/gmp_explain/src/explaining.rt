@@ -14,7 +14,6 @@ use crate::told::story_of;
 use gmp_check::OutOfMemory;
 use gmp_check_cli::{Progress, judged};
 use gmp_trace::{Bad, End, Trace, Why, read};
-use gmp_walk::first_number;
 use gmp_words::{Ended, MAX_TRACE, Said, input};
 use std::alloc::Global;
 use std::io::Read;
@@ -28,23 +27,19 @@ pub struct Explained {
 }
 
 /// The facts of a right trace, or why its first wrong line is wrong.
-fn tell<S: Sink, P: Progress>(
+fn tell<S: Sink>(
     alloc: Global,
     trace: &Trace,
     bad: Option<Bad>,
     sink: &mut S,
-    progress: &mut P,
 ) -> Result<(), OutOfMemory> {
-    let Ok(story) = story_of(alloc, trace.view(), progress) else {
+    let Ok(story) = story_of(alloc, trace.view(), &mut ()) else {
         return Err(OutOfMemory);
     };
     match bad {
         None => Ok(tell_story(alloc, &story, sink)?),
         Some(bad) if bad.why == Why::Step => match trace.entries.get(story.steps) {
-            Some(entry) => {
-                let number = first_number(trace.view().beginning).wrapping_add(story.steps as u64);
-                tell_riddle(alloc, &story, number, entry, sink)
-            }
+            Some(entry) => tell_riddle(alloc, &story, entry, sink),
             None => Ok(()),
         },
         Some(_) => Ok(sink.tell(&Fact::Leads(End::of(story.replay.outcome())))?),
@@ -52,36 +47,29 @@ fn tell<S: Sink, P: Progress>(
 }
 
 /// The facts, as lines or as one JSON object.
-fn facts<P: Progress>(
+fn facts(
     alloc: Global,
     json: bool,
     trace: &Trace,
     bad: Option<Bad>,
-    progress: &mut P,
 ) -> Result<String, OutOfMemory> {
     if json {
         let mut object = Json::new(alloc);
-        tell(alloc, trace, bad, &mut object, progress)?;
+        tell(alloc, trace, bad, &mut object)?;
         return Ok(object.text()?);
     }
     let mut lines = Lines::new(alloc);
-    tell(alloc, trace, bad, &mut lines, progress)?;
+    tell(alloc, trace, bad, &mut lines)?;
     Ok(lines.text)
 }
 
 /// Why the trace that the bytes are is not right, where an entry is no step or the end is not that of the run; else nothing.
 /// It is read once more: who judged it has let it go.
-fn reasons<P: Progress>(
-    alloc: Global,
-    json: bool,
-    bytes: &[u8],
-    ended: &Ended,
-    progress: &mut P,
-) -> String {
+fn reasons(alloc: Global, json: bool, bytes: &[u8], ended: &Ended) -> String {
     if let Said::BadTrace(bad) = ended.said {
         if matches!(bad.why, Why::Step | Why::Outcome) {
             if let Ok(trace) = read(alloc, bytes) {
-                if let Ok(facts) = facts(alloc, json, &trace, Some(bad), progress) {
+                if let Ok(facts) = facts(alloc, json, &trace, Some(bad)) {
                     return facts;
                 }
             }
@@ -101,11 +89,11 @@ fn judge<P: Progress>(alloc: Global, json: bool, bytes: &[u8], progress: &mut P)
     let trace = match judged(alloc, bytes, progress) {
         Ok(trace) => trace,
         Err(ended) => {
-            let facts = reasons(alloc, json, bytes, &ended, progress);
+            let facts = reasons(alloc, json, bytes, &ended);
             return Explained { ended, facts };
         }
     };
-    match facts(alloc, json, &trace, None, progress) {
+    match facts(alloc, json, &trace, None) {
         Ok(facts) => Explained {
             ended: Ended::passed(),
             facts,

@@ -1,14 +1,11 @@
-//! A fact of a run (`Fact`), and who is told it (`Sink`). `Display` of a fact is its line, which has at most 120 columns: a list that is
-//! longer is told as several facts.
+//! A fact of a run (`Fact`), and who is told it (`Sink`). `Lines` has its line, `Json` its object.
 
-use crate::doing::{Dealing, Doing};
 use crate::heard::{Lost, Way};
-use gmp_base::{CNo, GNo, MNo, PNo};
+use gmp_base::{CNo, GNo, MNo, PNo, Readiness};
 use gmp_check::Need;
 use gmp_seq::{Mode, Offer, Status};
 use gmp_trace::{CALLS, End, call_name};
 use std::alloc::AllocError;
-use std::fmt;
 
 /// What goroutines have to do with a channel.
 #[derive(Clone, Copy, Debug, PartialEq, Eq)]
@@ -20,7 +17,7 @@ pub enum Role {
     Closed,
 }
 
-/// What a goroutine alone has ever done that another waits for.
+/// What a goroutine alone did in a trace that another waits for.
 #[derive(Clone, Copy, Debug, PartialEq, Eq)]
 pub enum Help {
     Sent(CNo),
@@ -41,34 +38,65 @@ pub type Made = (usize, u64);
 /// One fact.
 #[derive(Clone, Copy)]
 pub enum Fact<'a> {
-    /// How the run ended, and after how many entries.
-    End(End, usize),
-    /// What a goroutine does, and since which entry (None: since before the trace's first); whether it waits though the run is over.
-    Goroutine(GNo, &'a Status, Option<u64>, bool),
+    /// How the run ended, after so many entries of the trace, which begins with this one where it begins at a state.
+    End {
+        end: End,
+        entries: usize,
+        first: Option<u64>,
+    },
+    /// What a goroutine does, and since which entry (None: since before the trace's first). Whether it waits though the run is over.
+    Goroutine {
+        g: GNo,
+        status: &'a Status,
+        since: Option<u64>,
+        leak: bool,
+    },
     /// A case of the select in which a goroutine waits.
-    Case(GNo, &'a Offer),
+    Case {
+        g: GNo,
+        offer: &'a Offer,
+    },
     /// A `ready` of the goroutine that found it not parked.
-    Lost(GNo, Lost),
-    /// A channel: whether it is closed, its room, and how many values it holds.
-    Channel(CNo, bool, u32, usize),
-    /// Some of the values that a channel holds, the first first.
+    Lost {
+        g: GNo,
+        lost: Lost,
+    },
+    /// The latest ticket of a goroutine.
+    Latest(Readiness),
+    /// What a channel is.
+    Channel {
+        c: CNo,
+        closed: bool,
+        room: u32,
+        holds: usize,
+    },
+    /// The values that a channel holds, the first first.
     Values(CNo, &'a [u64]),
-    /// Some of those that have this to do with the channel.
+    /// Those that have this to do with the channel.
     Dealers(CNo, Role, &'a [GNo]),
-    /// The first waits for what the second alone ever did.
-    Link(GNo, GNo, Help),
-    /// The links before it are a cycle.
-    Cycle,
+    /// A goroutine waits for what another alone did.
+    Link {
+        g: GNo,
+        by: GNo,
+        help: Help,
+    },
+    /// The links are circles.
+    Cycles,
     /// How many entries a machine or a processor has.
     Entries(Unit, u64),
-    /// How often some calls were made there.
+    /// How often each call was made there.
     Calls(Unit, &'a [Made]),
     /// The longest way of a ticket.
     Longest(Way),
-    /// An entry that is no step, or some of its words, as the trace has them.
+    /// An entry that is no step, as the trace has it.
     NoStep(&'a [u8]),
-    /// What a machine does before that, with its processor, and whether it spins.
-    Machine(MNo, Mode, Option<PNo>, bool),
+    /// What a machine does before that.
+    Machine {
+        m: MNo,
+        mode: Mode,
+        holds: Option<PNo>,
+        spins: bool,
+    },
     /// A reply that is allowed, as a trace has it.
     Allowed(&'a [u8]),
     /// No reply is allowed, since this is missing.
@@ -123,9 +151,9 @@ pub fn role_words(role: Role) -> &'static str {
     match role {
         Role::WaitsToSend => "waiting to send",
         Role::WaitsToReceive => "waiting to receive",
-        Role::Sent => "ever sent on by",
-        Role::Received => "ever received from by",
-        Role::Closed => "closed by",
+        Role::Sent => "sent on in this trace by",
+        Role::Received => "received from in this trace by",
+        Role::Closed => "closed in this trace by",
     }
 }
 

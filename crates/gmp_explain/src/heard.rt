@@ -1,7 +1,7 @@
 //! What a walk hears and keeps (`Heard`): since when each goroutine does what it does, who ever dealt on each channel, what each machine and
 //! processor did, and the longest way of a ticket. `Parties` has who dealt, `Counts` the calls.
 
-use gmp_base::{CNo, Case, Fault, GNo, MNo, PNo};
+use gmp_base::{CNo, Case, Fault, GNo, MNo, PNo, Readiness};
 use gmp_seq::{Call, Goroutine, Limits, Reply, Taken};
 use gmp_trace::{CALLS, call_place};
 use gmp_walk::{Deed, Listener, communication};
@@ -115,7 +115,7 @@ pub struct Heard {
     pub since: Vec<Option<u64>>,
     /// By goroutine, the entry at which it became ready, until it is claimed.
     ready: Vec<Option<u64>>,
-    /// By goroutine, the last `ready` that was lost.
+    /// By goroutine, the last `ready` that was lost, if none was taken since.
     pub lost: Vec<Option<Lost>>,
     pub readiers: Vec<Readier>,
     pub parties: Parties,
@@ -140,7 +140,17 @@ fn moves_on(call: &Call, reply: Reply) -> bool {
     }
 }
 
+/// The ticket that comes from the shelf or goes onto it.
+fn moved(call: &Call, reply: Reply) -> Option<Readiness> {
+    match (call, reply) {
+        (Call::Take, Reply::Ticket(r)) => Some(r),
+        (Call::Put(r), _) => Some(*r),
+        _ => None,
+    }
+}
+
 impl Heard {
+    /// Nothing was heard yet.
     pub fn new(alloc: Global, limits: Limits, bodies: u16) -> Result<Self, AllocError> {
         let all = usize::from(bodies);
         Ok(Heard {
@@ -199,7 +209,7 @@ impl Heard {
                     self.parties.mark(c, r.g, Party::Received);
                 }
             }
-            (Case::Recv(Some(c)), Taken::Got(_, _, from)) => {
+            (Case::Recv(Some(c)), Taken::Got(_, true, from)) => {
                 self.parties.mark(c, g, Party::Received);
                 if let Some(relay) = from {
                     self.parties.mark(c, relay.sender.g, Party::Sent);
@@ -217,6 +227,9 @@ impl Heard {
                 if let Some(readier) = self.readiers.get_mut(i) {
                     let before = *readier;
                     *readier = before.and(g);
+                }
+                if let Some(lost) = self.lost.get_mut(i) {
+                    *lost = None;
                 }
             }
             Reply::Fault(Fault::NotParked) => {
@@ -259,6 +272,9 @@ impl Listener for Heard {
         self.count(deed.entry.m, deed.p, &deed.entry.call);
         if let Some(g) = deed.g {
             self.did(g, deed);
+        }
+        if let Some(r) = moved(&deed.entry.call, deed.entry.reply) {
+            self.changed(r.g, deed.number);
         }
         for g in deed.readied {
             self.became_ready(*g, deed.number);

@@ -4,10 +4,9 @@ use crate::doing::{Dealing, Doing};
 use crate::fact::{
     Fact, Help, Made, Sink, Unit, call_words, end_words, mode_words, need_words, role_words,
 };
-use crate::heard::{Lost, Way};
-use gmp_base::{CNo, GNo, MNo, PNo};
-use gmp_seq::{Mode, Offer, Status};
-use serde_json::{Map, Value, json};
+use gmp_base::GNo;
+use gmp_seq::{Offer, Status};
+use serde_json::{Value, json};
 use std::alloc::{AllocError, Global};
 
 /// Gathers the facts.
@@ -69,37 +68,14 @@ fn case(alloc: Global, g: GNo, offer: &Offer) -> Result<Value, AllocError> {
     json!(in alloc; {"fact": "case", "goroutine": g.0, "case": offer.case, "would": would})
 }
 
-fn lost(alloc: Global, g: GNo, lost: Lost) -> Result<Value, AllocError> {
-    json!(in alloc; {"fact": "lost ready", "goroutine": g.0, "by": lost.by.0, "at": lost.at})
+fn link(alloc: Global, g: GNo, by: GNo, help: Help) -> Result<Value, AllocError> {
+    let only = format!(in alloc; "{help}")?;
+    json!(in alloc; {"fact": "link", "goroutine": g.0, "waits_for": by.0, "the_only_one_that": only})
 }
 
-fn channel(alloc: Global, c: CNo, closed: bool, room: u32, n: usize) -> Result<Value, AllocError> {
-    json!(in alloc; {"fact": "channel", "channel": c.0, "closed": closed, "room": room, "holds": n})
-}
-
-fn link(alloc: Global, g: GNo, h: GNo, help: Help) -> Result<Value, AllocError> {
-    let alone = format!(in alloc; "{help}")?;
-    json!(in alloc; {"fact": "link", "goroutine": g.0, "waits_for": h.0, "which_alone_ever": alone})
-}
-
-fn entries(alloc: Global, unit: Unit, n: u64) -> Result<Value, AllocError> {
-    let of = format!(in alloc; "{unit}")?;
-    json!(in alloc; {"fact": "entries", "of": of, "entries": n})
-}
-
-fn machine(
-    alloc: Global,
-    m: MNo,
-    mode: Mode,
-    p: Option<PNo>,
-    spins: bool,
-) -> Result<Value, AllocError> {
-    let p = p.map(|p| p.0);
-    json!(in alloc; {"fact": "machine before", "machine": m.0, "is": mode_words(mode), "processor": p, "spins": spins})
-}
-
-fn longest(alloc: Global, way: Way) -> Result<Value, AllocError> {
-    json!(in alloc; {"fact": "longest", "goroutine": way.g.0, "ready": way.ready, "claimed": way.claimed})
+/// What the name of a machine or a processor is.
+fn named(alloc: Global, unit: Unit) -> Result<String, AllocError> {
+    format!(in alloc; "{unit}")
 }
 
 /// A fact of one word.
@@ -107,39 +83,87 @@ fn word(alloc: Global, fact: &str, key: &str, word: &str) -> Result<Value, Alloc
     json!(in alloc; {"fact": fact, (key): word})
 }
 
-/// The fact as an object.
-fn object(alloc: Global, fact: &Fact) -> Result<Value, AllocError> {
-    match fact {
-        Fact::End(end, n) => {
-            json!(in alloc; {"fact": "outcome", "outcome": end_words(*end), "entries": *n})
+/// The object of a goroutine, a channel or a cycle.
+fn of_goroutine(alloc: Global, fact: &Fact) -> Result<Value, AllocError> {
+    match *fact {
+        Fact::Goroutine {
+            g,
+            status,
+            since,
+            leak,
+        } => goroutine(alloc, g, status, since, leak),
+        Fact::Case { g, offer } => case(alloc, g, offer),
+        Fact::Lost { g, lost } => {
+            json!(in alloc; {"fact": "lost ready", "goroutine": g.0, "by": lost.by.0, "at": lost.at})
         }
-        Fact::Goroutine(g, status, since, leak) => goroutine(alloc, *g, status, *since, *leak),
-        Fact::Case(g, offer) => case(alloc, *g, offer),
-        Fact::Lost(g, by) => lost(alloc, *g, *by),
-        Fact::Channel(c, closed, room, n) => channel(alloc, *c, *closed, *room, *n),
+        Fact::Latest(r) => {
+            json!(in alloc; {"fact": "latest ticket", "goroutine": r.g.0, "epoch": r.epoch})
+        }
+        Fact::Channel {
+            c,
+            closed,
+            room,
+            holds,
+        } => {
+            json!(in alloc; {"fact": "channel", "channel": c.0, "closed": closed, "room": room, "holds": holds})
+        }
         Fact::Values(c, list) => {
             let list = values(alloc, list)?;
             json!(in alloc; {"fact": "values", "channel": c.0, "values": list})
         }
         Fact::Dealers(c, role, who) => {
             let who = goroutines(alloc, who)?;
-            json!(in alloc; {"fact": role_words(*role), "channel": c.0, "goroutines": who})
+            json!(in alloc; {"fact": role_words(role), "channel": c.0, "goroutines": who})
         }
-        Fact::Link(g, h, help) => link(alloc, *g, *h, *help),
-        Fact::Cycle => json!(in alloc; {"fact": "cycle"}),
-        Fact::Entries(unit, n) => entries(alloc, *unit, *n),
+        Fact::Link { g, by, help } => link(alloc, g, by, help),
+        _ => of_rest(alloc, fact),
+    }
+}
+
+/// The object of any other fact.
+fn of_rest(alloc: Global, fact: &Fact) -> Result<Value, AllocError> {
+    match *fact {
+        Fact::Entries(unit, n) => {
+            let of = named(alloc, unit)?;
+            json!(in alloc; {"fact": "entries", "of": of, "entries": n})
+        }
         Fact::Calls(unit, list) => {
-            let of = format!(in alloc; "{unit}")?;
+            let of = named(alloc, unit)?;
             let list = calls(alloc, list)?;
             json!(in alloc; {"fact": "calls", "of": of, "calls": list})
         }
-        Fact::Longest(way) => longest(alloc, *way),
+        Fact::Longest(way) => {
+            json!(in alloc; {"fact": "longest", "goroutine": way.g.0, "ready": way.ready, "claimed": way.claimed})
+        }
         Fact::NoStep(line) => word(alloc, "no step", "entry", text(alloc, line)?.as_str()),
-        Fact::Machine(m, mode, p, spins) => machine(alloc, *m, *mode, *p, *spins),
+        Fact::Machine {
+            m,
+            mode,
+            holds,
+            spins,
+        } => {
+            let holds = holds.map(|p| p.0);
+            json!(in alloc; {"fact": "machine before it", "machine": m.0, "is": mode_words(mode), "processor": holds, "spins": spins})
+        }
         Fact::Allowed(reply) => word(alloc, "allowed", "reply", text(alloc, reply)?.as_str()),
-        Fact::Lacks(need) => word(alloc, "none allowed", "since", need_words(*need)),
+        Fact::Lacks(need) => word(alloc, "none allowed", "since", need_words(need)),
         Fact::Over => word(alloc, "none allowed", "since", "the run was over"),
-        Fact::Leads(end) => word(alloc, "leads to", "outcome", end_words(*end)),
+        Fact::Leads(end) => word(alloc, "leads to", "outcome", end_words(end)),
+        _ => json!(in alloc; {"fact": "cycle"}),
+    }
+}
+
+/// The fact as an object.
+fn object(alloc: Global, fact: &Fact) -> Result<Value, AllocError> {
+    match *fact {
+        Fact::End {
+            end,
+            entries,
+            first,
+        } => {
+            json!(in alloc; {"fact": "outcome", "outcome": end_words(end), "entries": entries, "from": first})
+        }
+        _ => of_goroutine(alloc, fact),
     }
 }
 

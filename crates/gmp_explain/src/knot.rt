@@ -1,4 +1,4 @@
-//! Who waits for whom: cycles of goroutines each of which waits for what the next alone has ever done in this run.
+//! Who waits for whom: cycles of goroutines each of which waits for what the next alone did in this trace.
 //! It is what was seen, and no proof of what could be: another schedule may have another sender.
 
 use crate::fact::{Fact, Help, Sink};
@@ -16,12 +16,12 @@ struct Helper {
     help: Help,
 }
 
-/// The only goroutine of so many that ever did any of this on the channel.
-fn only(heard: &Heard, bodies: usize, c: CNo, any: &[Party]) -> Option<GNo> {
+/// The only goroutine of so many that did this on the channel.
+fn only(heard: &Heard, bodies: usize, c: CNo, party: Party) -> Option<GNo> {
     let mut found = None;
     for g in 0..bodies {
         let g = goroutine_at(g);
-        if any.iter().any(|party| heard.parties.has(c, g, *party)) {
+        if heard.parties.has(c, g, party) {
             if found.is_some() {
                 return None;
             }
@@ -31,19 +31,19 @@ fn only(heard: &Heard, bodies: usize, c: CNo, any: &[Party]) -> Option<GNo> {
     found
 }
 
-/// Who alone ever did what an offer waits for: a send or a close for a receiver, a receive for a sender.
+/// Who alone did what an offer waits for: a send for a receiver, a receive for a sender. Nobody waits on a channel that was closed.
 fn helper_on(heard: &Heard, bodies: usize, offer: &Offer) -> Option<Helper> {
     let c = offer.channel;
     match offer.deal {
         Deal::Send(_) => {
-            let g = only(heard, bodies, c, &[Party::Received])?;
+            let g = only(heard, bodies, c, Party::Received)?;
             Some(Helper {
                 g,
                 help: Help::Received(c),
             })
         }
         Deal::Receive => {
-            let g = only(heard, bodies, c, &[Party::Sent, Party::Closed])?;
+            let g = only(heard, bodies, c, Party::Sent)?;
             Some(Helper {
                 g,
                 help: Help::Sent(c),
@@ -122,10 +122,14 @@ fn tell_cycle<S: Sink>(
         let Some(helper) = next(helpers, here) else {
             return Ok(());
         };
-        sink.tell(&Fact::Link(here, helper.g, helper.help))?;
+        sink.tell(&Fact::Link {
+            g: here,
+            by: helper.g,
+            help: helper.help,
+        })?;
         here = helper.g;
         if here == first {
-            return sink.tell(&Fact::Cycle);
+            return Ok(());
         }
     }
     Ok(())
@@ -135,11 +139,16 @@ fn tell_cycle<S: Sink>(
 pub fn tell_cycles<S: Sink>(alloc: Global, story: &Story, sink: &mut S) -> Result<(), AllocError> {
     let helpers = helpers(alloc, story)?;
     let mut marks = vec![in alloc; 0usize; helpers.len()]?;
+    let mut found = false;
     for g in 0..helpers.len() {
         let g = goroutine_at(g);
         if let Some(first) = first_again(&helpers, &mut marks, g, usize::from(g.0) + 1) {
             tell_cycle(&helpers, first, sink)?;
+            found = true;
         }
+    }
+    if found {
+        sink.tell(&Fact::Cycles)?;
     }
     Ok(())
 }

@@ -12,6 +12,7 @@
 //! Refused is what `gmp check` refuses, an output that fails, and want of memory.
 #![tactic(auto)]
 
+mod allowing;
 mod doing;
 mod explaining;
 mod fact;
@@ -24,7 +25,7 @@ mod riddle;
 mod telling;
 mod told;
 
+pub use allowing::allowed;
 pub use explaining::{Explained, explain};
 pub use fact::{Fact, Sink};
-pub use replies::allowed;
 pub use told::{Story, story_of};

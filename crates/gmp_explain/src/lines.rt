@@ -1,13 +1,25 @@
-//! Facts as lines.
+//! Facts as lines. A line has at most 120 columns: `Lines` tells a longer list on several.
 
 use crate::doing::{Dealing, Doing};
 use crate::fact::{
-    Fact, Help, Sink, Unit, call_words, end_words, mode_words, need_words, role_words,
+    Fact, Help, Made, Sink, Unit, call_words, end_words, mode_words, need_words, role_words,
 };
-use gmp_base::{GNo, MNo, PNo};
-use gmp_seq::{Mode, Status};
+use gmp_base::GNo;
+use gmp_seq::Status;
 use std::alloc::{AllocError, Global};
 use std::fmt;
+
+/// So many values of a channel stand on a line.
+const VALUES: usize = 4;
+
+/// So many goroutines.
+const NAMES: usize = 16;
+
+/// So many calls.
+const CALLS_A_LINE: usize = 6;
+
+/// So many bytes of an entry's line.
+const WIDTH: usize = 100;
 
 /// Since when a goroutine does what it does.
 #[derive(Clone, Copy)]
@@ -24,12 +36,25 @@ impl fmt::Display for Since<'_> {
     }
 }
 
+/// With which entry a trace begins, where it begins at a state.
+#[derive(Clone, Copy)]
+struct FromEntry(Option<u64>);
+
+impl fmt::Display for FromEntry {
+    fn fmt<W: fmt::Write>(&self, f: &mut fmt::Formatter<W>) -> fmt::Result {
+        match self.0 {
+            Some(first) => write!(f, ", from entry {first} on"),
+            None => Ok(()),
+        }
+    }
+}
+
 impl fmt::Display for Help {
     fn fmt<W: fmt::Write>(&self, f: &mut fmt::Formatter<W>) -> fmt::Result {
         match self {
-            Help::Sent(c) => write!(f, "sent on or closed channel {}", c.0),
+            Help::Sent(c) => write!(f, "sent on channel {}", c.0),
             Help::Received(c) => write!(f, "received from channel {}", c.0),
-            Help::Readied => f.write_str("made it ready"),
+            Help::Readied => f.write_str("called ready for it"),
         }
     }
 }
@@ -59,108 +84,152 @@ impl fmt::Display for Who<'_> {
     }
 }
 
-/// A machine before an entry.
+/// Values of a channel.
 #[derive(Clone, Copy)]
-struct Before(MNo, Mode, Option<PNo>, bool);
+struct Numbers<'a>(&'a [u64]);
 
-impl fmt::Display for Before {
+impl fmt::Display for Numbers<'_> {
     fn fmt<W: fmt::Write>(&self, f: &mut fmt::Formatter<W>) -> fmt::Result {
-        let Before(m, mode, p, spins) = self;
-        write!(f, "before it: machine {} is {}", m.0, mode_words(*mode))?;
-        match p {
-            Some(p) => write!(f, ", holds processor {}", p.0)?,
-            None => f.write_str(", holds no processor")?,
-        }
-        if *spins {
-            f.write_str(", spins")?;
+        for value in self.0 {
+            write!(f, " {value}")?;
         }
         Ok(())
     }
 }
 
-impl fmt::Display for Fact<'_> {
+/// Calls, each with how often it was made.
+#[derive(Clone, Copy)]
+struct Often<'a>(&'a [Made]);
+
+impl fmt::Display for Often<'_> {
     fn fmt<W: fmt::Write>(&self, f: &mut fmt::Formatter<W>) -> fmt::Result {
-        match self {
-            Fact::End(end, n) => write!(f, "outcome: {}, after {n} entries", end_words(*end)),
-            Fact::Goroutine(g, status, since, leak) => {
-                write!(
-                    f,
-                    "goroutine {}: {}{}",
-                    g.0,
-                    Doing(status),
-                    Since(status, *since)
-                )?;
-                f.write_str(if *leak { ", a leak" } else { "" })
-            }
-            Fact::Case(g, offer) => {
-                write!(
-                    f,
-                    "goroutine {}: case {} would {}",
-                    g.0,
-                    offer.case,
-                    Dealing(offer)
-                )
-            }
-            Fact::Lost(g, lost) => {
-                write!(
-                    f,
-                    "goroutine {}: a ready by {} at entry {} found it not parked",
-                    g.0, lost.by.0, lost.at
-                )
-            }
-            Fact::Channel(c, closed, room, n) => {
-                let is = if *closed { "closed" } else { "open" };
-                write!(f, "channel {}: {is}, room {room}, holds {n}", c.0)
-            }
-            Fact::Values(c, values) => {
-                write!(f, "channel {}: values", c.0)?;
-                for value in *values {
-                    write!(f, " {value}")?;
-                }
-                Ok(())
-            }
-            Fact::Dealers(c, role, who) => {
-                write!(f, "channel {}: {}:{}", c.0, role_words(*role), Who(who))
-            }
-            other => other.fmt_rest(f),
+        for (i, (call, n)) in self.0.iter().enumerate() {
+            let comma = if i == 0 { "" } else { "," };
+            write!(f, "{comma} {} {n}", Ascii(call_words(*call)))?;
+        }
+        Ok(())
+    }
+}
+
+/// A text that is ASCII.
+#[derive(Clone, Copy)]
+struct Ascii<'a>(&'a [u8]);
+
+impl fmt::Display for Ascii<'_> {
+    fn fmt<W: fmt::Write>(&self, f: &mut fmt::Formatter<W>) -> fmt::Result {
+        match str::from_utf8(self.0) {
+            Ok(text) => f.write_str(text),
+            Err(_) => Ok(()),
         }
     }
 }
 
 impl Fact<'_> {
-    /// The lines of cycles, counts and riddles.
-    fn fmt_rest<W: fmt::Write>(&self, f: &mut fmt::Formatter<W>) -> fmt::Result {
+    /// The lines of the end and of goroutines.
+    fn fmt_goroutine<W: fmt::Write>(&self, f: &mut fmt::Formatter<W>) -> fmt::Result {
         match self {
-            Fact::Link(g, h, help) => {
+            Fact::End {
+                end,
+                entries,
+                first,
+            } => {
+                let from = FromEntry(*first);
                 write!(
                     f,
-                    "cycle: {} waits for {}, the only one that ever {help}",
-                    g.0, h.0
+                    "outcome: {}, after {entries} entries{from}",
+                    end_words(*end)
                 )
             }
-            Fact::Cycle => f.write_str(
-                "cycle: so it was seen in this run; it proves nothing of others",
-            ),
-            Fact::Entries(unit, n) => write!(f, "{unit}: {n} entries"),
-            Fact::Calls(unit, calls) => {
-                write!(f, "{unit}:")?;
-                for (i, (call, n)) in calls.iter().enumerate() {
-                    let comma = if i == 0 { "" } else { "," };
-                    write!(f, "{comma} {} {n}", Name(*call))?;
-                }
-                Ok(())
+            Fact::Goroutine {
+                g,
+                status,
+                since,
+                leak,
+            } => {
+                let since = Since(status, *since);
+                write!(f, "goroutine {}: {}{since}", g.0, Doing(status))?;
+                f.write_str(if *leak { ", a leak" } else { "" })
             }
-            Fact::Longest(way) => write!(
+            Fact::Case { g, offer } => {
+                let would = Dealing(offer);
+                write!(f, "goroutine {}: case {} would {would}", g.0, offer.case)
+            }
+            Fact::Lost { g, lost } => {
+                let (by, at) = (lost.by.0, lost.at);
+                write!(
+                    f,
+                    "goroutine {}: a ready by {by} at entry {at} found it not parked",
+                    g.0
+                )
+            }
+            Fact::Latest(r) => write!(
                 f,
-                "longest from ready to claimed: {} entries, goroutine {}, from entry {} to {}",
-                way.length(),
-                way.g.0,
-                way.ready,
-                way.claimed
+                "goroutine {}: its latest ticket is {}.{}",
+                r.g.0, r.g.0, r.epoch
             ),
-            Fact::NoStep(line) => write!(f, "no step: {}", Line(line)),
-            Fact::Machine(m, mode, p, spins) => write!(f, "{}", Before(*m, *mode, *p, *spins)),
-            Fact::Allowed(reply) => write!(f, "allowed: {}", Line(reply)),
+            other => other.fmt_channel(f),
+        }
+    }
+
+    /// The lines of channels and cycles.
+    fn fmt_channel<W: fmt::Write>(&self, f: &mut fmt::Formatter<W>) -> fmt::Result {
+        match self {
+            Fact::Channel {
+                c,
+                closed,
+                room,
+                holds,
+            } => {
+                let is = if *closed { "closed" } else { "open" };
+                write!(f, "channel {}: {is}, room {room}, holds {holds}", c.0)
+            }
+            Fact::Values(c, values) => write!(f, "channel {}: values{}", c.0, Numbers(values)),
+            Fact::Dealers(c, role, who) => {
+                write!(f, "channel {}: {}:{}", c.0, role_words(*role), Who(who))
+            }
+            Fact::Link { g, by, help } => {
+                write!(
+                    f,
+                    "cycle: {} waits for {}, in this trace the only one that {help}",
+                    g.0, by.0
+                )
+            }
+            Fact::Cycles => f.write_str(
+                "cycle: so it was seen here; it proves nothing of other runs",
+            ),
+            other => other.fmt_rest(f),
+        }
+    }
+
+    /// The lines of counts and riddles.
+    fn fmt_rest<W: fmt::Write>(&self, f: &mut fmt::Formatter<W>) -> fmt::Result {
+        match self {
+            Fact::Entries(unit, n) => write!(f, "{unit}: {n} entries"),
+            Fact::Calls(unit, calls) => write!(f, "{unit}:{}", Often(calls)),
+            Fact::Longest(way) => {
+                let (n, g) = (way.length(), way.g.0);
+                let (ready, claimed) = (way.ready, way.claimed);
+                f.write_str("longest from ready to claimed: ")?;
+                write!(
+                    f,
+                    "{n} entries, goroutine {g}, from entry {ready} to {claimed}"
+                )
+            }
+            Fact::NoStep(line) => write!(f, "no step: {}", Ascii(line)),
+            Fact::Machine {
+                m,
+                mode,
+                holds,
+                spins,
+            } => {
+                write!(f, "before it: machine {} is {}", m.0, mode_words(*mode))?;
+                match holds {
+                    Some(p) => write!(f, ", holds processor {}", p.0)?,
+                    None => f.write_str(", holds no processor")?,
+                }
+                f.write_str(if *spins { ", spins" } else { "" })
+            }
+            Fact::Allowed(reply) => write!(f, "allowed: {}", Ascii(reply)),
             Fact::Lacks(need) => write!(f, "allowed: none, since {}", need_words(*need)),
             Fact::Over => f.write_str("allowed: none, since the run was over"),
             Fact::Leads(end) => write!(f, "the entries lead to: {}", end_words(*end)),
@@ -169,30 +238,16 @@ impl Fact<'_> {
     }
 }
 
-/// A call's name.
-#[derive(Clone, Copy)]
-struct Name(usize);
-
-impl fmt::Display for Name {
+impl fmt::Display for Fact<'_> {
     fn fmt<W: fmt::Write>(&self, f: &mut fmt::Formatter<W>) -> fmt::Result {
-        match str::from_utf8(call_words(self.0)) {
-            Ok(name) => f.write_str(name),
-            Err(_) => Ok(()),
-        }
+        self.fmt_goroutine(f)
     }
 }
 
-/// A line of a trace, which is ASCII.
-#[derive(Clone, Copy)]
-struct Line<'a>(&'a [u8]);
-
-impl fmt::Display for Line<'_> {
-    fn fmt<W: fmt::Write>(&self, f: &mut fmt::Formatter<W>) -> fmt::Result {
-        match str::from_utf8(self.0) {
-            Ok(line) => f.write_str(line),
-            Err(_) => Ok(()),
-        }
-    }
+/// Where the first words of an entry's line end that stand on one line, and where the next begin.
+fn split(line: &[u8]) -> Option<(&[u8], &[u8])> {
+    let end = line.get(..WIDTH)?.iter().rposition(|byte| *byte == b' ')?;
+    Some((line.get(..end)?, line.get(end.wrapping_add(1)..)?))
 }
 
 /// Gathers the lines.
@@ -208,11 +263,50 @@ impl Lines {
             text: String::new(alloc),
         }
     }
+
+    /// Adds a line.
+    fn put(&mut self, fact: &Fact) -> Result<(), AllocError> {
+        let line = format!(in *self.text.allocator(); "{fact}\n")?;
+        self.text.push_str(line.as_str())
+    }
+
+    /// Adds the words of an entry's line.
+    fn put_words(&mut self, line: &[u8]) -> Result<(), AllocError> {
+        let mut rest = line;
+        for _ in 0..line.len() {
+            let Some((words, more)) = split(rest) else {
+                break;
+            };
+            self.put(&Fact::NoStep(words))?;
+            rest = more;
+        }
+        self.put(&Fact::NoStep(rest))
+    }
 }
 
 impl Sink for Lines {
     fn tell(&mut self, fact: &Fact) -> Result<(), AllocError> {
-        let line = format!(in *self.text.allocator(); "{fact}\n")?;
-        self.text.push_str(line.as_str())
+        match fact {
+            Fact::Values(c, values) => {
+                for some in values.chunks(VALUES) {
+                    self.put(&Fact::Values(*c, some))?;
+                }
+                Ok(())
+            }
+            Fact::Dealers(c, role, who) if !who.is_empty() => {
+                for some in who.chunks(NAMES) {
+                    self.put(&Fact::Dealers(*c, *role, some))?;
+                }
+                Ok(())
+            }
+            Fact::Calls(unit, calls) => {
+                for some in calls.chunks(CALLS_A_LINE) {
+                    self.put(&Fact::Calls(*unit, some))?;
+                }
+                Ok(())
+            }
+            Fact::NoStep(line) => self.put_words(line),
+            _ => self.put(fact),
+        }
     }
 }

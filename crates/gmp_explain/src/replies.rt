@@ -1,10 +1,8 @@
-//! Which replies a call may have: each that its kind of call could have by the numbers of the state is tried by the checker.
-ghost use Rattle.std.specs.Prelude.{◌≡◌, ◌∷◌, ◌++◌, [], All, IfOk, IsTrue, OnOk};
-ghost use Rattle.gmp_explain.specs.Told.{IsAllowed};
+//! Which replies a call of a kind could have, by the numbers of the state. They are more than are allowed: each is tried by the checker.
+ghost use Rattle.std.specs.Prelude.{◌≡◌, ◌∷◌, ◌++◌, [], OnOk};
 
-use gmp_base::{CNo, Case, Fault, GNo, MNo, Readiness};
-use gmp_check::{OutOfMemory, Replay};
-use gmp_seq::{Call, Direction, Entry, Goroutine, Relay, Reply, Status, Taken, Waiter};
+use gmp_base::{CNo, Case, Fault, GNo, MNo, PNo, Readiness};
+use gmp_seq::{Call, Direction, Goroutine, Relay, Reply, Status, Taken, Waiter};
 use gmp_start::{Start, StartChannel};
 use gmp_walk::{channel_at, goroutine_at, machine_at, processor_at};
 use std::alloc::{AllocError, Global};
@@ -17,6 +15,12 @@ pub(crate) fn at_machine(rows: &[Goroutine], m: MNo) -> Option<GNo> {
     };
     let g = rows.iter().position(is_there)?;
     Some(goroutine_at(g))
+}
+
+/// The processor that the machine holds.
+pub(crate) fn held_by(last: &Start, m: MNo) -> Option<PNo> {
+    let p = last.holders.iter().position(|holder| *holder == Some(m))?;
+    Some(processor_at(p))
 }
 
 /// The next readiness of a goroutine.
@@ -187,7 +191,7 @@ fn of_select(
 }
 
 /// Adds a reply.
-fn add(out: &mut Vec<Reply>, reply: Reply) -> Result<(), AllocError>
+pub(crate) fn add(out: &mut Vec<Reply>, reply: Reply) -> Result<(), AllocError>
     ensures { OnOk result (out.new.items ≡ out.old.items ++ reply ∷ []) }
 {
     out.push(reply)?;
@@ -242,32 +246,47 @@ fn of_goroutine(
     }
 }
 
-/// Calls that concern processors.
-fn of_processors(
+/// Calls that name any processor.
+fn of_any_processor(
     last: &Start,
     g: GNo,
     call: &Call,
     out: &mut Vec<Reply>,
 ) -> Result<(), AllocError> {
+    let leaves = matches!(call, Call::Leave(_));
     for p in 0..last.holders.len() {
         let p = processor_at(p);
-        match call {
-            Call::Acquire => add(out, Reply::Proc(p))?,
-            Call::Leave(_) => add(out, Reply::Runs(p))?,
-            Call::Declare => add(out, Reply::Idle(p))?,
-            _ => {
-                add(out, Reply::Entered(p, None))?;
-                for m in 0..last.modes.len() {
-                    add(out, Reply::Entered(p, Some(machine_at(m))))?;
-                }
-            }
-        }
+        add(
+            out,
+            if leaves {
+                Reply::Runs(p)
+            } else {
+                Reply::Proc(p)
+            },
+        )?;
     }
-    match call {
-        Call::Acquire => add(out, Reply::Nothing),
-        Call::Leave(_) => add(out, Reply::Shelved(next(&last.goroutines, g))),
-        _ => Ok(()),
+    if leaves {
+        add(out, Reply::Shelved(next(&last.goroutines, g)))
+    } else {
+        add(out, Reply::Nothing)
     }
+}
+
+/// Calls that give the machine's processor up.
+fn of_own_processor(
+    last: &Start,
+    p: PNo,
+    call: &Call,
+    out: &mut Vec<Reply>,
+) -> Result<(), AllocError> {
+    if matches!(call, Call::Declare) {
+        return add(out, Reply::Idle(p));
+    }
+    add(out, Reply::Entered(p, None))?;
+    for m in 0..last.modes.len() {
+        add(out, Reply::Entered(p, Some(machine_at(m))))?;
+    }
+    Ok(())
 }
 
 /// Calls of a machine for itself.
@@ -313,7 +332,13 @@ fn of_machine(last: &Start, call: &Call, out: &mut Vec<Reply>) -> Result<(), All
 }
 
 /// The replies that a call of this kind could have.
-fn candidates(alloc: Global, last: &Start, g: GNo, call: &Call) -> Result<Vec<Reply>, AllocError> {
+pub(crate) fn candidates(
+    alloc: Global,
+    last: &Start,
+    m: MNo,
+    call: &Call,
+) -> Result<Vec<Reply>, AllocError> {
+    let g = at_machine(&last.goroutines, m).unwrap_or(GNo(0));
     let mut out = Vec::new(alloc);
     match call {
         Call::Take => of_take(&last.goroutines, &mut out)?,
@@ -326,56 +351,13 @@ fn candidates(alloc: Global, last: &Start, g: GNo, call: &Call) -> Result<Vec<Re
         Call::Go(_) | Call::Ready(_) | Call::Yield | Call::Exit | Call::Sleep(_) | Call::Gopark => {
             of_goroutine(&last.goroutines, g, call, &mut out)?;
         }
-        Call::Acquire | Call::Enter | Call::Leave(_) | Call::Declare => {
-            of_processors(last, g, call, &mut out)?;
+        Call::Acquire | Call::Leave(_) => of_any_processor(last, g, call, &mut out)?,
+        Call::Enter | Call::Declare => {
+            if let Some(p) = held_by(last, m) {
+                of_own_processor(last, p, call, &mut out)?;
+            }
         }
         _ => of_machine(last, call, &mut out)?,
     }
     Ok(out)
-}
-
-/// Whether the entry is a step with this reply, which it has afterwards.
-fn is_step(
-    alloc: Global,
-    replay: &Replay,
-    entry: &mut Entry,
-    reply: Reply,
-) -> Result<bool, OutOfMemory>
-    ensures step { IfOk result (λ b. IsTrue b → IsAllowed replay.now.limits replay.now.state entry.old reply) }
-    ensures reply { entry.new ≡ record entry.old { reply = reply } }
-{
-    entry.reply = reply;
-    replay.allows(alloc, entry)
-}
-
-/// Adds the reply, if the entry is a step with it.
-fn try_reply(
-    alloc: Global,
-    replay: &Replay,
-    entry: &mut Entry,
-    reply: Reply,
-    right: &mut Vec<Reply>,
-) -> Result<(), OutOfMemory>
-    requires { All (IsAllowed replay.now.limits replay.now.state entry.old) right.old.items }
-    ensures right { OnOk result (All (IsAllowed replay.now.limits replay.now.state entry.old) right.new.items) }
-    ensures reply { entry.new ≡ record entry.old { reply = reply } }
-{
-    if is_step(alloc, replay, entry, reply)? {
-        add(right, reply)?;
-    }
-    Ok(())
-}
-
-/// The replies with which the entry would be a step. The reply that it has is not looked at, and is another one afterwards.
-pub fn allowed(alloc: Global, replay: &Replay, entry: &mut Entry) -> Result<Vec<Reply>, OutOfMemory>
-    ensures { IfOk result (λ v. All (IsAllowed replay.now.limits replay.now.state entry.old) v.items) }
-{
-    let last = replay.copied(alloc)?;
-    let g = at_machine(&last.goroutines, entry.m).unwrap_or(GNo(0));
-    let replies = candidates(alloc, &last, g, &entry.call)?;
-    let mut right = Vec::new(alloc);
-    for reply in &replies {
-        try_reply(alloc, replay, entry, *reply, &mut right)?;
-    }
-    Ok(right)
 }

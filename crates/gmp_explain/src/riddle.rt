@@ -1,46 +1,18 @@
 //! Why an entry is no step: the entry, its machine and goroutine before it, and the replies that are allowed, or what is missing.
 
+use crate::allowing::allowed;
 use crate::fact::{Fact, Sink};
-use crate::replies::{allowed, at_machine};
+use crate::replies::{at_machine, held_by};
+use crate::telling::tell_state;
 use crate::told::Story;
-use gmp_base::{GNo, MNo, PNo};
+use gmp_base::{CNo, GNo, MNo, Readiness};
 use gmp_check::OutOfMemory;
-use gmp_seq::Entry;
-use gmp_start::Start;
+use gmp_seq::{Call, Entry, channel_of};
 use gmp_trace::put_entry;
-use gmp_walk::processor_at;
 use std::alloc::{AllocError, Global};
-
-/// So many bytes of a line stand on one.
-const WIDTH: usize = 100;
 
 /// What stands between call and reply.
 const ARROW: &[u8] = b" -> ";
-
-/// The processor that the machine holds.
-fn held_by(last: &Start, m: MNo) -> Option<PNo> {
-    let p = last.holders.iter().position(|holder| *holder == Some(m))?;
-    Some(processor_at(p))
-}
-
-/// Where the first words of a line end that stand on one line, and where the next begin.
-fn split(line: &[u8]) -> Option<(&[u8], &[u8])> {
-    let end = line.get(..WIDTH)?.iter().rposition(|byte| *byte == b' ')?;
-    Some((line.get(..end)?, line.get(end.wrapping_add(1)..)?))
-}
-
-/// A line's words, on as many lines as they need.
-fn tell_line<S: Sink>(line: &[u8], sink: &mut S) -> Result<(), AllocError> {
-    let mut rest = line;
-    for _ in 0..line.len() {
-        let Some((words, more)) = split(rest) else {
-            break;
-        };
-        sink.tell(&Fact::NoStep(words))?;
-        rest = more;
-    }
-    sink.tell(&Fact::NoStep(rest))
-}
 
 /// The reply of an entry's line.
 fn reply_of(line: &[u8]) -> &[u8] {
@@ -59,25 +31,82 @@ fn line_of(alloc: Global, number: u64, entry: &Entry) -> Result<Vec<u8>, AllocEr
     Ok(line)
 }
 
-/// What the machine and its goroutine did before the entry.
-fn tell_before<S: Sink>(
-    story: &Story,
-    m: MNo,
-    g: Option<GNo>,
-    sink: &mut S,
-) -> Result<(), AllocError> {
+/// What a goroutine did before the entry.
+fn tell_goroutine<S: Sink>(story: &Story, g: GNo, sink: &mut S) -> Result<(), AllocError> {
+    match story.does(g) {
+        Some(status) => sink.tell(&Fact::Goroutine {
+            g,
+            status,
+            since: story.since(g),
+            leak: false,
+        }),
+        None => Ok(()),
+    }
+}
+
+/// What the machine did before the entry.
+fn tell_machine<S: Sink>(story: &Story, m: MNo, sink: &mut S) -> Result<(), AllocError> {
     let last = &story.last;
     let i = usize::from(m.0);
-    if let Some(mode) = last.modes.get(i) {
-        let spins = last.spinning.get(i).copied().unwrap_or(false);
-        sink.tell(&Fact::Machine(m, *mode, held_by(last, m), spins))?;
+    let Some(mode) = last.modes.get(i) else {
+        return Ok(());
+    };
+    sink.tell(&Fact::Machine {
+        m,
+        mode: *mode,
+        holds: held_by(last, m),
+        spins: last.spinning.get(i).copied().unwrap_or(false),
+    })
+}
+
+/// The goroutine that a call names.
+fn named(call: &Call) -> Option<GNo> {
+    match call {
+        Call::Put(r) | Call::Claim(r) => Some(r.g),
+        Call::Go(h) | Call::Ready(h) => Some(*h),
+        _ => None,
     }
-    if let Some(g) = g {
-        if let Some(status) = story.does(g) {
-            sink.tell(&Fact::Goroutine(g, status, story.since(g), false))?;
+}
+
+/// The goroutine that the call names, and its latest ticket.
+fn tell_named<S: Sink>(story: &Story, call: &Call, sink: &mut S) -> Result<(), AllocError> {
+    let Some(g) = named(call) else {
+        return Ok(());
+    };
+    tell_goroutine(story, g, sink)?;
+    match story.last.goroutines.get(usize::from(g.0)) {
+        Some(row) if row.epoch > 0 => sink.tell(&Fact::Latest(Readiness {
+            g,
+            epoch: row.epoch,
+        })),
+        _ => Ok(()),
+    }
+}
+
+/// A channel that the call names.
+fn tell_one<S: Sink>(story: &Story, c: Option<CNo>, sink: &mut S) -> Result<(), AllocError> {
+    let Some(c) = c else {
+        return Ok(());
+    };
+    match story.last.channels.get(usize::from(c.0)) {
+        Some(channel) => tell_state(c, channel, sink),
+        None => Ok(()),
+    }
+}
+
+/// The channels that the call names.
+fn tell_channels<S: Sink>(story: &Story, call: &Call, sink: &mut S) -> Result<(), AllocError> {
+    match call {
+        Call::Send(c, _) => tell_one(story, *c, sink),
+        Call::Recv(c) | Call::Close(c) | Call::Len(c) | Call::Cap(c) => tell_one(story, *c, sink),
+        Call::Select(cases, _, _) => {
+            for case in cases.as_slice() {
+                tell_one(story, channel_of(*case), sink)?;
+            }
+            Ok(())
         }
+        _ => Ok(()),
     }
-    Ok(())
 }
 
 /// The replies that are allowed, or why there is none.
@@ -102,17 +131,21 @@ fn tell_allowed<S: Sink>(
     Ok(())
 }
 
-/// Why the entry of this number, at which the story ends, is no step.
+/// Why the entry at which the story ends is no step.
 pub fn tell_riddle<S: Sink>(
     alloc: Global,
     story: &Story,
-    number: u64,
     mut entry: Entry,
     sink: &mut S,
 ) -> Result<(), OutOfMemory> {
+    let number = story.first.unwrap_or(0).wrapping_add(story.steps as u64);
     let line = line_of(alloc, number, &entry)?;
-    tell_line(&line, sink)?;
-    let g = at_machine(&story.last.goroutines, entry.m);
-    tell_before(story, entry.m, g, sink)?;
+    sink.tell(&Fact::NoStep(&line))?;
+    tell_machine(story, entry.m, sink)?;
+    if let Some(g) = at_machine(&story.last.goroutines, entry.m) {
+        tell_goroutine(story, g, sink)?;
+    }
+    tell_named(story, &entry.call, sink)?;
+    tell_channels(story, &entry.call, sink)?;
     tell_allowed(alloc, story, &mut entry, sink)
 }

@@ -12,15 +12,6 @@ use gmp_trace::End;
 use gmp_walk::{channel_at, goroutine_at, machine_at, processor_at};
 use std::alloc::{AllocError, Global};
 
-/// So many goroutines stand on a line.
-const NAMES: usize = 16;
-
-/// So many values stand on a line.
-const VALUES: usize = 4;
-
-/// So many calls stand on a line.
-const CALLS: usize = 6;
-
 /// Whether a goroutine waits on the channel in this direction.
 fn waits_on(status: &Status, c: CNo, direction: Direction) -> bool {
     match status {
@@ -28,6 +19,14 @@ fn waits_on(status: &Status, c: CNo, direction: Direction) -> bool {
             && offer.deal.direction() == direction),
         _ => false,
     }
+}
+
+/// Whether somebody waits on the channel.
+fn is_waited(rows: &[Goroutine], c: CNo) -> bool {
+    rows.iter().any(|row| {
+        waits_on(&row.status, c, Direction::Sending)
+            || waits_on(&row.status, c, Direction::Receiving)
+    })
 }
 
 /// The cases of the select in which a goroutine waits.
@@ -39,7 +38,7 @@ fn tell_cases<S: Sink>(g: GNo, status: &Status, sink: &mut S) -> Result<(), Allo
         return Ok(());
     }
     for offer in wait.offers.as_slice() {
-        sink.tell(&Fact::Case(g, offer))?;
+        sink.tell(&Fact::Case { g, offer })?;
     }
     Ok(())
 }
@@ -51,28 +50,22 @@ fn tell_goroutine<S: Sink>(g: GNo, story: &Story, sink: &mut S) -> Result<(), Al
     };
     let leak = story.replay.outcome() == Some(Outcome::MainEnded)
         && matches!(status, Status::Waiting(_));
-    sink.tell(&Fact::Goroutine(g, status, story.since(g), leak))?;
+    sink.tell(&Fact::Goroutine {
+        g,
+        status,
+        since: story.since(g),
+        leak,
+    })?;
     tell_cases(g, status, sink)?;
     if status.is_parked() {
         if let Some(Some(lost)) = story.heard.lost.get(usize::from(g.0)) {
-            sink.tell(&Fact::Lost(g, *lost))?;
+            sink.tell(&Fact::Lost { g, lost: *lost })?;
         }
     }
     Ok(())
 }
 
-/// Those that have this to do with the channel, as many facts as the list needs; of none one fact.
-fn tell_dealers<S: Sink>(c: CNo, role: Role, who: &[GNo], sink: &mut S) -> Result<(), AllocError> {
-    if who.is_empty() {
-        return sink.tell(&Fact::Dealers(c, role, who));
-    }
-    for some in who.chunks(NAMES) {
-        sink.tell(&Fact::Dealers(c, role, some))?;
-    }
-    Ok(())
-}
-
-/// Those that wait on the channel in this direction.
+/// The goroutines that wait on the channel in this direction.
 fn waiting(
     alloc: Global,
     rows: &[Goroutine],
@@ -88,25 +81,64 @@ fn waiting(
     Ok(who)
 }
 
-/// Those that ever did this on the channel.
-fn dealt(
+/// Who did this on the channel.
+fn tell_party<S: Sink>(
     alloc: Global,
-    heard: &Heard,
-    rows: &[Goroutine],
+    story: &Story,
     c: CNo,
     party: Party,
-) -> Result<Vec<GNo>, AllocError> {
+    sink: &mut S,
+) -> Result<(), AllocError> {
     let mut who = Vec::new(alloc);
-    for (g, _row) in rows.iter().enumerate() {
+    for g in 0..story.last.goroutines.len() {
         let g = goroutine_at(g);
-        if heard.parties.has(c, g, party) {
+        if story.heard.parties.has(c, g, party) {
             who.push(g)?;
         }
     }
-    Ok(who)
+    let role = match party {
+        Party::Sent => Role::Sent,
+        Party::Received => Role::Received,
+        Party::Closed => Role::Closed,
+    };
+    sink.tell(&Fact::Dealers(c, role, &who))
 }
 
-/// A channel that somebody waits on or that holds values: its state, who waits, and who ever dealt on it.
+/// Who waits on the channel, and who dealt on it.
+fn tell_waiting<S: Sink>(
+    alloc: Global,
+    story: &Story,
+    c: CNo,
+    sink: &mut S,
+) -> Result<(), AllocError> {
+    let rows = &story.last.goroutines;
+    let sending = waiting(alloc, rows, c, Direction::Sending)?;
+    let receiving = waiting(alloc, rows, c, Direction::Receiving)?;
+    if !sending.is_empty() {
+        sink.tell(&Fact::Dealers(c, Role::WaitsToSend, &sending))?;
+    }
+    if !receiving.is_empty() {
+        sink.tell(&Fact::Dealers(c, Role::WaitsToReceive, &receiving))?;
+    }
+    tell_party(alloc, story, c, Party::Sent, sink)?;
+    tell_party(alloc, story, c, Party::Received, sink)
+}
+
+/// What a channel is.
+pub(crate) fn tell_state<S: Sink>(
+    c: CNo,
+    channel: &StartChannel,
+    sink: &mut S,
+) -> Result<(), AllocError> {
+    sink.tell(&Fact::Channel {
+        c,
+        closed: channel.closed,
+        room: channel.capacity,
+        holds: channel.items.len(),
+    })
+}
+
+/// A channel that somebody waits on or that holds values: its state, who waits, and who dealt on it.
 fn tell_channel<S: Sink>(
     alloc: Global,
     story: &Story,
@@ -114,45 +146,21 @@ fn tell_channel<S: Sink>(
     channel: &StartChannel,
     sink: &mut S,
 ) -> Result<(), AllocError> {
-    let rows = &story.last.goroutines;
-    let sending = waiting(alloc, rows, c, Direction::Sending)?;
-    let receiving = waiting(alloc, rows, c, Direction::Receiving)?;
-    let waited = !sending.is_empty() || !receiving.is_empty();
-    if !waited && channel.items.is_empty() {
+    let is_waited = is_waited(&story.last.goroutines, c);
+    if !is_waited && channel.items.is_empty() {
         return Ok(());
     }
-    sink.tell(&Fact::Channel(c, channel.closed, channel.capacity, channel.items.len()))?;
-    for some in channel.items.chunks(VALUES) {
-        sink.tell(&Fact::Values(c, some))?;
+    tell_state(c, channel, sink)?;
+    if !channel.items.is_empty() {
+        sink.tell(&Fact::Values(c, &channel.items))?;
     }
-    if !waited {
-        return Ok(());
+    if channel.closed {
+        tell_party(alloc, story, c, Party::Closed, sink)?;
     }
-    if !sending.is_empty() {
-        tell_dealers(c, Role::WaitsToSend, &sending, sink)?;
+    if is_waited {
+        tell_waiting(alloc, story, c, sink)?;
     }
-    if !receiving.is_empty() {
-        tell_dealers(c, Role::WaitsToReceive, &receiving, sink)?;
-    }
-    let heard = &story.heard;
-    tell_dealers(
-        c,
-        Role::Sent,
-        &dealt(alloc, heard, rows, c, Party::Sent)?,
-        sink,
-    )?;
-    tell_dealers(
-        c,
-        Role::Received,
-        &dealt(alloc, heard, rows, c, Party::Received)?,
-        sink,
-    )?;
-    tell_dealers(
-        c,
-        Role::Closed,
-        &dealt(alloc, heard, rows, c, Party::Closed)?,
-        sink,
-    )
+    Ok(())
 }
 
 /// How many entries a machine or a processor has, and of which calls.
@@ -171,8 +179,8 @@ fn tell_counts<S: Sink>(
         }
     }
     sink.tell(&Fact::Entries(unit, all))?;
-    for some in made.chunks(CALLS) {
-        sink.tell(&Fact::Calls(unit, some))?;
+    if !made.is_empty() {
+        sink.tell(&Fact::Calls(unit, &made))?;
     }
     Ok(())
 }
@@ -193,7 +201,11 @@ fn tell_units<S: Sink>(alloc: Global, heard: &Heard, sink: &mut S) -> Result<(),
 
 /// All facts of the story.
 pub fn tell_story<S: Sink>(alloc: Global, story: &Story, sink: &mut S) -> Result<(), AllocError> {
-    sink.tell(&Fact::End(End::of(story.replay.outcome()), story.steps))?;
+    sink.tell(&Fact::End {
+        end: End::of(story.replay.outcome()),
+        entries: story.steps,
+        first: story.first,
+    })?;
     for g in 0..story.last.goroutines.len() {
         tell_goroutine(goroutine_at(g), story, sink)?;
     }

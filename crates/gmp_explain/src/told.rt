@@ -12,8 +12,8 @@ use gmp_base::GNo;
 use gmp_check::Replay;
 use gmp_seq::Status;
 use gmp_start::Start;
-use gmp_trace::{Bad, TraceView, Watch, Why};
-use gmp_walk::walk;
+use gmp_trace::{Bad, BeginningView, TraceView, Watch, Why};
+use gmp_walk::{first_number, walk};
 use std::alloc::Global;
 
 /// A run as it is told.
@@ -25,6 +25,8 @@ pub struct Story {
     pub last: Start,
     /// How many entries there are.
     pub steps: usize,
+    /// The number of the first, where the trace begins at a state.
+    pub first: Option<u64>,
     pub heard: Heard,
 }
 
@@ -51,6 +53,14 @@ const NO_MEMORY: Bad = Bad {
     why: Why::OutOfMemory,
 };
 
+/// The number of the first entry behind a state.
+fn first_of(beginning: BeginningView) -> Option<u64> {
+    match beginning {
+        BeginningView::Opening(_) => None,
+        BeginningView::Start(_) => Some(first_number(beginning)),
+    }
+}
+
 /// What is told of a trace whose entries are steps. Of one with an entry that is none, the story ends before it.
 ///
 /// The watch is told at each 65,536th entry how many were played.
@@ -69,6 +79,7 @@ pub fn story_of<W: Watch>(alloc: Global, trace: TraceView, watch: &mut W) -> Res
         replay: walked.replay,
         last,
         steps: walked.steps,
+        first: first_of(trace.beginning),
         heard,
     })
 }

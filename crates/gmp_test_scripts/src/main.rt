@@ -1,4 +1,4 @@
-//! Judges `gmp step` and `gmp check` by files of lines, which lie in `data/`: docs/HACKING.md. A file is a script with its worked trace
+//! Judges `gmp step`, `check`, `explain` and `draw` by files of lines, which lie in `data/`: docs/HACKING.md. A file is a script with its worked trace
 //! (and what `gmp explain` tells of it, and its picture), a trace that is not right, a table of changes of a trace or script, or a table of limits of entries.
 //!
 //! For each file that an argument names it prints that all went well, or the first line that falls short; the gate compares that with

@@ -65,9 +65,9 @@ pub fn checked(alloc: Global, trace: &[u8]) -> Result<Ran, AllocError> {
     done(alloc, written, ended.status, &ended.said)
 }
 
-/// `gmp explain` on a trace.
-pub fn explained(alloc: Global, trace: &[u8]) -> Result<Ran, AllocError> {
-    let explained = explain(alloc, false, &mut &trace[..], &mut ());
+/// `gmp explain` on a trace, or with `--json`.
+pub fn explained(alloc: Global, trace: &[u8], json: bool) -> Result<Ran, AllocError> {
+    let explained = explain(alloc, json, &mut &trace[..], &mut ());
     let written = explained.facts.as_bytes().to_vec(alloc)?;
     done(
         alloc,

@@ -67,27 +67,20 @@ fn judge_read(alloc: Global, text: &[u8]) -> Result<(), ScriptError> {
     same(alloc, &out, text, "another line was read and written")
 }
 
-/// This is the summary that lies beside the script, if one does.
-fn judge_summary(rt: &HostRuntime, stem: &str, got: &[u8]) -> Result<(), ScriptError> {
-    match read_beside(rt, stem, ".summary") {
-        Ok(want) => same(
-            rt.alloc(),
-            got,
-            want.as_bytes(),
-            "gmp check wrote another line",
-        ),
-        Err(error) if error.kind() == ErrorKind::NotFound => Ok(()),
-        Err(error) => Err(ScriptError::Io(error)),
-    }
-}
-
 /// `gmp check` passes the trace, with the summary that lies beside the script.
 fn judge_check(rt: &HostRuntime, stem: &str, trace: &[u8]) -> Result<(), ScriptError> {
     let ran = checked(rt.alloc(), trace)?;
     if ran.status != 0 {
         return Err(ScriptError::line(rt.alloc(), 0, ran.said.trim_end()));
     }
-    judge_summary(rt, stem, &ran.written)
+    is_beside(
+        rt,
+        stem,
+        ".summary",
+        &ran.written,
+        "gmp check wrote another line",
+    )?;
+    Ok(())
 }
 
 /// No line of the text has more columns.
@@ -100,30 +93,49 @@ fn judge_width(alloc: Global, text: &[u8]) -> Result<(), ScriptError> {
     Ok(())
 }
 
-/// `gmp explain` on a trace tells what lies beside it, if that does.
-pub(crate) fn judge_explained(
+/// What is written lies beside the script, if anything does. Does it?
+fn is_beside(
+    rt: &HostRuntime,
+    stem: &str,
+    end: &str,
+    got: &[u8],
+    said: &str,
+) -> Result<bool, ScriptError> {
+    match read_beside(rt, stem, end) {
+        Ok(want) => {
+            same(rt.alloc(), got, want.as_bytes(), said)?;
+            Ok(true)
+        }
+        Err(error) if error.kind() == ErrorKind::NotFound => Ok(false),
+        Err(error) => Err(ScriptError::Io(error)),
+    }
+}
+
+/// `gmp explain` on a trace tells what lies beside it, if that does. Does it?
+fn judge_explained(
     rt: &HostRuntime,
     stem: &str,
     trace: &[u8],
-) -> Result<(), ScriptError> {
+    json: bool,
+) -> Result<bool, ScriptError> {
     let alloc = rt.alloc();
-    let ran = explained(alloc, trace)?;
-    judge_width(alloc, &ran.written)?;
+    let ran = explained(alloc, trace, json)?;
+    if !json {
+        judge_width(alloc, &ran.written)?;
+    }
     let got = format!(in alloc;
         "{}{}",
         ran.said,
         str::from_utf8(&ran.written).unwrap_or("?")
     )?;
-    match read_beside(rt, stem, ".explained") {
-        Ok(want) => same(
-            alloc,
-            got.as_bytes(),
-            want.as_bytes(),
-            "gmp explain wrote another line",
-        ),
-        Err(error) if error.kind() == ErrorKind::NotFound => Ok(()),
-        Err(error) => Err(ScriptError::Io(error)),
-    }
+    let end = if json { ".json" } else { ".explained" };
+    is_beside(
+        rt,
+        stem,
+        end,
+        got.as_bytes(),
+        "gmp explain wrote another line",
+    )
 }
 
 /// `gmp draw` draws the trace as the picture beside it, if one is.
@@ -133,23 +145,24 @@ fn judge_drawn(rt: &HostRuntime, stem: &str, trace: &[u8]) -> Result<(), ScriptE
     if ran.status != 0 {
         return Err(ScriptError::line(alloc, 0, ran.said.trim_end()));
     }
-    match read_beside(rt, stem, ".svg") {
-        Ok(want) => same(
-            alloc,
-            &ran.written,
-            want.as_bytes(),
-            "gmp draw wrote another line",
-        ),
-        Err(error) if error.kind() == ErrorKind::NotFound => Ok(()),
-        Err(error) => Err(ScriptError::Io(error)),
-    }
+    is_beside(
+        rt,
+        stem,
+        ".svg",
+        &ran.written,
+        "gmp draw wrote another line",
+    )?;
+    Ok(())
 }
 
 /// The trace of this name is not right, and `gmp explain` says why: how many calls it has, or what falls short.
 pub fn judged_wrong(rt: &HostRuntime, name: &str) -> Result<usize, ScriptError> {
     let stem = name.strip_suffix(".wrong").unwrap_or(name);
     let trace = fs::read_to_string(rt, name)?;
-    judge_explained(rt, stem, trace.as_bytes())?;
+    judge_explained(rt, stem, trace.as_bytes(), true)?;
+    if !judge_explained(rt, stem, trace.as_bytes(), false)? {
+        return Err(ScriptError::line(rt.alloc(), 0, "nothing says why it is wrong"));
+    }
     Ok(trace.matches(" -> ").count())
 }
 
@@ -172,7 +185,8 @@ pub fn judged(rt: &HostRuntime, name: &str) -> Result<usize, ScriptError> {
     judge_read(rt.alloc(), trace.as_bytes())?;
     judge_check(rt, stem, trace.as_bytes())?;
     judge_cuts(rt.alloc(), trace.as_bytes())?;
-    judge_explained(rt, stem, trace.as_bytes())?;
+    judge_explained(rt, stem, trace.as_bytes(), false)?;
+    judge_explained(rt, stem, trace.as_bytes(), true)?;
     judge_drawn(rt, stem, trace.as_bytes())?;
     judge_reasons(rt.alloc(), trace.as_bytes())?;
     Ok(trace.matches(" -> ").count())

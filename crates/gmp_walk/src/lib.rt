@@ -1,8 +1,8 @@
 //! A walk along a trace: the plain scheduler replays it, and whoever listens is told what each entry did.
 //!
 //! A trace names neither the goroutine that asks nor the processor that its machine holds, and a close or a tick says how many became ready
-//! and not who. A walk tells all that as a [`Deed`], read off the checker's own state: so what is told of a run is told of the run that was
-//! checked.
+//! and not who. A walk tells all that as a [`Deed`]. Who became ready is read off the checker's rows, by epochs that rose; who is at which
+//! machine and holds which processor is kept beside, by what the replies say.
 //!
 //! **Invariant**: the entries that were told of are a run from where the trace begins, and the rows that a listener sees are those of the
 //! state to which they lead. The first entry that is no step ends the walk, and it is not told.

@@ -24,7 +24,7 @@ pub struct Posts {
     readied: Vec<GNo>,
 }
 
-/// Whether a call's own goroutine becomes ready by it on the shelf.
+/// Who becomes ready on the shelf by its own call.
 fn shelved(reply: Reply) -> Option<GNo> {
     match reply {
         Reply::Shelved(r) => Some(r.g),

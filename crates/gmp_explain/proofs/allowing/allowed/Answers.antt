@@ -1,7 +1,7 @@
 use Rattle.std.proofs.Common.{sym, ap, ◌∙◌}
 use Rattle.gmp_seq.specs.declared.call.Entry.{Entry}
 use Rattle.gmp_explain.proofs.Alike.{allowed_alike}
-use Rattle.gmp_explain.proofs.replies.allowed.Goals as goal
+use Rattle.gmp_explain.proofs.allowing.allowed.Goals as goal
 
 pub try_reply-requires : goal.try_reply-requires
 try_reply-requires c =
