@@ -115,7 +115,7 @@ text{font:12px monospace;fill:#000}
 <rect class="i" x="550" y="43" width="30" height="1"/><text class="g" x="586" y="47">awake; no line: parked</text>
 <path class="a" d="M754 43L786 43"/><text class="g" x="794" y="47">made ready, claimed</text>
 <rect class="f" x="940" y="34" width="30" height="18"/><rect class="l" x="940" y="43" width="30" height="9"/><text class="g" x="976" y="47">fill level</text>
-<rect class="t" x="1064" y="34" width="2" height="18"/><text class="g" x="1072" y="47">handed over</text>
+<rect class="t" x="1064" y="34" width="2" height="18"/><text class="g" x="1072" y="47">value passed</text>
 <path class="x" d="M1168 38L1178 48M1178 38L1168 48"/><text class="g" x="1184" y="47">closed</text>
 <text class="p" x="111" y="74">0</text><rect class="r" x="108" y="64" width="1" height="96"/>
 <text class="p" x="231" y="74">1</text><rect class="r" x="228" y="64" width="1" height="96"/>
