@@ -42,7 +42,7 @@ fn drawn<P: Progress>(
         Err(ended) => return Err(ended),
     };
     let range = range_of(&trace, from, to);
-    match picture(alloc, trace.view(), range, progress) {
+    match picture(alloc, trace.view(), range, &mut ()) {
         Ok(svg) => Ok(svg),
         Err(_) => Err(Ended::out_of_memory()),
     }
