@@ -14,7 +14,7 @@ use Rattle.gmp_seq.proofs.Sizes.{legal_sizes}
 use Rattle.gmp_seq.specs.declared.status.Goroutine.{Goroutine}
 use Rattle.gmp_seq.specs.declared.status.Mode.{Mode}
 use Rattle.gmp_seq.specs.declared.status.Mode.TheVariants as mode
-use Rattle.gmp_seq.specs.declared.status.Place.TheVariants.{Shelf, Out}
+use Rattle.gmp_seq.specs.declared.status.TicketPlace.TheVariants.{Shelf, Out}
 use Rattle.gmp_seq.specs.declared.status.Status.{Status}
 use Rattle.gmp_seq.specs.declared.status.Status.TheVariants as status
 use Rattle.gmp_seq.specs.Laws.{IsInOrder, HasSizes, is_ready}

@@ -18,7 +18,7 @@ use Rattle.gmp_seq.specs.declared.call.Limits.{Limits}
 use Rattle.gmp_seq.specs.declared.call.Reply.{Reply}
 use Rattle.gmp_seq.specs.declared.status.Goroutine.{Goroutine}
 use Rattle.gmp_seq.specs.declared.status.Mode.TheVariants as mode
-use Rattle.gmp_seq.specs.declared.status.Place.TheVariants.{Shelf, Out}
+use Rattle.gmp_seq.specs.declared.status.TicketPlace.TheVariants.{Shelf, Out}
 use Rattle.gmp_seq.specs.declared.status.Status.{Status}
 use Rattle.gmp_seq.specs.declared.status.Status.TheVariants as status
 use Rattle.gmp_seq.specs.Fits.{AreLimits}

@@ -6,7 +6,7 @@ ghost use Rattle.std.specs.Prelude.{◌≡◌, ◌↔◌, ◌<◌, ◌^◌, ◌�
 ghost use Rattle.gmp_base.specs.declared.ask.Woke.{Woke};
 ghost use Rattle.gmp_base.specs.declared.number.GNo.{GNo};
 ghost use Rattle.gmp_base.specs.declared.number.MNo.{MNo};
-ghost use Rattle.gmp_seq.specs.declared.status.Place.{Place};
+ghost use Rattle.gmp_seq.specs.declared.status.TicketPlace.{TicketPlace};
 ghost use Rattle.gmp_seq.specs.declared.status.Status.{Status};
 ghost use Rattle.gmp_check.specs.Last.{AreLast, IsAlone, IsAt};
 ghost use Rattle.gmp_start.specs.Start.{table_of};
@@ -19,7 +19,7 @@ mod waiting;
 mod waking;
 
 use gmp_base::{GNo, MNo, Readiness, Woke};
-use gmp_seq::{Goroutine, Kind, Offers, Place, Status, Wait};
+use gmp_seq::{Goroutine, Kind, Offers, Status, TicketPlace, Wait};
 use gmp_start::{Start, copied_rows};
 use std::alloc::{AllocError, Global};
 use std::marker::Model;
@@ -89,7 +89,7 @@ impl Table {
     {
         let mut goroutines = Vec::with_capacity(alloc, bodies as usize)?;
         goroutines.push_reserved(Goroutine {
-            status: Status::Ready(Place::Shelf, Woke::First),
+            status: Status::Ready(TicketPlace::Shelf, Woke::First),
             epoch: 1,
         });
         for _ in 1..bodies {
@@ -180,7 +180,7 @@ impl Table {
     }
 
     /// What the goroutine of this readiness is to be told, where its ticket is at this place.
-    fn answer(&self, r: Readiness, place: Place) -> Option<Woke>
+    fn answer(&self, r: Readiness, place: TicketPlace) -> Option<Woke>
         ensures some { IfSome result (λ answer. IsReady self.now r place answer) }
         ensures none { IfNone result ((answer : Woke) → IsReady self.now r place answer → ⊥) }
     {
@@ -211,7 +211,7 @@ impl Table {
     pub(crate) fn is_outstanding(&self, r: Readiness) -> bool
         ensures { IsTrue result ↔ IsOutstanding self.now r }
     {
-        self.answer(r, Place::Out).is_some()
+        self.answer(r, TicketPlace::Out).is_some()
     }
 
     /// Whether some goroutine is ready or runs, by a look at all.
@@ -288,7 +288,7 @@ impl Table {
     }
 
     /// The goroutine's ticket is at this place, with a new epoch, and this is stored for it.
-    pub(crate) fn make_ready(&mut self, g: GNo, place: Place, woke: Woke)
+    pub(crate) fn make_ready(&mut self, g: GNo, place: TicketPlace, woke: Woke)
         requires { epoch_at self.old g < 2 ^ 63 }
         ensures { self.new ≡ made_ready self.old g place woke }
     {

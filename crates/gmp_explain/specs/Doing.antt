@@ -5,7 +5,7 @@ use Rattle.gmp_seq.specs.declared.status.Deal.TheVariants as deal
 use Rattle.gmp_seq.specs.declared.status.Kind.{Kind}
 use Rattle.gmp_seq.specs.declared.status.Kind.TheVariants as kind
 use Rattle.gmp_seq.specs.declared.status.Offer.{Offer}
-use Rattle.gmp_seq.specs.declared.status.Place.TheVariants.{Shelf, Out}
+use Rattle.gmp_seq.specs.declared.status.TicketPlace.TheVariants.{Shelf, Out}
 use Rattle.gmp_seq.specs.declared.status.Status.{Status}
 use Rattle.gmp_seq.specs.declared.status.Status.TheVariants as status
 use Rattle.gmp_seq.specs.declared.status.Wait.{Wait}

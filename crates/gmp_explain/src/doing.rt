@@ -1,7 +1,7 @@
 //! What a goroutine does, in words: `Doing` of a status of the checker's table, `Waited` of a wait, `Dealing` of an offer. Each text is that
 //! of the definitions, so what a line says of a goroutine is what the table has.
 
-use gmp_seq::{Deal, Kind, Offer, Place, Status, Wait};
+use gmp_seq::{Deal, Kind, Offer, Status, TicketPlace, Wait};
 use std::fmt;
 
 /// A communication that is waited for.
@@ -65,8 +65,8 @@ impl fmt::Display for Doing<'_> {
     fn fmt<W: fmt::Write>(&self, f: &mut fmt::Formatter<W>) -> fmt::Result {
         match self.0 {
             Status::Dormant => f.write_str("never started"),
-            Status::Ready(Place::Shelf, _) => f.write_str("ready, its ticket on the shelf"),
-            Status::Ready(Place::Out, _) => f.write_str(
+            Status::Ready(TicketPlace::Shelf, _) => f.write_str("ready, its ticket on the shelf"),
+            Status::Ready(TicketPlace::Out, _) => f.write_str(
                 "ready, its ticket given out and not claimed",
             ),
             Status::Running(m) => write!(f, "runs on machine {}", m.0),

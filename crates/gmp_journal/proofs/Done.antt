@@ -9,7 +9,7 @@ use Rattle.gmp_seq.proofs.Counts.{asleep_where_said}
 use Rattle.gmp_journal.specs.Done.{IsDoneTo}
 use Rattle.gmp_seq.specs.declared.call.Call.TheVariants as call
 use Rattle.gmp_seq.specs.declared.call.Reply.TheVariants as reply
-use Rattle.gmp_seq.specs.declared.status.Place.TheVariants as place
+use Rattle.gmp_seq.specs.declared.status.TicketPlace.TheVariants as place
 use Rattle.gmp_seq.specs.declared.status.Status.TheVariants as status
 use Rattle.gmp_seq.proofs.Asleep.{fails_at}
 use Rattle.gmp_seq.proofs.Needed.{some_place}

@@ -8,7 +8,7 @@ use Rattle.gmp_seq.specs.declared.call.Call.{Call}
 use Rattle.gmp_seq.specs.declared.call.Call.TheVariants as call
 use Rattle.gmp_seq.specs.declared.call.Reply.{Reply}
 use Rattle.gmp_seq.specs.declared.call.Reply.TheVariants as reply
-use Rattle.gmp_seq.specs.declared.status.Place.TheVariants.{Out}
+use Rattle.gmp_seq.specs.declared.status.TicketPlace.TheVariants.{Out}
 use Rattle.gmp_seq.specs.declared.status.Status.TheVariants.{Calling}
 use Rattle.gmp_seq.specs.State.{State}
 use Rattle.gmp_seq.specs.Step.{Deals, Exits, Goparks, Selects, Sleeps, Yields, LeavesBy}

@@ -33,7 +33,7 @@ use Rattle.gmp_seq.specs.declared.call.Taken.TheVariants as taken
 use Rattle.gmp_seq.specs.declared.status.Direction.{Direction}
 use Rattle.gmp_seq.specs.declared.status.Direction.TheVariants.{Sending, Receiving}
 use Rattle.gmp_seq.specs.declared.status.Goroutine.{Goroutine}
-use Rattle.gmp_seq.specs.declared.status.Place.{Place}
+use Rattle.gmp_seq.specs.declared.status.TicketPlace.{TicketPlace}
 use Rattle.gmp_seq.specs.declared.status.Status.{Status}
 use Rattle.gmp_seq.specs.declared.status.Status.TheVariants as status
 use Rattle.gmp_seq.specs.declared.status.Transfer.{Transfer}
@@ -71,7 +71,7 @@ does_in_stock : (t : Table) (g : GNo) (s : Status) → status_at t g ≡ Some s 
 does_in_stock t g s h = in_stock t g (λ (o : Option Status). o ≡ Some s) (λ e. absurd cc) h
 
 module _ (t : Table) (few : length t.goroutines ≤ 4096) (epochs : (g : GNo) → epoch_at t g ≤ 1000001) where
-  ready_fits : (r : Readiness) (place : Place) (answer : Woke) → IsReady t r place answer → FitsReadiness r
+  ready_fits : (r : Readiness) (place : TicketPlace) (answer : Woke) → IsReady t r place answer → FitsReadiness r
   ready_fits r place answer ready =
       let within : r.g.0 < length t.goroutines = slice_get_within t.goroutines r.g.0 _ ready in
       let epoch : epoch_at t r.g ≡ r.epoch = ap epoch_of ready in

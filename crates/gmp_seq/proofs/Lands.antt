@@ -28,8 +28,8 @@ use Rattle.gmp_seq.specs.declared.status.Direction.TheVariants.{Sending, Receivi
 use Rattle.gmp_seq.specs.declared.status.Goroutine.{Goroutine}
 use Rattle.gmp_seq.specs.declared.status.Kind.{Kind}
 use Rattle.gmp_seq.specs.declared.status.Offer.{Offer}
-use Rattle.gmp_seq.specs.declared.status.Place.{Place}
-use Rattle.gmp_seq.specs.declared.status.Place.TheVariants.{Shelf, Out}
+use Rattle.gmp_seq.specs.declared.status.TicketPlace.{TicketPlace}
+use Rattle.gmp_seq.specs.declared.status.TicketPlace.TheVariants.{Shelf, Out}
 use Rattle.gmp_seq.specs.declared.status.Status.{Status}
 use Rattle.gmp_seq.specs.declared.status.Status.TheVariants as status
 use Rattle.gmp_seq.specs.declared.status.Transfer.TheVariants.{Handed, Relayed}
@@ -130,7 +130,7 @@ module _ (c : Call) (answer : Reply) (old new : Table) where
   turns : (g : GNo) (after : Status) → new ≡ set_status old g after → Lands c answer (status_at old g) g.0 after → Moves
   turns g after is h = subst (λ (t : Table). Into (Lands c answer) old.goroutines t.goroutines) (sym is) (into_set (Lands c answer) old.goroutines g.0 _ h)
 
-  readied : (g : GNo) (place : Place) (woke : Woke) → new ≡ made_ready old g place woke → KeepsWoke (status_at old g) woke → Moves
+  readied : (g : GNo) (place : TicketPlace) (woke : Woke) → new ≡ made_ready old g place woke → KeepsWoke (status_at old g) woke → Moves
   readied g place woke is h = subst (λ (t : Table). Into (Lands c answer) old.goroutines t.goroutines) (sym is) (into_set (Lands c answer) old.goroutines g.0 _ h)
 
   waits : (g : GNo) (why : Kind) (offers : List Offer) (until : Option ℕ) → new ≡ made_wait old g why offers until
@@ -141,7 +141,7 @@ module _ (c : Call) (answer : Reply) (old new : Table) where
   woken told keeps is = subst (Into (Lands c answer) old.goroutines) (sym is) (into_woken (Lands c answer) told (λ i. keeps) old.goroutines)
 
 -- who is ready by a ticket stays ready with the same answer
-stays_told : (t : Table) (r : Readiness) (place : Place) (told : Woke) → IsReady t r place told → KeepsWoke (status_at t r.g) told
+stays_told : (t : Table) (r : Readiness) (place : TicketPlace) (told : Woke) → IsReady t r place told → KeepsWoke (status_at t r.g) told
 stays_told t r place told ready = subst (λ (o : Option Goroutine). KeepsWoke (status_of o) told) (sym ready) refl
 
 takes : (c : Call) (answer : Reply) (old new : Table) → Step.Takes answer old new → Moves c answer old new
@@ -284,7 +284,7 @@ effect_lands limits m call.Park answer old new (bare, h) = parks call.Park m ans
 effect_lands limits m (call.Tick moment) answer old new (awake, (h, rest, more)) = ticks (call.Tick moment) moment answer _ _ h
 
 -- what a ready goroutine is to be told stays, while it is ready
-pub step_keeps_woke : (limits : Limits) (m : MNo) (c : Call) (answer : Reply) (old new : State) → Step.Step limits m c answer old new → (g : GNo) (p q : Place) (a b : Woke)
+pub step_keeps_woke : (limits : Limits) (m : MNo) (c : Call) (answer : Reply) (old new : State) → Step.Step limits m c answer old new → (g : GNo) (p q : TicketPlace) (a b : Woke)
     → status_at old.table g ≡ Some (status.Ready p a) → status_at new.table g ≡ Some (status.Ready q b) → a ≡ b
 step_keeps_woke limits m c answer old new (ongoing, effect, counted, ended) g p q a b was is =
     elim (effect_lands limits m c answer old new effect g.0 (status.Ready q b) is) [
@@ -294,5 +294,5 @@ step_keeps_woke limits m c answer old new (ongoing, effect, counted, ended) g p 
           told_same p q a b same
       | inr keeps ↦ subst (λ (o : Option Status). KeepsWoke o b) was keeps
     ] where
-      told_same : (p q : Place) (a b : Woke) → status.Ready p a ≡ status.Ready q b → a ≡ b
+      told_same : (p q : TicketPlace) (a b : Woke) → status.Ready p a ≡ status.Ready q b → a ≡ b
       told_same p q a b e = cc

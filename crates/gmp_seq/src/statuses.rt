@@ -2,7 +2,7 @@
 ghost use Rattle.std.specs.Prelude.{◌≡◌};
 ghost use Rattle.gmp_seq.specs.Table.{answer_of_ready, deadline_of, is_astir, is_calling, is_calling_on, is_dormant, is_parked, is_ready_or_running, is_running_on, is_shelved};
 
-use crate::status::{Kind, Place, Status};
+use crate::status::{Kind, Status, TicketPlace};
 use gmp_base::{MNo, Woke};
 
 impl Status {
@@ -17,7 +17,7 @@ impl Status {
     pub fn is_shelved(&self) -> bool
         ensures { result ≡ is_shelved self.now }
     {
-        matches!(self, Status::Ready(Place::Shelf, _))
+        matches!(self, Status::Ready(TicketPlace::Shelf, _))
     }
 
     /// Whether it waits for a `Ready`.

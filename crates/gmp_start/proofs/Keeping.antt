@@ -24,8 +24,8 @@ use Rattle.gmp_seq.specs.declared.call.Taken.{Taken}
 use Rattle.gmp_seq.specs.declared.status.Direction.TheVariants.{Sending, Receiving}
 use Rattle.gmp_seq.specs.declared.status.Kind.{Kind}
 use Rattle.gmp_seq.specs.declared.status.Offer.{Offer}
-use Rattle.gmp_seq.specs.declared.status.Place.{Place}
-use Rattle.gmp_seq.specs.declared.status.Place.TheVariants.{Shelf, Out}
+use Rattle.gmp_seq.specs.declared.status.TicketPlace.{TicketPlace}
+use Rattle.gmp_seq.specs.declared.status.TicketPlace.TheVariants.{Shelf, Out}
 use Rattle.gmp_seq.specs.declared.status.Status.{Status}
 use Rattle.gmp_seq.specs.declared.status.Status.TheVariants as status
 use Rattle.gmp_seq.specs.declared.status.Transfer.{Transfer}
@@ -57,7 +57,7 @@ turns : (n : ℕ) (old new : Table) (g : GNo) (after : Status) → new ≡ set_s
 turns n old new g after is h formed =
     subst (IsFormedTable n) (sym is) (record { rows = set_formed n old.goroutines g.0 _ formed.rows (h formed); clock = formed.clock })
 
-readied : (n : ℕ) (old new : Table) (g : GNo) (place : Place) (told : Woke) → new ≡ made_ready old g place told → (IsFormedTable n old → FitsWoke told) → Keeps n old new
+readied : (n : ℕ) (old new : Table) (g : GNo) (place : TicketPlace) (told : Woke) → new ≡ made_ready old g place told → (IsFormedTable n old → FitsWoke told) → Keeps n old new
 readied n old new g place told is h formed =
     subst (IsFormedTable n) (sym is) (record { rows = set_formed n old.goroutines g.0 _ formed.rows (h formed); clock = formed.clock })
 
@@ -67,7 +67,7 @@ waits n old new g why offers until is h formed =
     subst (IsFormedTable n) (sym is) (record { rows = set_formed n old.goroutines g.0 _ formed.rows h; clock = formed.clock })
 
 -- who is ready by a ticket is told what fits
-ready_told : (n : ℕ) (t : Table) (r : Readiness) (place : Place) (told : Woke) → IsReady t r place told → IsFormedTable n t → FitsWoke told
+ready_told : (n : ℕ) (t : Table) (r : Readiness) (place : TicketPlace) (told : Woke) → IsReady t r place told → IsFormedTable n t → FitsWoke told
 ready_told n t r place told ready formed = formed.rows r.g.0 (status.Ready place told) (rw ready refl)
 
 module _ (n : ℕ) (old new : Table) where

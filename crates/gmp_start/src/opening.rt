@@ -7,7 +7,7 @@ ghost use Rattle.gmp_start.specs.Start.{channel_of, state_of};
 
 use crate::start::{Start, StartChannel};
 use gmp_base::Woke;
-use gmp_seq::{Goroutine, Limits, Mode, Place, Status};
+use gmp_seq::{Goroutine, Limits, Mode, Status, TicketPlace};
 use std::alloc::{AllocError, Global};
 
 /// Main is on the shelf, ready for the first time; all others are dormant.
@@ -17,7 +17,7 @@ fn opening_rows(alloc: Global, bodies: u16) -> Result<Vec<Goroutine>, AllocError
 {
     let mut goroutines = Vec::with_capacity(alloc, bodies as usize)?;
     goroutines.push_reserved(Goroutine {
-        status: Status::Ready(Place::Shelf, Woke::First),
+        status: Status::Ready(TicketPlace::Shelf, Woke::First),
         epoch: 1,
     });
     for _ in 1..bodies {

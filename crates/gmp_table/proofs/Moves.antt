@@ -11,8 +11,8 @@ use Rattle.gmp_base.specs.declared.number.GNo.{GNo}
 use Rattle.gmp_base.specs.declared.number.Readiness.{Readiness}
 use Rattle.gmp_base.specs.declared.ask.Woke.{Woke}
 use Rattle.gmp_seq.specs.declared.status.Goroutine.{Goroutine}
-use Rattle.gmp_seq.specs.declared.status.Place.{Place}
-use Rattle.gmp_seq.specs.declared.status.Place.TheVariants.{Shelf, Out}
+use Rattle.gmp_seq.specs.declared.status.TicketPlace.{TicketPlace}
+use Rattle.gmp_seq.specs.declared.status.TicketPlace.TheVariants.{Shelf, Out}
 use Rattle.gmp_seq.specs.declared.status.Status.{Status}
 use Rattle.gmp_seq.specs.declared.status.Status.TheVariants.{Dormant, Ready, Running, Calling, Waiting, Dead}
 use Rattle.gmp_seq.specs.State.{dormant, first_goroutine}
@@ -108,7 +108,7 @@ top_popped rows shelf capacity g y kept first now_off =
     }
 
 -- what is told by a ready goroutine's row
-pub ready_answer : (rows : List Goroutine) (g : GNo) (place : Place) (answer woke : Woke) (epoch : ℕ)
+pub ready_answer : (rows : List Goroutine) (g : GNo) (place : TicketPlace) (answer woke : Woke) (epoch : ℕ)
     → slice_get rows g.0 ≡ Some (record { status = Ready place answer; epoch = epoch }) → answer_in rows g ≡ Some woke → woke ≡ answer
 ready_answer rows g place answer woke epoch at e = let e' : Some answer ≡ Some woke = rw at at e in cc
 

@@ -12,8 +12,8 @@ use Rattle.gmp_base.specs.declared.number.GNo.{GNo}
 use Rattle.gmp_base.specs.declared.ask.Woke.{Woke}
 use Rattle.gmp_seq.proofs.Epochs.{at_set}
 use Rattle.gmp_seq.specs.declared.status.Goroutine.{Goroutine}
-use Rattle.gmp_seq.specs.declared.status.Place.{Place}
-use Rattle.gmp_seq.specs.declared.status.Place.TheVariants.{Shelf}
+use Rattle.gmp_seq.specs.declared.status.TicketPlace.{TicketPlace}
+use Rattle.gmp_seq.specs.declared.status.TicketPlace.TheVariants.{Shelf}
 use Rattle.gmp_seq.specs.declared.status.Status.TheVariants.{Ready}
 use Rattle.gmp_seq.specs.Table.{Table, made_ready, all_woken, how_many_woken, woken_with}
 use Rattle.gmp_table.proofs.Listing.{count_by-set, slice_get-set_same, slice_get-set_other}
@@ -29,7 +29,7 @@ use Rattle.gmp_table.specs.Waking.{answer_of, rank_of, rank_at, is_before, is_wo
 some_none : {X : Type 0} (o : Option X) → o ≡ None → is_some o ≡ true → ⊥
 some_none o none some = let e : is_some o ≡ false = rw none refl in false≢true (sym e ∙ some)
 
-ready_unanswered : (wake : Wake) (place : Place) (woke : Woke) → answer_of wake (Ready place woke) ≡ None
+ready_unanswered : (wake : Wake) (place : TicketPlace) (woke : Woke) → answer_of wake (Ready place woke) ≡ None
 ready_unanswered (Closed c) place woke = refl
 ready_unanswered (Due now) place woke = refl
 

@@ -4,7 +4,7 @@ use Rattle.std.specs.Option.{option_map_or}
 use Rattle.gmp_base.specs.declared.number.GNo.{GNo}
 use Rattle.gmp_base.specs.declared.ask.Woke.{Woke}
 use Rattle.gmp_seq.specs.declared.status.Goroutine.{Goroutine}
-use Rattle.gmp_seq.specs.declared.status.Place.{Place}
+use Rattle.gmp_seq.specs.declared.status.TicketPlace.{TicketPlace}
 use Rattle.gmp_seq.specs.declared.status.Status.{Status}
 use Rattle.gmp_seq.specs.declared.status.Status.TheVariants.{Ready}
 use Rattle.gmp_seq.specs.State.{main, opening_table}
@@ -30,7 +30,7 @@ epoch_in rows g = option_map_or (λ (x : Goroutine). x.epoch) (slice_get rows g.
 abbrev pub turned : List Goroutine → GNo → Status → List Goroutine
 turned rows g status = slice_set rows g.0 (record { status = status; epoch = epoch_in rows g })
 
-abbrev pub risen : List Goroutine → GNo → Place → Woke → List Goroutine
+abbrev pub risen : List Goroutine → GNo → TicketPlace → Woke → List Goroutine
 risen rows g place answer = slice_set rows g.0 (record { status = Ready place answer; epoch = epoch_in rows g + 1 })
 
 -- what a ready goroutine is to be told

@@ -11,7 +11,7 @@ ghost use Rattle.gmp_table.specs.Waking.{IsFirst};
 use crate::deadlines::{Deadline, Deadlines};
 use crate::wake::Candidate;
 use gmp_base::{GNo, Woke};
-use gmp_seq::{Goroutine, Place, Status};
+use gmp_seq::{Goroutine, Status, TicketPlace};
 use std::alloc::{AllocError, Global};
 use std::marker::Model;
 
@@ -135,7 +135,7 @@ impl Rows {
 
     /// Makes a goroutine ready by its next epoch, which is answered: an epoch is given out once.
     #[inline(always)]
-    pub(crate) fn rise(&mut self, g: GNo, place: Place, woke: Woke) -> u64
+    pub(crate) fn rise(&mut self, g: GNo, place: TicketPlace, woke: Woke) -> u64
         requires within { g.0 < length self.old }
         requires young { epoch_in self.old g < 2 ^ 63 }
         ensures epoch { result ≡ epoch_in self.old g + 1 }

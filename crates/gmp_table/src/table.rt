@@ -18,7 +18,7 @@ use crate::rows::Rows;
 use crate::wake::Candidate;
 use circular_buffer::HeapCircularBuffer;
 use gmp_base::{GNo, MNo, Readiness, Woke};
-use gmp_seq::{Goroutine, Kind, Offers, Place, Status, Wait};
+use gmp_seq::{Goroutine, Kind, Offers, Status, TicketPlace, Wait};
 use std::alloc::{AllocError, Global};
 use std::marker::Model;
 
@@ -57,7 +57,7 @@ impl StatusTable {
     {
         let mut rows = Rows::dormant(alloc, bodies)?;
         let mut shelf = HeapCircularBuffer::with_capacity(alloc, bodies as usize)?;
-        rows.rise(GNo(0), Place::Shelf, Woke::First);
+        rows.rise(GNo(0), TicketPlace::Shelf, Woke::First);
         shelf.push_back(GNo(0));
         Ok(StatusTable {
             rows,
@@ -134,7 +134,7 @@ impl StatusTable {
         match self.get(r.g) {
             Some(
                 Goroutine {
-                    status: Status::Ready(Place::Out, _),
+                    status: Status::Ready(TicketPlace::Out, _),
                     epoch,
                 },
             ) => *epoch == r.epoch,
@@ -180,7 +180,8 @@ impl StatusTable {
         // The answer stands in the row: the shelf has numbers alone, so both can't differ.
         let g = self.shelf.pop_front()?;
         let woke = self.rows.answer(g).unwrap();
-        self.rows.put_status(g, Status::Ready(Place::Out, woke));
+        self.rows
+            .put_status(g, Status::Ready(TicketPlace::Out, woke));
         Some(Readiness {
             g,
             epoch: self.rows.epoch(g),
@@ -194,7 +195,8 @@ impl StatusTable {
         ensures last { self.new.shelf ≡ self.old.shelf ++ r.g ∷ [] }
     {
         let woke = self.rows.answer(r.g).unwrap();
-        self.rows.put_status(r.g, Status::Ready(Place::Shelf, woke));
+        self.rows
+            .put_status(r.g, Status::Ready(TicketPlace::Shelf, woke));
         self.shelf.push_back(r.g);
     }
 
@@ -202,7 +204,7 @@ impl StatusTable {
     pub fn claim(&mut self, m: MNo, r: Readiness) -> Woke
         requires { is_outstanding self.old.table r ≡ true }
         ensures claims { Claims m r Reply.Held self.old.table self.new.table }
-        ensures answer { IsReady self.old.table r Place.Out result }
+        ensures answer { IsReady self.old.table r TicketPlace.Out result }
         ensures shelf { self.new.shelf ≡ self.old.shelf }
     {
         let woke = self.rows.answer(r.g).unwrap();
@@ -227,10 +229,10 @@ impl StatusTable {
         requires off { IsOffShelf self.old.table g }
         requires young { epoch_at self.old.table g < 2 ^ 63 }
         ensures ticket { result ≡ next_of self.old.table g }
-        ensures table { self.new.table ≡ made_ready self.old.table g Place.Out woke }
+        ensures table { self.new.table ≡ made_ready self.old.table g TicketPlace.Out woke }
         ensures shelf { self.new.shelf ≡ self.old.shelf }
     {
-        let epoch = self.rows.rise(g, Place::Out, woke);
+        let epoch = self.rows.rise(g, TicketPlace::Out, woke);
         Readiness { g, epoch }
     }
 
@@ -240,10 +242,10 @@ impl StatusTable {
         requires off { IsOffShelf self.old.table g }
         requires young { epoch_at self.old.table g < 2 ^ 63 }
         ensures ticket { result ≡ next_of self.old.table g }
-        ensures table { self.new.table ≡ made_ready self.old.table g Place.Shelf woke }
+        ensures table { self.new.table ≡ made_ready self.old.table g TicketPlace.Shelf woke }
         ensures last { self.new.shelf ≡ self.old.shelf ++ g ∷ [] }
     {
-        let epoch = self.rows.rise(g, Place::Shelf, woke);
+        let epoch = self.rows.rise(g, TicketPlace::Shelf, woke);
         self.shelf.push_back(g);
         Readiness { g, epoch }
     }

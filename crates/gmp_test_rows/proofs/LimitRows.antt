@@ -10,7 +10,7 @@ use Rattle.gmp_seq.specs.declared.call.Outcome.TheVariants as outcome
 use Rattle.gmp_seq.specs.declared.call.Reply.TheVariants as reply
 use Rattle.gmp_seq.specs.declared.status.Kind.TheVariants as kind
 use Rattle.gmp_seq.specs.declared.status.Mode.TheVariants as mode
-use Rattle.gmp_seq.specs.declared.status.Place.TheVariants.{Shelf, Out}
+use Rattle.gmp_seq.specs.declared.status.TicketPlace.TheVariants.{Shelf, Out}
 use Rattle.gmp_seq.specs.declared.status.Status.TheVariants as status
 use Rattle.std.proofs.Common.{false, None, Some, List, [], ◌∷◌, ◌++◌, refl}
 

@@ -17,7 +17,7 @@ use Rattle.gmp_seq.specs.declared.status.Goroutine.{Goroutine}
 use Rattle.gmp_seq.specs.declared.status.Kind.TheVariants as kind
 use Rattle.gmp_seq.specs.declared.status.Mode.{Mode}
 use Rattle.gmp_seq.specs.declared.status.Mode.TheVariants as mode
-use Rattle.gmp_seq.specs.declared.status.Place.TheVariants.{Shelf, Out}
+use Rattle.gmp_seq.specs.declared.status.TicketPlace.TheVariants.{Shelf, Out}
 use Rattle.gmp_seq.specs.declared.status.Status.TheVariants as status
 use Rattle.gmp_seq.specs.declared.status.Transfer.TheVariants.{Failed, Handed, Stored, First, Relayed, Drained}
 use Rattle.gmp_test_rows.proofs.MachineRows.{looking_again_after_1}

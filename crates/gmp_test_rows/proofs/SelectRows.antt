@@ -15,7 +15,7 @@ use Rattle.gmp_seq.specs.declared.call.Taken.TheVariants as taken
 use Rattle.gmp_seq.specs.declared.status.Deal.TheVariants as deal
 use Rattle.gmp_seq.specs.declared.status.Kind.TheVariants as kind
 use Rattle.gmp_seq.specs.declared.status.Mode.TheVariants as mode
-use Rattle.gmp_seq.specs.declared.status.Place.TheVariants.{Shelf, Out}
+use Rattle.gmp_seq.specs.declared.status.TicketPlace.TheVariants.{Shelf, Out}
 use Rattle.gmp_seq.specs.declared.status.Status.TheVariants as status
 use Rattle.gmp_seq.specs.declared.status.Transfer.TheVariants.{Failed, Handed, Stored, First, Relayed, Drained}
 use Rattle.std.proofs.Common.{lit≤, true, false, None, Some, List, [], ◌∷◌, ◌++◌, refl}

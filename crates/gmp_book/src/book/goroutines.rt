@@ -4,7 +4,7 @@ ghost use Rattle.gmp_base.specs.declared.ask.Woke.{Woke};
 ghost use Rattle.gmp_base.specs.Values.{readiness_of};
 ghost use Rattle.gmp_seq.specs.declared.call.Reply.{Reply};
 ghost use Rattle.gmp_seq.specs.declared.status.Kind.{Kind};
-ghost use Rattle.gmp_seq.specs.declared.status.Place.TheVariants.{Shelf, Out};
+ghost use Rattle.gmp_seq.specs.declared.status.TicketPlace.TheVariants.{Shelf, Out};
 ghost use Rattle.gmp_seq.specs.declared.status.Status.{Status};
 ghost use Rattle.gmp_seq.specs.Table.{IsReady, made_ready, made_wait, next_of, set_status};
 ghost use Rattle.gmp_journal.specs.Handed.{by_held, by_ticket, nothing_handed};

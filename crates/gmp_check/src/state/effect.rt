@@ -9,7 +9,7 @@ ghost use Rattle.gmp_check.specs.Consistent.{IsConsistent, SameCounts};
 
 use super::State;
 use gmp_base::{Case, GNo, MNo, Woke};
-use gmp_seq::{Call, Limits, Mode, Place, Reply, Status};
+use gmp_seq::{Call, Limits, Mode, Reply, Status, TicketPlace};
 use std::alloc::AllocError;
 
 impl State {
@@ -86,7 +86,8 @@ impl State {
             }
             Reply::Shelved(r) if !self.machines.has_idle() && r == self.table.next(g) => {
                 self.machines.set_mode(m, Mode::Awake);
-                self.table.make_ready(g, Place::Shelf, Woke::Number(number));
+                self.table
+                    .make_ready(g, TicketPlace::Shelf, Woke::Number(number));
                 true
             }
             _ => false,

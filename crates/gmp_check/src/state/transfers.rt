@@ -8,7 +8,7 @@ ghost use Rattle.gmp_check.specs.Ways.{IsWay, state_after};
 
 use super::State;
 use gmp_base::{CNo, Case};
-use gmp_seq::{Direction, Place, Relay, Taken, Transfer};
+use gmp_seq::{Direction, Relay, Taken, TicketPlace, Transfer};
 
 impl State {
     /// How a send proceeds: it fails on a closed channel, goes to the first that receives, or into room; none where it has to wait.
@@ -81,7 +81,7 @@ impl State {
             Transfer::Stored => self.channels.push(c, v),
             Transfer::Handed(w) => {
                 let woke = w.offer.receiver_answer(w.kind, v, true);
-                self.table.make_ready(w.g, Place::Out, woke);
+                self.table.make_ready(w.g, TicketPlace::Out, woke);
             }
             Transfer::Failed | Transfer::First(_) | Transfer::Relayed(_, _) | Transfer::Drained =>
                 {}
@@ -97,7 +97,8 @@ impl State {
             Transfer::First(_) => self.channels.pop(c),
             Transfer::Relayed(_, w) => {
                 self.channels.relay(c, w.offered());
-                self.table.make_ready(w.g, Place::Out, w.sender_answer());
+                self.table
+                    .make_ready(w.g, TicketPlace::Out, w.sender_answer());
             }
             Transfer::Failed | Transfer::Handed(_) | Transfer::Stored | Transfer::Drained => {}
         }

@@ -8,7 +8,7 @@ ghost use Rattle.gmp_check.specs.Decides.{Decides};
 
 use super::Table;
 use gmp_base::{Fault, GNo, MNo, Readiness, Woke};
-use gmp_seq::{Kind, Offers, Place, Reply, Status};
+use gmp_seq::{Kind, Offers, Reply, Status, TicketPlace};
 
 impl Table {
     /// Any ticket on the shelf is given out; or none, exactly where the shelf is empty.
@@ -16,9 +16,9 @@ impl Table {
         ensures { Decides (Takes reply) self.old self.new result }
     {
         match reply {
-            Reply::Ticket(r) => match self.answer(r, Place::Shelf) {
+            Reply::Ticket(r) => match self.answer(r, TicketPlace::Shelf) {
                 Some(woke) => {
-                    self.set_status(r.g, Status::Ready(Place::Out, woke));
+                    self.set_status(r.g, Status::Ready(TicketPlace::Out, woke));
                     true
                 }
                 None => false,
@@ -32,9 +32,9 @@ impl Table {
     pub(crate) fn put(&mut self, r: Readiness, reply: Reply) -> bool
         ensures { Decides (Puts r reply) self.old self.new result }
     {
-        match (reply, self.answer(r, Place::Out)) {
+        match (reply, self.answer(r, TicketPlace::Out)) {
             (Reply::Shelf, Some(woke)) => {
-                self.set_status(r.g, Status::Ready(Place::Shelf, woke));
+                self.set_status(r.g, Status::Ready(TicketPlace::Shelf, woke));
                 true
             }
             _ => false,
@@ -46,7 +46,7 @@ impl Table {
         requires { (g : GNo) → IsHeld self.old g m → ⊥ }
         ensures { Decides (Claims m r reply) self.old self.new result }
     {
-        match (reply, self.answer(r, Place::Out)) {
+        match (reply, self.answer(r, TicketPlace::Out)) {
             (Reply::Held, Some(_)) => {
                 self.set_status(r.g, Status::Running(m));
                 true
@@ -62,7 +62,7 @@ impl Table {
     {
         match (reply, self.status(g)) {
             (Reply::Ticket(r), Some(Status::Dormant)) if r == self.next(g) => {
-                self.make_ready(g, Place::Out, Woke::First);
+                self.make_ready(g, TicketPlace::Out, Woke::First);
                 true
             }
             (Reply::Fault(Fault::NoSuchBody), None) => true,
@@ -78,7 +78,7 @@ impl Table {
     {
         match reply {
             Reply::Shelved(r) if r == self.next(g) => {
-                self.make_ready(g, Place::Shelf, Woke::Done);
+                self.make_ready(g, TicketPlace::Shelf, Woke::Done);
                 true
             }
             _ => false,
@@ -135,7 +135,7 @@ impl Table {
     {
         match (reply, self.status(g)) {
             (Reply::Ticket(r), Some(status)) if status.is_parked() && r == self.next(g) => {
-                self.make_ready(g, Place::Out, Woke::Done);
+                self.make_ready(g, TicketPlace::Out, Woke::Done);
                 true
             }
             (Reply::Fault(Fault::NoSuchBody), None) => true,

@@ -11,7 +11,7 @@ ghost use Rattle.gmp_check.specs.Decides.{Decides};
 use super::Table;
 use crate::answers::Cause;
 use gmp_base::GNo;
-use gmp_seq::{Goroutine, Place, Reply, Status};
+use gmp_seq::{Goroutine, Reply, Status, TicketPlace};
 
 /// The lesser of two deadlines, where there are two.
 fn earlier(a: Option<u64>, b: Option<u64>) -> Option<u64>
@@ -41,7 +41,7 @@ fn wake(row: &mut Goroutine, cause: Cause)
     ensures { row.new ≡ woken_with (answer_for cause row.old.status) row.old }
 {
     if let Some(woke) = cause.answer(&row.status) {
-        row.status = Status::Ready(Place::Shelf, woke);
+        row.status = Status::Ready(TicketPlace::Shelf, woke);
         row.epoch += 1;
     }
 }

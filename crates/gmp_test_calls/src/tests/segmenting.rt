@@ -2,7 +2,7 @@
 //! definitions say is a clause; here the states are written out, as a person expects them.
 use gmp_base::{Held, MNo, Pass, Refusal, Woke};
 use gmp_book::Book;
-use gmp_seq::{Goroutine, Limits, Mode, Outcome, Place, Status};
+use gmp_seq::{Goroutine, Limits, Mode, Outcome, Status, TicketPlace};
 use gmp_start::Start;
 use std::alloc::{AllocError, Global};
 use std::process::Abort;
@@ -28,7 +28,7 @@ fn state(
 ) -> Result<Start, AllocError> {
     let mut goroutines = Vec::new(alloc);
     goroutines.push(Goroutine {
-        status: Status::Ready(Place::Shelf, woke),
+        status: Status::Ready(TicketPlace::Shelf, woke),
         epoch,
     })?;
     Ok(Start {

@@ -9,7 +9,7 @@ ghost use Rattle.gmp_trace.specs.StartGuess.{behind_until, channel_read, closed_
 use crate::guess::until;
 use crate::words::{byte, letter, narrow8, narrow16, narrow32, number, part, skip, word};
 use gmp_base::{CNo, Fault, MNo, Woke};
-use gmp_seq::{Deal, Goroutine, Kind, Mode, Offer, Offers, Place, Status, Wait};
+use gmp_seq::{Deal, Goroutine, Kind, Mode, Offer, Offers, Status, TicketPlace, Wait};
 use gmp_start::StartChannel;
 use std::alloc::{AllocError, Global};
 
@@ -189,8 +189,8 @@ fn status(words: &[&[u8]]) -> Status
         (b'd', _) => Status::Dead,
         (b'r', _) => Status::Running(machine(word(words, 1))),
         (b'c', _) => Status::Calling(machine(word(words, 1))),
-        (b's', _) => Status::Ready(Place::Shelf, woke(skip(words, 1))),
-        (b'o', _) => Status::Ready(Place::Out, woke(skip(words, 1))),
+        (b's', _) => Status::Ready(TicketPlace::Shelf, woke(skip(words, 1))),
+        (b'o', _) => Status::Ready(TicketPlace::Out, woke(skip(words, 1))),
         _ => wait(skip(words, 1)),
     }
 }

@@ -7,7 +7,7 @@ ghost use Rattle.gmp_trace.specs.StartText.{channel_line, channels_text, counts_
 
 use crate::put::{put, put_digits, put_named, put_number, put_word};
 use gmp_base::{MNo, Woke};
-use gmp_seq::{Deal, Goroutine, Kind, Mode, Offer, Place, Status, Wait};
+use gmp_seq::{Deal, Goroutine, Kind, Mode, Offer, Status, TicketPlace, Wait};
 use gmp_start::{Start, StartChannel};
 use std::alloc::AllocError;
 
@@ -223,11 +223,11 @@ fn put_status(out: &mut Vec<u8>, status: &Status) -> Result<(), AllocError>
         Status::Dead => put_word(out, b"dead"),
         Status::Running(m) => put_named(out, b"running", u64::from(m.0)),
         Status::Calling(m) => put_named(out, b"calling", u64::from(m.0)),
-        Status::Ready(Place::Shelf, woke) => {
+        Status::Ready(TicketPlace::Shelf, woke) => {
             put_word(out, b"shelf")?;
             put_woke(out, *woke)
         }
-        Status::Ready(Place::Out, woke) => {
+        Status::Ready(TicketPlace::Out, woke) => {
             put_word(out, b"out")?;
             put_woke(out, *woke)
         }

@@ -1,7 +1,7 @@
 use Rattle.std.proofs.Common.{◌≡◌, None, nat_lt, length, ap, refl, sym, ◌∙◌, slice_get}
 use Rattle.std.proofs.lemmas.Option.{slice_get_within}
 use Rattle.gmp_seq.specs.Table.{set_status}
-use Rattle.gmp_seq.specs.declared.status.Place.TheVariants.{Out}
+use Rattle.gmp_seq.specs.declared.status.TicketPlace.TheVariants.{Out}
 use Rattle.gmp_seq.specs.declared.status.Status.TheVariants.{Ready}
 use Rattle.gmp_table.specs.Contents.{epoch_in}
 use Rattle.gmp_table.proofs.Moves.{some_on_shelf, empty_of, top_is_shelved, top_popped, top_answer, top_turned}
