@@ -1,1 +1,5 @@
 pub mod Places
+pub mod Turns
+pub mod Ties
+pub mod Follows
+pub mod Whole
