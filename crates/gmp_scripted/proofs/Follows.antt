@@ -1,19 +1,17 @@
 -- Each act keeps it that the run is one by the script's bodies.
-use Rattle.std.proofs.Common.{◌≡◌, ◌≢◌, ◌⊎◌, inl, inr, ℕ, ◌<◌, ◌≤◌, Bool, true, false, List, [], ◌∷◌, ◌++◌, map, length, get_or, set, Option, None, Some, is_some, refl, sym, ap, subst, ◌∙◌, arith}
+use Rattle.std.proofs.Common.{◌≡◌, ◌≢◌, inl, inr, ℕ, ◌<◌, Bool, true, false, List, [], ◌∷◌, ◌++◌, map, length, get_or, set, Option, None, Some, is_some, refl, sym, ap, subst, ◌∙◌, arith}
 use Rattle.std.proofs.lemmas.Bool.{cases_lt}
 use Rattle.std.proofs.lemmas.List.{append-nil, get_or_past, map-append}
 use Rattle.std.proofs.lemmas.Option.{slice_get-get_or}
-use Rattle.std.specs.List.{slice_get}
 use Rattle.gmp_base.specs.declared.ask.Ask.{Ask}
 use Rattle.gmp_base.specs.declared.ask.Ask.TheVariants as ask
 use Rattle.gmp_base.specs.declared.number.GNo.{GNo}
 use Rattle.gmp_base.specs.declared.number.MNo.{MNo}
 use Rattle.gmp_base.specs.declared.number.PNo.{PNo}
 use Rattle.gmp_base.specs.declared.number.Readiness.{Readiness}
-use Rattle.gmp_base.specs.declared.refusal.Refusal.TheVariants.{Over, OutOfMemory}
+use Rattle.gmp_base.specs.declared.refusal.Refusal.TheVariants.{OutOfMemory}
 use Rattle.gmp_seq.proofs.Sizes.{legal_sizes}
 use Rattle.gmp_seq.specs.declared.call.Call.{Call}
-use Rattle.gmp_seq.specs.declared.call.Call.TheVariants as call
 use Rattle.gmp_seq.specs.declared.call.Entry.{Entry}
 use Rattle.gmp_seq.specs.declared.call.Limits.{Limits}
 use Rattle.gmp_seq.specs.declared.call.Reply.{Reply}
@@ -30,10 +28,9 @@ use Rattle.gmp_driver.specs.declared.act.Tried.TheVariants as tried
 use Rattle.gmp_driver.specs.declared.act.Value.{Value}
 use Rattle.gmp_driver.specs.declared.place.Place.{Place}
 use Rattle.gmp_driver.specs.declared.place.Place.TheVariants as place
-use Rattle.gmp_driver.specs.declared.registers.HeldParts.{HeldParts}
 use Rattle.gmp_driver.specs.Fits.{Runs, SuitsPlace}
 use Rattle.gmp_driver.specs.Hunt.{begun, victim_of}
-use Rattle.gmp_driver.specs.Local.{popped_for, tells}
+use Rattle.gmp_driver.specs.Local.{tells}
 use Rattle.gmp_driver.specs.Own.{with_found}
 use Rattle.gmp_driver.specs.Registers.{but}
 use Rattle.gmp_driver.specs.Seen.{own_processor, seen}
@@ -41,18 +38,16 @@ use Rattle.gmp_driver.specs.Table.{after, call_for, next_act, next_place}
 use Rattle.gmp_acts.proofs.Granted.{granted}
 use Rattle.gmp_acts.proofs.Lands.{some_of}
 use Rattle.gmp_acts.proofs.Moving.{act_sound}
-use Rattle.gmp_acts.proofs.Onward.{act_opened}
 use Rattle.gmp_acts.proofs.Whole.{headline_of}
 use Rattle.gmp_acts.specs.declared.choice.Choice.{Choice}
 use Rattle.gmp_acts.specs.declared.made.Made.{Made}
-use Rattle.gmp_acts.specs.Acts.{Accepted, Acts, Answers, DoesAct, Stopped, Unmade, given_back, own_taken_from, pushed, queue_of, stolen, stolen_from, with_local, with_ticket}
+use Rattle.gmp_acts.specs.Acts.{Accepted, Acts, Answers, DoesAct, Unmade, given_back, own_taken_from, pushed, queue_of, stolen, stolen_from, with_ticket}
 use Rattle.gmp_acts.specs.Hands.{PlainMachine}
 use Rattle.gmp_acts.specs.Sound.{Agrees, IsSound}
 use Rattle.gmp_acts.specs.System.{BookRun, System, count_of, held_number, machine_at, no_machine}
-use Rattle.gmp_core.specs.declared.want.Want.{Want}
 use Rattle.gmp_core.specs.Whole.{goroutine_at, wanted_by}
 use Rattle.gmp_script.specs.Script.{AsksNext, Commands}
-use Rattle.gmp_scene.specs.Scripted.{AsksFor, LeadsBodies, is_asked}
+use Rattle.gmp_scene.specs.Scripted.{LeadsBodies}
 use Rattle.gmp_scripted.specs.Refused.{PassesMake, RunsTurns, entries_of}
 use Rattle.gmp_scripted.specs.Scheduled.{IsUnmade, LeadsStock, TakesAsk}
 use Rattle.gmp_scripted.proofs.Places.{IsNoAsk, TellsPlace, answered, asked_at, make_is, no_make, stays, tells_place}
@@ -134,9 +129,6 @@ module _ (limits : Limits) (capacities : List ℕ) (script : List Commands) (P Q
   abbrev X : PlainMachine
   X = machine_at k m
 
-  abbrev Then : System → List (Option Commands) → Type 0
-  Then = Follows limits capacities script Q
-
   -- nobody else is about to make a call for a goroutine that this machine has in hand
   alone : (g : GNo) → held_number (machine_at k m).hand.held ≡ Some g → (n : MNo) (asked : Ask) → n.0 < length k.machines → IsAsking (get_or k.machines n.0 no_machine) g asked → n ≡ m
   alone g held n asked within asking = (headline_of k f.sound).held_once n m g (inl asking.1) (inl held)
@@ -201,10 +193,7 @@ module _ (limits : Limits) (capacities : List ℕ) (script : List Commands) (P Q
       let h = some_of X.hand.held runs.has_held in
       (h.0.g, (ap asked_at at, ap held_number h.1))
 
-  -- an entry more, of a call that no body asks for or that one asked for
-  entry_of : Call → Reply → Entry
-  entry_of c answer = record { m = m; k = count_of k.book m; call = c; reply = answer }
-
+  -- an entry more
   is_step : (c : Call) (answer : Reply) (s' : State) → Step k.book.limits m c answer k.book.state s' → IsStep limits (record { m = m; k = count_of k.book m; call = c; reply = answer }) k.book.state s'
   is_step c answer s' step =
       let sizes = legal_sizes k.book.limits k.book.bodies k.book.capacities k.book.history k.book.state f.sound.within f.sound.legal in

@@ -3,3 +3,4 @@ pub mod Turns
 pub mod Ties
 pub mod Follows
 pub mod Whole
+pub mod Makeless

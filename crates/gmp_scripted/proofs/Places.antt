@@ -1,5 +1,5 @@
 -- Where a machine stands before a call that its body asks for, and where it does not.
-use Rattle.std.proofs.Common.{◌≡◌, ◌⊎◌, inl, inr, ℕ, zero, suc, ◌+◌, ◌-◌, ◌==◌, Bool, true, false, if◌then◌else◌, nat_le, nat_lt, is_some, Option, None, Some, refl, sym, ap, subst, ◌∙◌}
+use Rattle.std.proofs.Common.{◌≡◌, ◌⊎◌, inl, inr, ℕ, zero, suc, ◌+◌, ◌-◌, ◌==◌, Bool, true, false, if◌then◌else◌, nat_le, nat_lt, is_some, Option, None, Some, refl, sym}
 use Rattle.std.proofs.lemmas.Bool.{false≢true}
 use Rattle.gmp_base.specs.declared.ask.Ask.{Ask}
 use Rattle.gmp_base.specs.declared.ask.Ask.TheVariants as ask

@@ -19,7 +19,6 @@ use Rattle.gmp_core.specs.declared.want.Want.TheVariants as want
 use Rattle.gmp_core.specs.Whole.{wanted_by}
 use Rattle.gmp_script.specs.Script.{Commands}
 use Rattle.gmp_scene.specs.Reached.{IsRunOf}
-use Rattle.gmp_scene.specs.Scripted.{RunsScript}
 use Rattle.gmp_cli.specs.Plays.{IsDealt, IsPlayed, Plays, Stage, opening_stage}
 use Rattle.gmp_scripted.specs.Played.{MakesAll}
 use Rattle.gmp_scripted.specs.Refused.{IsRunButMakes, RunsTurns}
@@ -61,9 +60,11 @@ abbrev ScriptButMakes : Limits → List ℕ → List Commands → System → Typ
 ScriptButMakes limits capacities script k = (after : List Commands) × IsRunButMakes limits capacities script k.book.history k.book.state after
 
 whole_of : (limits : Limits) (capacities : List ℕ) (script : List Commands) (P : Type 0) (k : System) (stock : List (Option Commands)) → Follows limits capacities script P k stock → P → Script limits capacities script k
-whole_of limits capacities script P k stock f p =
-    (f.now, script_of limits k.book.history (opening limits (length script) capacities) k.book.state script f.now
-        (subst (λ (t : List (Option Entry)). RunsTurns limits (opening limits (length script) capacities) script t k.book.state f.now) (f.whole p) f.runs))
+whole_of limits capacities script P k stock f p = (
+  f.now,
+  script_of limits k.book.history (opening limits (length script) capacities) k.book.state script f.now
+      (subst (λ (t : List (Option Entry)). RunsTurns limits (opening limits (length script) capacities) script t k.book.state f.now) (f.whole p) f.runs),
+)
 
 any_of : (limits : Limits) (capacities : List ℕ) (script : List Commands) (P : Type 0) (k : System) (stock : List (Option Commands)) → Follows limits capacities script P k stock → ScriptButMakes limits capacities script k
 any_of limits capacities script P k stock f = (f.now, record { turns = f.turns; entries = f.entries; runs = f.runs })
@@ -106,7 +107,7 @@ plays_follow limits capacities script P word zero s s' plays f =
 plays_follow limits capacities script P word (suc n) s s' plays f =
     let before = plays_follow limits capacities script P word n s plays.0 plays.1 f in
     let one = act_follows limits capacities script (P × MakesAll word n s plays.0 plays.1) plays.0.system plays.0.bodies plays.2.m plays.2.choice s'.system s'.bodies plays.2.acts
-        (leads_dealt (wanted_by (next_act (machine_at plays.0.system plays.2.m))) plays.0 plays.2.m plays.2.choice s' plays.2.deals) before in
+    (leads_dealt (wanted_by (next_act (machine_at plays.0.system plays.2.m))) plays.0 plays.2.m plays.2.choice s' plays.2.deals) before in
     kept limits capacities script ((P × MakesAll word n s plays.0 plays.1) × (¬ (IsUnmade plays.0.system plays.2.m s'.system))) (P × MakesAll word (suc n) s s' plays) (λ q. ((q.0, q.1.0), q.1.1))
     s'.system s'.system s'.bodies s'.bodies refl refl one
 

@@ -1,9 +1,10 @@
 -- Runs of the scheduler by these bodies where memory may refuse a make. The goroutine that asked it is told so and goes on, and there is no
 -- entry.
-use Rattle.std.specs.Prelude.{◌≡◌, ℕ, Option, Some, None, List, [], ◌∷◌, length, slice_get, slice_set}
+use Rattle.std.specs.Prelude.{◌≡◌, ℕ, Option, Some, None, List, [], ◌∷◌, Contains, length, slice_get, slice_set}
 use Rattle.gmp_base.specs.declared.ask.Ask.TheVariants as ask
 use Rattle.gmp_base.specs.declared.number.GNo.{GNo}
 use Rattle.gmp_base.specs.declared.number.MNo.{MNo}
+use Rattle.gmp_script.specs.declared.commands.Command.TheVariants.{Make}
 use Rattle.gmp_script.specs.Script.{AsksNext, Commands}
 use Rattle.gmp_seq.specs.declared.call.Call.TheVariants as call
 use Rattle.gmp_seq.specs.declared.call.Entry.{Entry}
@@ -45,3 +46,7 @@ pub record IsRunButMakes (limits : Limits) (capacities : List ℕ) (script : Lis
   pub turns : List (Option Entry)
   pub entries : entries_of turns ≡ h
   pub runs : RunsTurns limits (opening limits (length script) capacities) script turns s after
+
+-- no command of the body is a make
+abbrev pub HasNoMake : Commands → Type 0
+HasNoMake b = (capacity : ℕ) → ¬ (Contains b.commands (Make capacity))
