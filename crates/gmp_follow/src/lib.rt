@@ -6,7 +6,7 @@
 //! **Invariant**: the places are those of the one run of the script's bodies that the entries so far can be.
 //!
 //! Refused are limits that no run may have, and want of memory (`OpenError`). A make that is refused memory has no entry, though its body
-//! has gone on: a history beside which that happened follows no script.
+//! has gone on: a history beside which that happened need not follow its script.
 #![tactic(auto)]
 
 mod bodies;

@@ -2,7 +2,7 @@ use Rattle.std.proofs.Common.{[], ◌∷◌, ◌++◌, rules}
 use Rattle.gmp_test_races.proofs.playing.script.Goals as goal
 
 pub loop-line-init : goal.loop-line-init
-loop-line-init c = ([], ?)
+loop-line-init c = ([], search rules)
 
 pub loop-line-preserved : goal.loop-line-preserved
 loop-line-preserved c =
