@@ -11,7 +11,7 @@ use clap::builder::ValueParser;
 use clap::{Arg, ArgAction};
 use std::alloc::Global;
 
-/// What is looked for where the option is not given.
+// What can be wanted. The first is where the option is not given.
 const NO_DEADLOCK: &[u8] = b"no-deadlock";
 
 const NO_FAULT: &[u8] = b"no-fault";
