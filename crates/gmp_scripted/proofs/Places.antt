@@ -1,0 +1,197 @@
+-- Where a machine stands before a call that its body asks for, and where it does not.
+use Rattle.std.proofs.Common.{◌≡◌, ◌⊎◌, inl, inr, ℕ, zero, suc, ◌+◌, ◌-◌, ◌==◌, Bool, true, false, if◌then◌else◌, nat_le, nat_lt, is_some, Option, None, Some, refl, sym}
+use Rattle.std.proofs.lemmas.Bool.{false≢true}
+use Rattle.gmp_base.specs.declared.ask.Ask.{Ask}
+use Rattle.gmp_base.specs.declared.ask.Ask.TheVariants as ask
+use Rattle.gmp_base.specs.declared.number.PNo.{PNo}
+use Rattle.gmp_base.specs.declared.number.Readiness.{Readiness}
+use Rattle.gmp_base.specs.declared.refusal.Refusal.TheVariants as refusal
+use Rattle.gmp_seq.specs.declared.call.Call.{Call}
+use Rattle.gmp_seq.specs.declared.call.Call.TheVariants as call
+use Rattle.gmp_seq.specs.declared.call.Limits.{Limits}
+use Rattle.gmp_seq.specs.declared.call.Reply.{Reply}
+use Rattle.gmp_seq.specs.declared.call.Reply.TheVariants as reply
+use Rattle.gmp_seq.specs.Needs.{WantsMemory}
+use Rattle.gmp_seq.specs.State.{State}
+use Rattle.gmp_seq.specs.Step.{closed_in, ticket_in}
+use Rattle.gmp_driver.specs.declared.act.Act.{Act}
+use Rattle.gmp_driver.specs.declared.act.Act.TheVariants as act
+use Rattle.gmp_driver.specs.declared.act.Told.{Told}
+use Rattle.gmp_driver.specs.declared.act.Told.TheVariants as told
+use Rattle.gmp_driver.specs.declared.act.Tried.{Tried}
+use Rattle.gmp_driver.specs.declared.act.Tried.TheVariants as tried
+use Rattle.gmp_driver.specs.declared.place.Place.{Place}
+use Rattle.gmp_driver.specs.declared.place.Place.TheVariants as place
+use Rattle.gmp_driver.specs.declared.place.Round.{Round}
+use Rattle.gmp_driver.specs.declared.seen.Seen.{Seen}
+use Rattle.gmp_driver.specs.Hunt.{begun, hunted, more, skipped, steal_goal, victim_of}
+use Rattle.gmp_driver.specs.Table.{act_at, after_ask, call_for, claim_call, next_place, put_call, raised, scanned}
+use Rattle.gmp_scene.specs.Scripted.{is_asked}
+
+-- what its body asked, where its call is next
+abbrev pub asked_at : Place → Option Ask
+asked_at (place.Do asked) = Some asked
+asked_at here = None
+
+-- what is told is no ask
+abbrev pub IsNoAsk : Told → Type 0
+IsNoAsk (told.Asked asked) = ⊥
+IsNoAsk what = Unit {0}
+
+-- Where an act leads
+
+either : (b : Bool) (p q : Place) → asked_at p ≡ None → asked_at q ≡ None → asked_at (if b then p else q) ≡ None
+either true p q hp hq = hp
+either false p q hp hq = hq
+
+mores : (v : PNo) (goal : ℕ) → asked_at (more v goal) ≡ None
+mores v zero = refl
+mores v (suc goal) = refl
+
+hunts : (s : Seen) (r : Round) (how : Tried) → asked_at (hunted s r how) ≡ None
+hunts s r (tried.Got hint) = mores (victim_of s.procs r) (steal_goal hint - 1)
+hunts s r tried.Empty = either (nat_lt (skipped s r.word (r.number + 1)) s.procs) (place.Hunt (Some (record { word = r.word; number = skipped s r.word (r.number + 1) }))) place.Unspin refl refl
+hunts s r tried.Unsure = refl
+
+scans : (np : ℕ) (v : PNo) → asked_at (scanned np v) ≡ None
+scans np v = either (nat_lt (v.0 + 1) np) (place.Scan (record { 0 = v.0 + 1 })) place.Park refl refl
+
+-- after a call that its body asked for
+pub answered : (asked : Ask) (answer : Reply) → asked_at (after_ask asked answer) ≡ None
+answered asked reply.Waits = refl
+answered asked (reply.Shelved r) = refl
+answered asked reply.Dead = refl
+answered asked (reply.Entered p m) = refl
+answered asked reply.MainEnded = refl
+answered asked (reply.Number before) = either (raised before asked) place.Poke place.Run refl refl
+answered asked answer =
+    either (is_some (ticket_in answer)) place.Store (if nat_lt 0 (closed_in answer) then place.Poke else place.Run) refl (either (nat_lt 0 (closed_in answer)) place.Poke place.Run refl refl)
+
+-- after any other act, which tells no ask
+pub stays : (s : Seen) (here : Place) (what : Told) → asked_at here ≡ None → IsNoAsk what → asked_at (next_place s here what) ≡ None
+stays s here (told.Refused refusal.Over) h n = refl
+stays s (place.Do asked) what h n = absurd (let no : Some asked ≡ None = h in cc)
+stays s place.Run (told.Asked asked) h n = absurd n
+stays s place.Start (told.Replied (reply.Proc p)) h n = refl
+stays s place.Start (told.Replied reply.Nothing) h n = refl
+stays s place.Look (told.Moment now) h n = refl
+stays s (place.Ticking now) (told.Replied (reply.Woke k)) h n = either (s.procs == 1) place.Look place.Keep refl refl
+stays s place.Keep (told.Replied (reply.Answer true)) h n = refl
+stays s place.Keep (told.Replied (reply.Answer false)) h n = refl
+stays s place.Drain told.Drained h n = refl
+stays s place.Drain told.Empty h n = refl
+stays s place.PutDrain (told.Replied reply.Shelf) h n = refl
+stays s place.Look told.Got h n = refl
+stays s place.Look told.Empty h n = refl
+stays s place.Global (told.Replied (reply.Ticket r)) h n = refl
+stays s place.Global (told.Replied reply.Nothing) h n = either (s.procs == 1) place.Drop place.Spin refl refl
+stays s place.Spin (told.Replied (reply.Answer true)) h n = refl
+stays s place.Spin (told.Replied (reply.Answer false)) h n = refl
+stays s (place.Hunt None) (told.Drew word how) h n = hunts s (begun s word) how
+stays s (place.Hunt (Some r)) (told.Tried how) h n = hunts s r how
+stays s (place.More v goal) (told.Tried (tried.Got hint)) h n = refl
+stays s (place.More v goal) (told.Tried tried.Empty) h n = refl
+stays s (place.More v goal) (told.Tried tried.Unsure) h n = refl
+stays s (place.StoreMore v goal) told.Pushed h n = mores v goal
+stays s (place.StoreMore v goal) told.PushRefused h n = refl
+stays s (place.PutMore v goal) (told.Replied reply.Shelf) h n = mores v goal
+stays s place.Unspin (told.Replied reply.Done) h n = either (is_some s.to_claim) place.Claim place.Drop refl refl
+stays s place.Claim (told.Replied (reply.Wakes m)) h n = refl
+stays s place.Claim (told.Replied reply.Nothing) h n = refl
+stays s place.Claim (told.Replied reply.Held) h n = refl
+stays s place.Store told.Pushed h n = refl
+stays s place.Store told.PushRefused h n = refl
+stays s place.PutStore (told.Replied reply.Shelf) h n = refl
+stays s place.Poke (told.Replied (reply.Wakes m)) h n = refl
+stays s place.Poke (told.Replied reply.Nothing) h n = refl
+stays s place.Block (told.Number number) h n = refl
+stays s (place.Leave number) (told.Replied (reply.Runs p)) h n = refl
+stays s (place.Leave number) (told.Replied (reply.Shelved r)) h n = refl
+stays s place.Drop (told.Replied (reply.Idle p)) h n = refl
+stays s place.Bare (told.Replied reply.Done) h n = refl
+stays s (place.Scan v) (told.Tried (tried.Got hint)) h n = refl
+stays s (place.Scan v) (told.Tried tried.Empty) h n = scans s.procs v
+stays s (place.Scan v) (told.Tried tried.Unsure) h n = refl
+stays s place.Have (told.Replied (reply.Proc p)) h n = refl
+stays s place.Have (told.Replied reply.Nothing) h n = refl
+stays s place.PutHave (told.Replied reply.Shelf) h n = refl
+stays s place.Park (told.Replied reply.Parked) h n = refl
+stays s place.Park (told.Replied reply.Work) h n = refl
+stays s place.Park (told.Replied (reply.Mind deadline)) h n = refl
+stays s place.Park (told.Replied reply.AllAsleep) h n = refl
+stays s place.Park (told.Replied reply.LookAgain) h n = refl
+stays s place.Rest (told.Replied (reply.Answer true)) h n = refl
+stays s place.Rest (told.Replied (reply.Answer false)) h n = refl
+stays s (place.Mind deadline) (told.Moment now) h n = refl
+stays s (place.MindTick now) (told.Replied (reply.Woke k)) h n = refl
+stays s place.Over told.Surrendered h n = refl
+stays s place.Over told.Nothing h n = refl
+stays s _ _ h n = refl
+
+-- What an act says of the place
+
+-- a call is what the body asked, or it stands elsewhere and no body asks for it; a body is resumed at Run; all else is elsewhere
+abbrev pub TellsPlace : Place → Act → Type 0
+TellsPlace here (act.Call c) = ((asked : Ask) × (here ≡ place.Do asked) × (c ≡ call_for asked)) ⊎ ((asked_at here ≡ None) × (is_asked c ≡ false))
+TellsPlace here act.Resume = here ≡ place.Run
+TellsPlace here _ = asked_at here ≡ None
+
+looks : (b : Bool) → TellsPlace place.Look (if b then act.Clock None else act.Pop)
+looks true = refl
+looks false = refl
+
+puts : (here : Place) (o : Option Readiness) → asked_at here ≡ None → TellsPlace here (put_call o)
+puts here None h = h
+puts here (Some r) h = inr (h, refl)
+
+claims : (b : Bool) (o : Option Readiness) → TellsPlace place.Claim (if b then act.Call call.Poke else claim_call o)
+claims true o = inr (refl, refl)
+claims false None = refl
+claims false (Some r) = inr (refl, refl)
+
+pub tells_place : (s : Seen) (here : Place) → TellsPlace here (act_at s here)
+tells_place s place.Start = inr (refl, refl)
+tells_place s place.Look = looks (nat_le 16 s.turns)
+tells_place s (place.Ticking now) = inr (refl, refl)
+tells_place s place.Keep = inr (refl, refl)
+tells_place s place.Drain = refl
+tells_place s place.PutDrain = puts place.PutDrain s.to_store refl
+tells_place s place.Global = inr (refl, refl)
+tells_place s place.Spin = inr (refl, refl)
+tells_place s (place.Hunt None) = refl
+tells_place s (place.Hunt (Some r)) = refl
+tells_place s (place.More v goal) = refl
+tells_place s (place.StoreMore v goal) = refl
+tells_place s (place.PutMore v goal) = puts (place.PutMore v goal) s.to_store refl
+tells_place s place.Unspin = inr (refl, refl)
+tells_place s place.Claim = claims s.fresh s.to_claim
+tells_place s place.Run = refl
+tells_place s (place.Do asked) = inl (asked, refl, refl)
+tells_place s place.Store = refl
+tells_place s place.PutStore = puts place.PutStore s.to_store refl
+tells_place s place.Poke = inr (refl, refl)
+tells_place s place.Block = refl
+tells_place s (place.Leave number) = inr (refl, refl)
+tells_place s place.Drop = inr (refl, refl)
+tells_place s place.Bare = inr (refl, refl)
+tells_place s (place.Scan v) = refl
+tells_place s place.Have = inr (refl, refl)
+tells_place s place.PutHave = puts place.PutHave s.to_claim refl
+tells_place s place.Park = inr (refl, refl)
+tells_place s place.Rest = inr (refl, refl)
+tells_place s (place.Mind deadline) = refl
+tells_place s (place.MindTick now) = inr (refl, refl)
+tells_place s place.Over = refl
+tells_place s place.Done = refl
+
+-- Makes
+
+-- an ask that wants memory is a make
+pub make_is : (limits : Limits) (s : State) (asked : Ask) → WantsMemory limits (call_for asked) s → (capacity : ℕ) × (asked ≡ ask.Make capacity)
+make_is limits s (ask.Make capacity) h = (capacity, refl)
+make_is limits s _ h = absurd h
+
+-- a call that no body asks for wants no memory
+pub no_make : (limits : Limits) (s : State) (c : Call) → is_asked c ≡ false → WantsMemory limits c s → ⊥
+no_make limits s (call.Make capacity) e h = false≢true (sym e)
+no_make limits s _ e h = h

@@ -1,0 +1,125 @@
+-- Runs of the core by a script's bodies, from the opening.
+use Rattle.std.proofs.Common.{◌≡◌, ℕ, zero, suc, ◌<◌, List, [], ◌∷◌, map, length, get_or, Option, None, Some, refl, sym, ap, subst, ◌∙◌, arith}
+use Rattle.std.proofs.lemmas.List.FromFn.{length-map-range_with_len, get_or-map-range_with_len}
+use Rattle.gmp_base.specs.declared.ask.Ask.{Ask}
+use Rattle.gmp_base.specs.declared.number.GNo.{GNo}
+use Rattle.gmp_base.specs.declared.number.MNo.{MNo}
+use Rattle.gmp_seq.specs.declared.call.Entry.{Entry}
+use Rattle.gmp_seq.specs.declared.call.Limits.{Limits}
+use Rattle.gmp_seq.specs.Fits.{AreLimits}
+use Rattle.gmp_seq.specs.State.{opening}
+use Rattle.gmp_driver.specs.Table.{next_act}
+use Rattle.gmp_acts.proofs.Whole.{opening_sound}
+use Rattle.gmp_acts.specs.declared.choice.Choice.{Choice}
+use Rattle.gmp_acts.specs.Hands.{PlainMachine}
+use Rattle.gmp_acts.specs.Headline.{machine_at_start, opening_system}
+use Rattle.gmp_acts.specs.System.{System, machine_at, no_machine}
+use Rattle.gmp_core.specs.declared.want.Want.{Want}
+use Rattle.gmp_core.specs.declared.want.Want.TheVariants as want
+use Rattle.gmp_core.specs.Whole.{wanted_by}
+use Rattle.gmp_script.specs.Script.{Commands}
+use Rattle.gmp_scene.specs.Reached.{IsRunOf}
+use Rattle.gmp_cli.specs.Plays.{IsDealt, IsPlayed, Plays, Stage, opening_stage}
+use Rattle.gmp_scripted.specs.Played.{MakesAll}
+use Rattle.gmp_scripted.specs.Refused.{IsRunButMakes, RunsTurns}
+use Rattle.gmp_scripted.specs.Scheduled.{ActsBy, IsUnmade, LeadsStock, NoneUnmade}
+use Rattle.gmp_scripted.proofs.Follows.{Follows, act_follows, kept}
+use Rattle.gmp_scripted.proofs.Places.{asked_at}
+use Rattle.gmp_scripted.proofs.Ties.{IsAsking, ties_opening}
+use Rattle.gmp_scripted.proofs.Turns.{script_of}
+
+-- At the opening
+
+none_asks : (run : ℕ) (limits : Limits) (n : MNo) (g : GNo) (asked : Ask) (bodies : ℕ) (capacities : List ℕ) → n.0 < length (opening_system run limits bodies capacities).machines
+    → IsAsking (get_or (opening_system run limits bodies capacities).machines n.0 no_machine) g asked → ⊥
+none_asks run limits n g asked bodies capacities within asking =
+    let count = length-map-range_with_len (machine_at_start run limits) 0 limits.machines in
+    let at = get_or-map-range_with_len (machine_at_start run limits) 0 limits.machines n.0 n.0 no_machine (omega (arith, within, count)) (omega arith) in
+    let no : None ≡ Some asked = sym (ap (λ (x : PlainMachine). asked_at x.place) at) ∙ asking.0 in
+    cc
+
+opening_follows : (run : ℕ) (limits : Limits) (capacities : List ℕ) (script : List Commands) → AreLimits limits (length script) capacities
+    → Follows limits capacities script (Unit {0}) (opening_system run limits (length script) capacities) (map Some script)
+opening_follows run limits capacities script are = record {
+  sound = opening_sound run limits (length script) capacities are;
+  limits_are = refl;
+  turns = [];
+  now = script;
+  entries = refl;
+  runs = (refl, refl);
+  ties = λ _. ties_opening (opening_system run limits (length script) capacities).machines script (λ n g asked. none_asks run limits n g asked (length script) capacities);
+  whole = λ _. refl;
+}
+
+-- What follows of the history
+
+abbrev Script : Limits → List ℕ → List Commands → System → Type 0
+Script limits capacities script k = (after : List Commands) × IsRunOf limits capacities script k.book.history k.book.state after
+
+abbrev ScriptButMakes : Limits → List ℕ → List Commands → System → Type 0
+ScriptButMakes limits capacities script k = (after : List Commands) × IsRunButMakes limits capacities script k.book.history k.book.state after
+
+whole_of : (limits : Limits) (capacities : List ℕ) (script : List Commands) (P : Type 0) (k : System) (stock : List (Option Commands)) → Follows limits capacities script P k stock → P → Script limits capacities script k
+whole_of limits capacities script P k stock f p = (
+  f.now,
+  script_of limits k.book.history (opening limits (length script) capacities) k.book.state script f.now
+      (subst (λ (t : List (Option Entry)). RunsTurns limits (opening limits (length script) capacities) script t k.book.state f.now) (f.whole p) f.runs),
+)
+
+any_of : (limits : Limits) (capacities : List ℕ) (script : List Commands) (P : Type 0) (k : System) (stock : List (Option Commands)) → Follows limits capacities script P k stock → ScriptButMakes limits capacities script k
+any_of limits capacities script P k stock f = (f.now, record { turns = f.turns; entries = f.entries; runs = f.runs })
+
+-- Any scheduling
+
+acts_follow : (limits : Limits) (capacities : List ℕ) (script : List Commands) (moves : List (MNo × Choice)) (P : Type 0) (k : System) (stock : List (Option Commands)) (k' : System) (stock' : List (Option Commands))
+    → (acts : ActsBy k stock moves k' stock') → Follows limits capacities script P k stock → Follows limits capacities script (P × NoneUnmade k stock moves k' stock' acts) k' stock'
+acts_follow limits capacities script [] P k stock k' stock' acts f = kept limits capacities script P (P × Unit {0}) (λ q. q.0) k k' stock stock' acts.0 acts.1 f
+acts_follow limits capacities script (move ∷ moves) P k stock k' stock' acts f =
+    let one = act_follows limits capacities script P k stock move.0 move.1 acts.0 acts.1 acts.2 acts.3 f in
+    let rest = acts_follow limits capacities script moves (P × (¬ (IsUnmade k move.0 acts.0))) acts.0 acts.1 k' stock' acts.4 one in
+    kept limits capacities script ((P × (¬ (IsUnmade k move.0 acts.0))) × NoneUnmade acts.0 acts.1 moves k' stock' acts.4) (P × NoneUnmade k stock (move ∷ moves) k' stock' acts)
+    (λ q. ((q.0, q.1.0), q.1.1)) k' k' stock' stock' refl refl rest
+
+pub scheduled_whole : (run : ℕ) (limits : Limits) (capacities : List ℕ) (bodies : List Commands) (moves : List (MNo × Choice)) (last : System) (stock : List (Option Commands))
+    → AreLimits limits (length bodies) capacities → (acts : ActsBy (opening_system run limits (length bodies) capacities) (map Some bodies) moves last stock)
+    → NoneUnmade (opening_system run limits (length bodies) capacities) (map Some bodies) moves last stock acts → (after : List Commands) × IsRunOf limits capacities bodies last.book.history last.book.state after
+scheduled_whole run limits capacities bodies moves last stock are acts none =
+    whole_of limits capacities bodies _ last stock (acts_follow limits capacities bodies moves (Unit {0}) _ _ last stock acts (opening_follows run limits capacities bodies are)) (tt, none)
+
+pub scheduled_any : (run : ℕ) (limits : Limits) (capacities : List ℕ) (bodies : List Commands) (moves : List (MNo × Choice)) (last : System) (stock : List (Option Commands))
+    → AreLimits limits (length bodies) capacities → ActsBy (opening_system run limits (length bodies) capacities) (map Some bodies) moves last stock
+    → (after : List Commands) × IsRunButMakes limits capacities bodies last.book.history last.book.state after
+scheduled_any run limits capacities bodies moves last stock are acts =
+    any_of limits capacities bodies _ last stock (acts_follow limits capacities bodies moves (Unit {0}) _ _ last stock acts (opening_follows run limits capacities bodies are))
+
+-- `step`
+
+leads_dealt : (w : Want) (s : Stage) (m : MNo) (choice : Choice) (s' : Stage) → IsDealt w s m choice s' → LeadsStock w s.system m choice.ask s.bodies s'.bodies
+leads_dealt want.Ask s m choice s' d = record { g = d.g; in_hand = d.in_hand; before = d.before; has = d.has; after = d.after; asks = d.asks; goes = d.bodies }
+leads_dealt want.Number s m choice s' d = d.bodies
+leads_dealt (want.Moment minded) s m choice s' d = d.bodies
+leads_dealt want.Nothing s m choice s' d = d.bodies
+
+plays_follow : (limits : Limits) (capacities : List ℕ) (script : List Commands) (P : Type 0) (word n : ℕ) (s s' : Stage) → (plays : Plays word n s s') → Follows limits capacities script P s.system s.bodies
+    → Follows limits capacities script (P × MakesAll word n s s' plays) s'.system s'.bodies
+plays_follow limits capacities script P word zero s s' plays f =
+    kept limits capacities script P (P × Unit {0}) (λ q. q.0) s.system s'.system s.bodies s'.bodies (ap (λ (x : Stage). x.system) plays) (ap (λ (x : Stage). x.bodies) plays) f
+plays_follow limits capacities script P word (suc n) s s' plays f =
+    let before = plays_follow limits capacities script P word n s plays.0 plays.1 f in
+    let one = act_follows limits capacities script (P × MakesAll word n s plays.0 plays.1) plays.0.system plays.0.bodies plays.2.m plays.2.choice s'.system s'.bodies plays.2.acts
+    (leads_dealt (wanted_by (next_act (machine_at plays.0.system plays.2.m))) plays.0 plays.2.m plays.2.choice s' plays.2.deals) before in
+    kept limits capacities script ((P × MakesAll word n s plays.0 plays.1) × (¬ (IsUnmade plays.0.system plays.2.m s'.system))) (P × MakesAll word (suc n) s s' plays) (λ q. ((q.0, q.1.0), q.1.1))
+    s'.system s'.system s'.bodies s'.bodies refl refl one
+
+pub step_whole : (acts word : ℕ) (limits : Limits) (capacities readings : List ℕ) (bodies : List Commands) (last : Stage) → AreLimits limits (length bodies) capacities
+    → (played : IsPlayed acts word (opening_stage limits capacities readings bodies) last) → MakesAll word played.made (opening_stage limits capacities readings bodies) last played.plays
+    → (after : List Commands) × IsRunOf limits capacities bodies last.system.book.history last.system.book.state after
+step_whole acts word limits capacities readings bodies last are played all =
+    whole_of limits capacities bodies _ last.system last.bodies
+    (plays_follow limits capacities bodies (Unit {0}) word played.made (opening_stage limits capacities readings bodies) last played.plays (opening_follows 0 limits capacities bodies are)) (tt, all)
+
+pub step_any : (acts word : ℕ) (limits : Limits) (capacities readings : List ℕ) (bodies : List Commands) (last : Stage) → AreLimits limits (length bodies) capacities
+    → IsPlayed acts word (opening_stage limits capacities readings bodies) last → (after : List Commands) × IsRunButMakes limits capacities bodies last.system.book.history last.system.book.state after
+step_any acts word limits capacities readings bodies last are played =
+    any_of limits capacities bodies _ last.system last.bodies
+    (plays_follow limits capacities bodies (Unit {0}) word played.made (opening_stage limits capacities readings bodies) last played.plays (opening_follows 0 limits capacities bodies are))

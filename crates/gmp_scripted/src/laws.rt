@@ -1,0 +1,45 @@
+//! Laws of the core's runs by a script's bodies. Each is the contract of a function that does nothing.
+ghost use Rattle.std.specs.Prelude.{ℕ, List, All, Option, Some, length, map};
+ghost use Rattle.gmp_base.specs.declared.number.MNo.{MNo};
+ghost use Rattle.gmp_script.specs.Script.{Commands};
+ghost use Rattle.gmp_seq.specs.declared.call.Entry.{Entry};
+ghost use Rattle.gmp_seq.specs.declared.call.Limits.{Limits};
+ghost use Rattle.gmp_seq.specs.Fits.{AreLimits};
+ghost use Rattle.gmp_seq.specs.State.{State};
+ghost use Rattle.gmp_acts.specs.declared.choice.Choice.{Choice};
+ghost use Rattle.gmp_acts.specs.Headline.{opening_system};
+ghost use Rattle.gmp_acts.specs.System.{System};
+ghost use Rattle.gmp_scene.specs.Reached.{IsRunOf};
+ghost use Rattle.gmp_cli.specs.Plays.{IsPlayed, Stage, opening_stage};
+ghost use Rattle.gmp_scripted.specs.Played.{MakesAll};
+ghost use Rattle.gmp_scripted.specs.Refused.{HasNoMake, IsRunButMakes};
+ghost use Rattle.gmp_scripted.specs.Scheduled.{ActsBy, NoneUnmade};
+
+/// What `step` plays of a script is a run of the scheduler by the script's bodies, where memory was refused for no make of it. Of any other
+/// the same holds, but that the bodies pass over the makes that were refused.
+pub fn step_plays_the_script()
+    ensures whole { (acts word : ℕ) (limits : Limits) (capacities readings : List ℕ) (bodies : List Commands) (last : Stage) → AreLimits limits (length bodies) capacities
+        → (played : IsPlayed acts word (opening_stage limits capacities readings bodies) last) → MakesAll word played.made (opening_stage limits capacities readings bodies) last played.plays
+        → (after : List Commands) × IsRunOf limits capacities bodies last.system.book.history last.system.book.state after }
+    ensures any { (acts word : ℕ) (limits : Limits) (capacities readings : List ℕ) (bodies : List Commands) (last : Stage) → AreLimits limits (length bodies) capacities
+        → IsPlayed acts word (opening_stage limits capacities readings bodies) last
+        → (after : List Commands) × IsRunButMakes limits capacities bodies last.system.book.history last.system.book.state after }
+{}
+
+/// The same of the core under any scheduling: whichever machines act, in any order, with any choices but that a body that is resumed asks
+/// what its next command asks, and whatever the scheduler chooses.
+pub fn any_scheduling_plays_the_script()
+    ensures whole { (run : ℕ) (limits : Limits) (capacities : List ℕ) (bodies : List Commands) (moves : List (MNo × Choice)) (last : System) (stock : List (Option Commands))
+        → AreLimits limits (length bodies) capacities → (acts : ActsBy (opening_system run limits (length bodies) capacities) (map Some bodies) moves last stock)
+        → NoneUnmade (opening_system run limits (length bodies) capacities) (map Some bodies) moves last stock acts
+        → (after : List Commands) × IsRunOf limits capacities bodies last.book.history last.book.state after }
+    ensures any { (run : ℕ) (limits : Limits) (capacities : List ℕ) (bodies : List Commands) (moves : List (MNo × Choice)) (last : System) (stock : List (Option Commands))
+        → AreLimits limits (length bodies) capacities → ActsBy (opening_system run limits (length bodies) capacities) (map Some bodies) moves last stock
+        → (after : List Commands) × IsRunButMakes limits capacities bodies last.book.history last.book.state after }
+{}
+
+/// Where no command of the script is a make, none can be refused: so each run of the two laws above is one by these bodies.
+pub fn without_makes_none_is_refused()
+    ensures { (limits : Limits) (capacities : List ℕ) (script : List Commands) (h : List Entry) (s : State) (after : List Commands) → All HasNoMake script
+        → IsRunButMakes limits capacities script h s after → IsRunOf limits capacities script h s after }
+{}
