@@ -103,7 +103,7 @@ impl<'a> Player<'a> {
                 return Ok(m);
             }
         }
-        Err(Ended::no_trace(Untraced::Crowded))
+        Err(Ended::no_trace(Untraced::Crowded(machines)))
     }
 
     /// The machine that runs the goroutine, which claims its ticket where that is given out.

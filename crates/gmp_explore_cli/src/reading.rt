@@ -29,10 +29,10 @@ fn can(scene: &Scene, case: Case) -> bool {
     match channel_at(scene, channel_of(case)) {
         None => false,
         Some(channel) => {
-            channel.closed
+            channel.is_closed()
                 || match case {
-                    Case::Send(_, _) => channel.items.len() < channel.capacity as usize,
-                    Case::Recv(_) => !channel.items.is_empty(),
+                    Case::Send(_, _) => channel.items().len() < channel.capacity() as usize,
+                    Case::Recv(_) => !channel.items().is_empty(),
                 }
         }
     }
@@ -49,12 +49,20 @@ fn fit(one: Case, other: Case) -> bool {
 
 /// Whether a case can proceed with one who waits by this ask.
 pub(crate) fn meets(case: Case, waiting: Asking) -> bool {
-    waiting.cases().as_slice().iter().any(|other| fit(case, *other))
+    waiting
+        .cases()
+        .as_slice()
+        .iter()
+        .any(|other| fit(case, *other))
 }
 
 /// Whether an ask can proceed with one who waits by that one.
 pub(crate) fn meet(asking: Asking, waiting: Asking) -> bool {
-    asking.cases().as_slice().iter().any(|case| meets(*case, waiting))
+    asking
+        .cases()
+        .as_slice()
+        .iter()
+        .any(|case| meets(*case, waiting))
 }
 
 /// Whether an ask waits, if it is made while nobody waits.
@@ -67,7 +75,9 @@ pub(crate) fn rests(scene: &Scene, asking: Asking) -> bool {
         _ => false,
     };
     may_wait
-        && !cases.iter().any(|case| is_missing(scene, channel_of(*case)))
+        && !cases
+            .iter()
+            .any(|case| is_missing(scene, channel_of(*case)))
         && !cases.iter().any(|case| can(scene, *case))
 }
 
@@ -78,20 +88,13 @@ pub(crate) fn is_abandoned(scene: &Scene, asking: Asking) -> bool {
 
 /// Whether an ask offers a communication on the channel of this number.
 pub(crate) fn is_on(asking: Asking, c: usize) -> bool {
-    asking
-        .cases()
-        .as_slice()
-        .iter()
-        .any(|case| channel_of(*case).is_some_and(|name| usize::from(name.0) == c))
+    asking.cases().as_slice().iter().any(|case| channel_of(*case).is_some_and(|name| usize::from(
+        name.0,
+    ) == c))
 }
 
 /// The word by which a select takes this case: how many before it can proceed, while nobody waits but one, by this ask.
-pub(crate) fn word_for(
-    scene: &Scene,
-    asking: Asking,
-    case: usize,
-    waiting: Option<Asking>,
-) -> u64 {
+pub(crate) fn word_for(scene: &Scene, asking: Asking, case: usize, waiting: Option<Asking>) -> u64 {
     let mut word = 0u64;
     for other in asking.cases().as_slice().iter().take(case) {
         let is_met = match waiting {
@@ -108,14 +111,18 @@ pub(crate) fn word_for(
 /// Whether the case sends on a closed channel.
 fn fails(scene: &Scene, case: Case) -> bool {
     match (case, channel_at(scene, channel_of(case))) {
-        (Case::Send(_, _), Some(channel)) => channel.closed,
+        (Case::Send(_, _), Some(channel)) => channel.is_closed(),
         _ => false,
     }
 }
 
 /// The first case that sends on a closed channel.
 pub(crate) fn failing(scene: &Scene, asking: Asking) -> Option<usize> {
-    asking.cases().as_slice().iter().position(|case| fails(scene, *case))
+    asking
+        .cases()
+        .as_slice()
+        .iter()
+        .position(|case| fails(scene, *case))
 }
 
 /// The fault that is told where the case of this number is taken.
@@ -140,7 +147,7 @@ fn fault_of_close(scene: &Scene, name: Option<CNo>) -> Option<Fault> {
     match (name, channel_at(scene, name)) {
         (None, _) => Some(Fault::CloseOfNil),
         (Some(_), None) => Some(Fault::NoSuchChannel),
-        (Some(_), Some(channel)) if channel.closed => Some(Fault::CloseOfClosed),
+        (Some(_), Some(channel)) if channel.is_closed() => Some(Fault::CloseOfClosed),
         (Some(_), Some(_)) => None,
     }
 }
@@ -169,7 +176,10 @@ pub(crate) fn fault_by_itself(scene: &Scene, bounds: Bounds, asking: Asking) -> 
         Command::Procs(n) if *n == 0 || *n > bounds.procs => Some(Fault::BadProcs),
         Command::Send(_, _) | Command::Recv(_) | Command::Select(_, _, _) => {
             let cases = asking.cases();
-            cases.as_slice().iter().find_map(|case| fault_of_name(scene, channel_of(*case)))
+            cases
+                .as_slice()
+                .iter()
+                .find_map(|case| fault_of_name(scene, channel_of(*case)))
         }
         _ => None,
     }

@@ -123,13 +123,7 @@ impl Stage {
     }
 
     /// The machine makes the call, where that is one of a goroutine for this one. A word chooses among the cases of a select.
-    pub(crate) fn call(
-        &mut self,
-        m: MNo,
-        g: GNo,
-        call: &Call,
-        word: u64,
-    ) -> Result<Reply, Ended> {
+    pub(crate) fn call(&mut self, m: MNo, g: GNo, call: &Call, word: u64) -> Result<Reply, Ended> {
         let Some(machine) = self.machines.get_mut(usize::from(m.0)) else {
             return Err(astray());
         };

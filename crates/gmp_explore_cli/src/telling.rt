@@ -18,7 +18,11 @@ struct Waiting<'a>(GNo, Asking<'a>, bool);
 impl fmt::Display for Waiting<'_> {
     fn fmt<W: fmt::Write>(&self, f: &mut fmt::Formatter<W>) -> fmt::Result {
         let Waiting(g, asking, is_left) = self;
-        let waits = if *is_left { "is left, and waits" } else { "waits" };
+        let waits = if *is_left {
+            "is left, and waits"
+        } else {
+            "waits"
+        };
         write!(f, "goroutine {} {waits}: {asking}", g.0)
     }
 }
@@ -30,8 +34,12 @@ struct Standing<'a>(usize, &'a Channel);
 impl fmt::Display for Standing<'_> {
     fn fmt<W: fmt::Write>(&self, f: &mut fmt::Formatter<W>) -> fmt::Result {
         let Standing(c, channel) = self;
-        let is = if channel.closed { "closed" } else { "open" };
-        let (room, holds) = (channel.capacity, channel.items.len());
+        let is = if channel.is_closed() {
+            "closed"
+        } else {
+            "open"
+        };
+        let (room, holds) = (channel.capacity(), channel.items().len());
         write!(f, "channel {c}: {is}, room {room}, holds {holds}")
     }
 }
@@ -101,7 +109,7 @@ impl<'a> Teller<'a> {
     /// Each channel that holds values, or that somebody waits on where that is asked for.
     fn put_channels(&mut self, scene: &Scene, is_left: bool) -> Result<(), AllocError> {
         for (c, channel) in scene.channels().iter().enumerate() {
-            if !channel.items.is_empty() || !is_left && self.is_asked(scene, c) {
+            if !channel.items().is_empty() || !is_left && self.is_asked(scene, c) {
                 self.lines.put(&Standing(c, channel))?;
             }
         }
@@ -155,7 +163,7 @@ pub(crate) fn told(
     teller.lines.put(&Heading(badness, path.len(), size))?;
     for (i, what) in path.iter().enumerate() {
         teller.put_choice(&scene, i.wrapping_add(1), *what)?;
-        scene.make(alloc, bodies, bounds.channels, *what)?;
+        scene.make(bodies, bounds.channels, *what)?;
     }
     teller.put_end(&scene, badness)?;
     Ok(teller.lines.text())

@@ -4,8 +4,8 @@ use crate::playing::{Player, expect};
 use crate::reading::Bounds;
 use gmp_explore::{Badness, Scene};
 use gmp_scene::Move;
-use gmp_script::{Command, Script, ScriptBody};
-use gmp_seq::{LEAST_ENTRIES, Limits, MOST_ENTRIES, MOST_PROCS};
+use gmp_script::Script;
+use gmp_seq::{LEAST_ENTRIES, Limits, MOST_ENTRIES};
 use gmp_trace::{BeginningView, End, TraceView, write_view};
 use gmp_words::{Ended, Verdict};
 use std::alloc::Global;
@@ -14,36 +14,17 @@ use std::io::Write;
 /// A choice, and a goroutine at the end, has no more entries, where no machine looks in vain for a processor.
 const ENTRIES_EACH: usize = 8;
 
-/// The least number of processors that a command asks for in vain.
-fn least_in_vain(script: &[ScriptBody], procs: u8) -> u8 {
-    let mut least = u8::MAX;
-    for body in script {
-        for command in body.commands() {
-            if let Command::Procs(n) = command {
-                if *n > procs {
-                    least = least.min(*n);
-                }
-            }
-        }
-    }
-    least
-}
-
-/// The limits of the run: as many processors as there are goroutines, if there may be, and not so many that a fault would be none.
-fn limits_for(script: &[ScriptBody], bounds: Bounds, choices: usize) -> Limits {
-    let bodies = script.len().min(usize::from(MOST_PROCS)) as u8;
-    let procs = bodies
-        .max(bounds.procs)
-        .min(least_in_vain(script, bounds.procs).saturating_sub(1));
-    let turns = choices.saturating_add(script.len());
+/// The limits of the run: a machine for each processor.
+fn limits_for(bodies: usize, bounds: Bounds, choices: usize) -> Limits {
+    let turns = choices.saturating_add(bodies);
     let entries = turns
         .saturating_mul(ENTRIES_EACH)
-        .saturating_add(usize::from(procs))
+        .saturating_add(usize::from(bounds.procs))
         .saturating_add(LEAST_ENTRIES as usize)
         .min(MOST_ENTRIES as usize);
     Limits {
-        procs,
-        machines: procs,
+        procs: bounds.procs,
+        machines: bounds.procs,
         channels: bounds.channels,
         entries: entries as u32,
     }
@@ -66,7 +47,7 @@ fn play<'a>(
             player.stay_behind(alloc, bodies, &scene)?;
         }
         player.follow(&scene, bounds, *what)?;
-        scene.make(alloc, bodies, bounds.channels, *what)?;
+        scene.make(bodies, bounds.channels, *what)?;
     }
     match badness {
         Badness::Deadlock => player.fall_asleep(bodies, &scene),
@@ -85,7 +66,7 @@ pub(crate) fn traced<W: Write>(
     path: &[Move],
     writer: &mut W,
 ) -> Ended {
-    let limits = limits_for(&script.bodies, bounds, path.len());
+    let limits = limits_for(script.bodies.len(), bounds, path.len());
     let mut player = match Player::open(alloc, limits, &script.bodies, &script.capacities) {
         Ok(player) => player,
         Err(ended) => return ended,

@@ -13,7 +13,7 @@ use Rattle.gmp_words.specs.declared.said.Said.TheVariants.{Nothing, BadLine, Bad
 
 -- why there is no trace
 abbrev pub untraced_text : Untraced → List ℕ
-untraced_text Crowded = codes "gmp: no trace: more goroutines run at once than there may be processors" ++ 10 ∷ []
+untraced_text (Crowded procs) = codes "gmp: no trace: too few processors: " ++ (decimal procs ++ 10 ∷ [])
 untraced_text TooLong = codes "gmp: no trace: it would have more than 1000000 entries" ++ 10 ∷ []
 untraced_text Astray = codes "gmp: audit: no run follows the choices" ++ 10 ∷ []
 

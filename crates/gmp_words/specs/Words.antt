@@ -1,5 +1,5 @@
 -- The command and the options among the words of a command line.
-use Rattle.std.specs.Prelude.{◌≡◌, ℕ, true, ◌+◌, Bool, false, codes, slice_get, ◌&&◌, ◌||◌, ◌==◌, nat_lt, List, [], ◌∷◌, drop, take, length, slice_index, Option, Some, None, if◌then◌else◌}
+use Rattle.std.specs.Prelude.{◌≡◌, ℕ, true, ◌+◌, Bool, false, codes, slice_get, ◌&&◌, ◌||◌, ◌==◌, nat_lt, List, [], ◌∷◌, drop, take, length, slice_index, Option, Some, None, is_some, if◌then◌else◌}
 use Rattle.std.specs.List.{list_all, list_any, slice_split}
 use Rattle.std.specs.Str.{bytes_eq}
 use Rattle.std.specs.Option.{option_map_or}
@@ -82,6 +82,7 @@ pub record AreWanted {W : Type 0} (text : W → List ℕ) (words : List W) (w : 
 pub record AreSaid {W : Type 0} (text : W → List ℕ) (words : List W) (s : Settings) : Type 0 where
   pub task : is_named text words s.task ≡ true
   pub procs : number_given text (behind words) (codes "--procs") 1 ≡ Some s.procs
+  pub has_procs : s.has_procs ≡ is_some (given text (behind words) (codes "--procs"))
   pub machines : number_given text (behind words) (codes "--machines") 1 ≡ Some s.machines
   pub channels : number_given text (behind words) (codes "--channels") 16 ≡ Some s.channels
   pub entries : number_given text (behind words) (codes "--entries") 10000 ≡ Some s.entries

@@ -41,6 +41,8 @@ pub struct Settings {
     pub task: Task,
     /// Processors: 1 to 32.
     pub procs: u8,
+    /// Whether the line says how many.
+    pub has_procs: bool,
     /// Machines: 1 to 64.
     pub machines: u8,
     /// The most channels that a run may have: 0 to 1,024.

@@ -7,8 +7,8 @@ use std::fmt;
 /// Why there is no trace of a run that follows what was found.
 #[derive(Clone, Copy, Debug, PartialEq, Eq)]
 pub enum Untraced {
-    /// More goroutines are between two asks at once than a run may have processors.
-    Crowded,
+    /// More goroutines are between two asks at once than there are processors, of which there are so many.
+    Crowded(u8),
     /// A run may not have so many entries.
     TooLong,
     /// A call was refused, or answered otherwise than what was found says.
@@ -61,9 +61,9 @@ impl fmt::Display for Said {
             Said::BadLimits => f.write_str("gmp: bad limits\n"),
             Said::OutOfMemory => f.write_str("gmp: out of memory\n"),
             Said::Mismatch(m) => writeln!(f, "gmp: audit: machine {}", m.0),
-            Said::NoTrace(Untraced::Crowded) => f.write_str(
-                "gmp: no trace: more goroutines run at once than there may be processors\n",
-            ),
+            Said::NoTrace(Untraced::Crowded(procs)) => {
+                writeln!(f, "gmp: no trace: too few processors: {procs}")
+            }
             Said::NoTrace(Untraced::TooLong) => f.write_str(
                 "gmp: no trace: it would have more than 1000000 entries\n",
             ),

@@ -7,7 +7,7 @@ ghost use Rattle.gmp_words.specs.Words.{AreSaid, AreWanted, behind, is_given, is
 ghost use Rattle.clap.specs.Values.{kind_of};
 
 use crate::ended::Ended;
-use crate::numeric::Numeric;
+use crate::numeric::{Numeric, given};
 use crate::options::{Settings, Task, Wanted};
 use crate::said::Said;
 use crate::wanting;
@@ -24,6 +24,12 @@ const PROCS: Numeric = Numeric {
     least: 1,
     most: MOST_PROCS as u64,
     default: 1,
+};
+
+/// The same for `explore`.
+const PROCS_OF_ALL: Numeric = Numeric {
+    help: "Processors, 1 to 32 [default: one for each goroutine, but 32 at most]",
+    ..PROCS
 };
 
 const MACHINES: Numeric = Numeric {
@@ -272,7 +278,7 @@ fn explore<'a>(alloc: Global) -> Result<Command<'a>, AllocError> {
             "Looks at all runs of a script and prints what goes wrong in one, or that nothing does",
         )
         .after_help(EXPLORE_INPUT);
-    with(alloc, explore, &[PROCS, CHANNELS, STATES])?
+    with(alloc, explore, &[PROCS_OF_ALL, CHANNELS, STATES])?
         .arg(wanting::arg(alloc))?
         .arg(trace(alloc, "Prints a trace of what goes wrong"))
 }
@@ -384,6 +390,7 @@ fn settings_of(task: Task, wanted: Wanted, words: &[String]) -> Option<Settings>
     Some(Settings {
         task,
         procs: PROCS.read(options)? as u8,
+        has_procs: given(b"--procs", options).is_some(),
         machines: MACHINES.read(options)? as u8,
         channels: CHANNELS.read(options)? as u16,
         entries: ENTRIES.read(options)? as u32,

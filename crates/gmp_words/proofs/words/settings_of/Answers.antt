@@ -20,6 +20,7 @@ pub returns : goal.returns
 returns c = record {
   task = c.requires.task;
   procs = search rules;
+  has_procs = search rules;
   machines = search rules;
   channels = search rules;
   entries = search rules;
