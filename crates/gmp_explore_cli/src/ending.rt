@@ -1,14 +1,15 @@
 //! What comes behind the last choice of a path, so that the run shows what was found.
 
+ghost use Rattle.gmp_explore_cli.specs.Played.{Keeps};
+
 use crate::asking::Asking;
-use crate::playing::{Player, expect};
-use crate::reading::{Bounds, failing, fault_by_itself, is_abandoned, meet};
-use crate::stage::astray;
+use crate::playing::Player;
+use crate::reading::{Bounds, failing, fault_by_itself, goroutine_at, is_abandoned, meet};
+use crate::unplayed::{ASTRAY, Unplayed, expect};
 use gmp_base::{GNo, MNo};
 use gmp_explore::{Scene, faulty};
 use gmp_script::ScriptBody;
-use gmp_seq::{Call, Outcome, Reply};
-use gmp_words::Ended;
+use gmp_seq::{Call, Reply};
 use std::alloc::Global;
 
 impl<'a> Player<'a> {
@@ -17,9 +18,11 @@ impl<'a> Player<'a> {
         &mut self,
         script: &'a [ScriptBody],
         scene: &Scene,
-    ) -> Result<(), Ended> {
+    ) -> Result<(), Unplayed>
+        ensures { Keeps self.old.stage.journal self.new.stage.journal }
+    {
         for g in 0..self.goroutines() {
-            let g = GNo(g as u16);
+            let g = goroutine_at(g);
             if Asking::of(script, scene, g).is_some() {
                 self.gets(scene, g, Reply::Waits)?;
             }
@@ -41,18 +44,20 @@ impl<'a> Player<'a> {
         script: &'a [ScriptBody],
         bounds: Bounds,
         scene: &Scene,
-    ) -> Result<(), Ended> {
+    ) -> Result<(), Unplayed>
+        ensures { Keeps self.old.stage.journal self.new.stage.journal }
+    {
         let Some(g) = faulty(script, bounds.channels, bounds.procs, scene) else {
-            return Err(astray());
+            return Err(ASTRAY);
         };
         let asking = self.asking(scene, g)?;
         if let Some(fault) = fault_by_itself(scene, bounds, asking) {
             return self.gets(scene, g, Reply::Fault(fault));
         }
         let Some(case) = failing(scene, asking) else {
-            return Err(astray());
+            return Err(ASTRAY);
         };
-        self.takes(scene, g, case as u8, None)?;
+        self.takes(scene, g, case, None)?;
         Ok(())
     }
 
@@ -62,25 +67,22 @@ impl<'a> Player<'a> {
         alloc: Global,
         script: &'a [ScriptBody],
         scene: &Scene,
-    ) -> Result<(), Ended> {
+    ) -> Result<(), Unplayed>
+        ensures { Keeps self.old.stage.journal self.new.stage.journal }
+    {
         let mut waiting: Vec<Asking<'a>> = Vec::new(alloc);
         for g in 0..self.goroutines() {
-            let g = GNo(g as u16);
+            let g = goroutine_at(g);
             let Some(asking) = Asking::of(script, scene, g) else {
                 continue;
             };
             if is_abandoned(scene, asking) && !waiting.iter().any(|other| meet(asking, *other)) {
                 self.gets(scene, g, Reply::Waits)?;
                 if waiting.push(asking).is_err() {
-                    return Err(Ended::out_of_memory());
+                    return Err(Unplayed::OutOfMemory);
                 }
             }
         }
         Ok(())
-    }
-
-    /// Whether main has ended.
-    pub(crate) fn is_main_ended(&self) -> bool {
-        self.stage.outcome() == Some(Outcome::MainEnded)
     }
 }

@@ -21,5 +21,6 @@ mod stage;
 mod telling;
 mod tracing;
 mod turns;
+mod unplayed;
 
 pub use exploring::{Found, explore};

@@ -14,6 +14,11 @@ pub(crate) struct Bounds {
     pub(crate) procs: u8,
 }
 
+/// The goroutine at this place: a script has no more than 4,096.
+pub(crate) fn goroutine_at(place: usize) -> GNo {
+    GNo(u16::try_from(place).unwrap_or(u16::MAX))
+}
+
 /// The channel that a name means; none for nil, and for one that was not made.
 pub(crate) fn channel_at(scene: &Scene, name: Option<CNo>) -> Option<&Channel> {
     scene.channels().get(usize::from(name?.0))

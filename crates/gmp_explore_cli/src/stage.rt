@@ -1,10 +1,17 @@
 //! A run of the scheduler whose calls are made one by one, each by any machine. A journal keeps it; beside it stands what the machines have.
 
-use gmp_base::{GNo, MNo, PNo, Pass, Refusal};
+ghost use Rattle.std.specs.Prelude.{◌≡◌, All, IfOk, true};
+ghost use Rattle.gmp_seq.specs.Fits.{AreLimits, Fits};
+ghost use Rattle.gmp_seq.specs.Run.{Run};
+ghost use Rattle.gmp_journal.specs.Grants.{Suits};
+ghost use Rattle.gmp_explore_cli.specs.Played.{EndInFault, HasComeTo, IsOpened, Keeps};
+
+use crate::unplayed::{ASTRAY, Unplayed};
+use gmp_base::{GNo, MNo, PNo, Pass, Refusal, Woke};
 use gmp_history::History;
 use gmp_journal::{Handed, Journal, memory_for};
 use gmp_seq::{Call, Limits, Outcome, Reply};
-use gmp_words::{Ended, Untraced};
+use gmp_words::{Untraced, Verdict};
 use std::alloc::Global;
 
 /// The number of the run: there is one.
@@ -25,15 +32,14 @@ pub(crate) struct Stage {
     alloc: Global,
     journal: Journal,
     machines: Vec<Machine>,
-}
-
-/// The run does not follow the choices.
-pub(crate) fn astray() -> Ended {
-    Ended::no_trace(Untraced::Astray)
+    /// How many machines there are.
+    count: u8,
 }
 
 /// What a call is handed, of a machine that runs this goroutine, or makes its blocking call, and that holds this processor.
-fn handed(call: &Call, g: GNo, p: PNo) -> Handed {
+fn handed(call: &Call, g: GNo, p: PNo) -> Handed
+    ensures { Suits call.now result }
+{
     let (goroutine, processor) = (Some((RUN, g)), Some((RUN, p)));
     let nothing = Handed {
         ticket: None,
@@ -90,28 +96,31 @@ impl Stage {
     pub(crate) fn open(
         alloc: Global,
         limits: Limits,
-        bodies: u16,
+        bodies: usize,
         capacities: &[u32],
-    ) -> Result<Self, Ended> {
-        if !limits.allow(usize::from(bodies), capacities) {
-            return Err(astray());
+    ) -> Result<Self, Unplayed>
+        ensures { IfOk result (λ s. IsOpened limits bodies capacities.now s.journal) }
+    {
+        if !limits.allow(bodies, capacities) {
+            return Err(ASTRAY);
         }
         let machine = Machine {
             calls: 0,
             proc: None,
         };
         let machines = vec![in alloc; machine; usize::from(limits.machines)]?;
-        let journal = Journal::open(alloc, RUN, limits, bodies, capacities.to_vec(alloc)?)?;
+        let journal = Journal::open(alloc, RUN, limits, bodies as u16, capacities.to_vec(alloc)?)?;
         Ok(Stage {
             alloc,
             journal,
             machines,
+            count: limits.machines,
         })
     }
 
     /// How many machines there are.
     pub(crate) fn machines(&self) -> u8 {
-        self.machines.len() as u8
+        self.count
     }
 
     /// Whether the machine holds a processor.
@@ -123,9 +132,11 @@ impl Stage {
     }
 
     /// The machine makes the call, where that is one of a goroutine for this one. A word chooses among the cases of a select.
-    pub(crate) fn call(&mut self, m: MNo, g: GNo, call: &Call, word: u64) -> Result<Reply, Ended> {
+    pub(crate) fn call(&mut self, m: MNo, g: GNo, call: &Call, word: u64) -> Result<Reply, Unplayed>
+        ensures { Keeps self.old.journal self.new.journal }
+    {
         let Some(machine) = self.machines.get_mut(usize::from(m.0)) else {
-            return Err(astray());
+            return Err(ASTRAY);
         };
         let memory = memory_for(call, self.alloc);
         let values = handed(call, g, machine.proc.unwrap_or(PNo(0)));
@@ -141,21 +152,50 @@ impl Stage {
                 machine.proc = held_behind(reply, machine.proc);
                 Ok(reply)
             }
-            Err(Refusal::OutOfMemory) => Err(Ended::out_of_memory()),
+            Err(Refusal::OutOfMemory) => Err(Unplayed::OutOfMemory),
             Err(Refusal::Over) if self.outcome() == Some(Outcome::BookFull) => {
-                Err(Ended::no_trace(Untraced::TooLong))
+                Err(Unplayed::Untraced(Untraced::TooLong))
             }
-            Err(_) => Err(astray()),
+            Err(_) => Err(ASTRAY),
         }
     }
 
     /// Every call so far.
-    pub(crate) fn history(&self) -> &History {
+    pub(crate) fn history(&self) -> &History
+        ensures entries { result.now.list ≡ self.now.journal.history }
+        ensures legal { Run self.now.journal.limits self.now.journal.start self.now.journal.history self.now.journal.state }
+        ensures fits { All Fits self.now.journal.history }
+        ensures within { AreLimits self.now.journal.limits self.now.journal.bodies self.now.journal.capacities }
+    {
         self.journal.history()
     }
 
     /// How the run ended, if it did.
-    pub(crate) fn outcome(&self) -> Option<Outcome> {
+    pub(crate) fn outcome(&self) -> Option<Outcome>
+        ensures { result ≡ self.now.journal.state.outcome }
+    {
         self.journal.outcome()
+    }
+
+    /// Whether the last call told a fault.
+    fn ends_in_fault(&self) -> bool
+        ensures { result ≡ true → EndInFault self.now.journal.history }
+    {
+        match self.journal.history().last() {
+            Some(last) => matches!(last.reply.woke(), Woke::Fault(_)),
+            None => false,
+        }
+    }
+
+    /// Whether the run has come to what was found.
+    pub(crate) fn shows(&self, found: Verdict) -> bool
+        ensures { result ≡ true → HasComeTo found self.now.journal }
+    {
+        match found {
+            Verdict::Deadlock => self.outcome() == Some(Outcome::AllAsleep),
+            Verdict::Fault => self.ends_in_fault(),
+            Verdict::Leak => self.outcome() == Some(Outcome::MainEnded),
+            Verdict::Safe | Verdict::Unknown => false,
+        }
     }
 }

@@ -2,7 +2,7 @@
 
 use crate::asking::Asking;
 use crate::lines::Lines;
-use crate::reading::{Bounds, fault_next, is_abandoned, is_on};
+use crate::reading::{Bounds, fault_next, goroutine_at, is_abandoned, is_on};
 use crate::turns::{Choice, Turn};
 use gmp_base::GNo;
 use gmp_explore::{Badness, Channel, Scene, Size, faulty};
@@ -84,7 +84,7 @@ impl<'a> Teller<'a> {
     /// Each goroutine that asks something in the scene, where all of them wait, or where those wait that are left behind.
     fn put_waiting(&mut self, scene: &Scene, is_left: bool) -> Result<(), AllocError> {
         for g in 0..self.script.len() {
-            let g = GNo(g as u16);
+            let g = goroutine_at(g);
             if let Some(asking) = Asking::of(self.script, scene, g) {
                 if !is_left || is_abandoned(scene, asking) {
                     self.lines.put(&Waiting(g, asking, is_left))?;
@@ -97,7 +97,7 @@ impl<'a> Teller<'a> {
     /// Whether a goroutine of the scene asks something of this channel.
     fn is_asked(&self, scene: &Scene, c: usize) -> bool {
         for g in 0..self.script.len() {
-            if let Some(asking) = Asking::of(self.script, scene, GNo(g as u16)) {
+            if let Some(asking) = Asking::of(self.script, scene, goroutine_at(g)) {
                 if is_on(asking, c) {
                     return true;
                 }

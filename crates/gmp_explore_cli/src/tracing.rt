@@ -1,8 +1,15 @@
 //! The trace of a run that follows the path to what was found.
 
-use crate::playing::{Player, expect};
+ghost use Rattle.std.specs.Prelude.{◌≡◌, IfOk, length, true};
+ghost use Rattle.gmp_explore_cli.specs.Played.{IsOpened, Keeps, WritesPlayed, is_of_trace};
+ghost use Rattle.gmp_words.specs.Runs.{status_of_verdict};
+ghost use Rattle.gmp_words.specs.Said.{is_before_writing};
+ghost use Rattle.gmp_words.specs.declared.said.Said.TheVariants.{Nothing};
+
+use crate::playing::Player;
 use crate::reading::Bounds;
-use gmp_explore::{Badness, Scene};
+use crate::unplayed::{ASTRAY, Unplayed};
+use gmp_explore::Scene;
 use gmp_scene::Move;
 use gmp_script::Script;
 use gmp_seq::{LEAST_ENTRIES, Limits, MOST_ENTRIES};
@@ -11,7 +18,7 @@ use gmp_words::{Ended, Verdict};
 use std::alloc::Global;
 use std::io::Write;
 
-/// A choice, and a goroutine at the end, has no more entries, where no machine looks in vain for a processor.
+/// A choice, or a goroutine that asks behind the last one, has no more entries.
 const ENTRIES_EACH: usize = 8;
 
 /// The limits of the run: a machine for each processor.
@@ -30,30 +37,71 @@ fn limits_for(bodies: usize, bounds: Bounds, choices: usize) -> Limits {
     }
 }
 
-/// Plays the path and what comes behind it.
-fn play<'a>(
+/// Makes a choice of the scene. Where it is the one by which somebody is left behind, all who are wait before it.
+fn choose<'a>(
     alloc: Global,
     script: &'a Script,
     bounds: Bounds,
-    badness: Badness,
-    path: &[Move],
+    is_leaving: bool,
+    scene: &Scene,
+    what: Move,
     player: &mut Player<'a>,
-) -> Result<(), Ended> {
+) -> Result<(), Unplayed>
+    ensures { Keeps player.old.stage.journal player.new.stage.journal }
+{
+    if is_leaving {
+        player.stay_behind(alloc, &script.bodies, scene)?;
+    }
+    player.follow(scene, bounds, what)
+}
+
+/// Plays what comes behind the path.
+fn end<'a>(
+    script: &'a Script,
+    bounds: Bounds,
+    found: Verdict,
+    scene: &Scene,
+    player: &mut Player<'a>,
+) -> Result<(), Unplayed>
+    ensures { Keeps player.old.stage.journal player.new.stage.journal }
+{
+    match found {
+        Verdict::Deadlock => player.fall_asleep(&script.bodies, scene),
+        Verdict::Fault => player.fault(&script.bodies, bounds, scene),
+        Verdict::Leak | Verdict::Safe | Verdict::Unknown => Ok(()),
+    }
+}
+
+/// A run that follows the path, and goes on so that it shows what was found.
+fn played<'a>(
+    alloc: Global,
+    limits: Limits,
+    script: &'a Script,
+    bounds: Bounds,
+    found: Verdict,
+    path: &[Move],
+) -> Result<Player<'a>, Unplayed>
+    ensures { IfOk result (λ p. IsOpened limits (length script.now.bodies.items) script.now.capacities.items p.stage.journal) }
+{
     let bodies = script.bodies.as_slice();
+    let mut player = Player::open(alloc, limits, bodies, &script.capacities)?;
     let mut scene = Scene::opening(alloc, bodies, &script.capacities)?;
     for (i, what) in path.iter().enumerate() {
-        // Main's exit comes last: who is left behind waits before it.
-        if badness == Badness::Leak && i.wrapping_add(1) == path.len() {
-            player.stay_behind(alloc, bodies, &scene)?;
-        }
-        player.follow(&scene, bounds, *what)?;
+        // Main's exit comes last.
+        let is_leaving = found == Verdict::Leak && i.wrapping_add(1) == path.len();
+        choose(
+            alloc,
+            script,
+            bounds,
+            is_leaving,
+            &scene,
+            *what,
+            &mut player,
+        )?;
         scene.make(bodies, bounds.channels, *what)?;
     }
-    match badness {
-        Badness::Deadlock => player.fall_asleep(bodies, &scene),
-        Badness::Fault => player.fault(bodies, bounds, &scene),
-        Badness::Leak => expect(player.is_main_ended()),
-    }
+    end(script, bounds, found, &scene, &mut player)?;
+    Ok(player)
 }
 
 /// Writes the trace of a run that follows the path to what was found.
@@ -61,18 +109,23 @@ pub(crate) fn traced<W: Write>(
     alloc: Global,
     script: &Script,
     bounds: Bounds,
-    badness: Badness,
-    verdict: Verdict,
+    found: Verdict,
     path: &[Move],
     writer: &mut W,
-) -> Ended {
+) -> Ended
+    ensures traced { result.said ≡ Nothing
+        → WritesPlayed script.now.capacities.items (length script.now.bodies.items) found (W.contents writer.old) (W.contents writer.new) }
+    ensures status { result.said ≡ Nothing → result.status ≡ status_of_verdict found }
+    ensures kinds { is_of_trace result.said ≡ true }
+    ensures quiet { is_before_writing result.said ≡ true → W.contents writer.new ≡ W.contents writer.old }
+{
     let limits = limits_for(script.bodies.len(), bounds, path.len());
-    let mut player = match Player::open(alloc, limits, &script.bodies, &script.capacities) {
+    let player = match played(alloc, limits, script, bounds, found, path) {
         Ok(player) => player,
-        Err(ended) => return ended,
+        Err(why) => return why.ended(),
     };
-    if let Err(ended) = play(alloc, script, bounds, badness, path, &mut player) {
-        return ended;
+    if !player.stage.shows(found) {
+        return ASTRAY.ended();
     }
     let trace = TraceView {
         limits,
@@ -82,7 +135,7 @@ pub(crate) fn traced<W: Write>(
         end: End::of(player.stage.outcome()),
     };
     match write_view(alloc, trace, writer) {
-        Ok(()) => Ended::found(verdict),
+        Ok(()) => Ended::found(found),
         Err(error) => Ended::from(error),
     }
 }
