@@ -16,6 +16,8 @@ pub enum RaceError {
     Mismatch,
     #[error("its history is no legal run with its outcome")]
     NotLegal,
+    #[error("a goroutine asked what its body doesn't say")]
+    OtherAsk,
     #[error("a goroutine is ready beside machines of which none is awake and one is parked")]
     Asleep,
     #[error("it ended otherwise")]

@@ -1,5 +1,6 @@
 //! `gmp_test_races FIRST N` runs short scripts in threads, N times by the seeds from FIRST on, under a gate that yields by drawn words and
-//! holds machines at their park; the plain scheduler judges each history, and none may leave work asleep (docs/HACKING.md).
+//! holds machines at their park; the plain scheduler judges each history, each is a run of its script's bodies, and none may leave work
+//! asleep (docs/HACKING.md).
 //!
 //! Each script has an end that doesn't depend on how its machines go, so any other end falls short. It prints how many runs ended in which
 //! way, or the first run that falls short, and how. A run that hangs prints nothing: no clause says that `run` comes back.

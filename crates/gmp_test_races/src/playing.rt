@@ -1,11 +1,14 @@
 //! One run: a script in threads under the gate, and what is judged of its report. `Counting` is the clock, by which every deadline comes
 //! soon.
 
+ghost use Rattle.std.specs.Prelude.{◌≡◌, All, IfOk};
+
 use crate::asleep::leaves_work_asleep;
 use crate::error::RaceError;
 use crate::gate::Turnstile;
 use crate::scripts::Row;
 use gmp_check::outcome_of;
+use gmp_follow::follows;
 use gmp_run::{Clock, Report, run};
 use gmp_script::{Script, ScriptBody};
 use gmp_seq::{Limits, Outcome};
@@ -31,7 +34,9 @@ impl Clock for Counting {
 }
 
 /// The script of lines that are parted by `/`.
-fn script(alloc: Global, text: &[u8]) -> Result<Script, RaceError> {
+fn script(alloc: Global, text: &[u8]) -> Result<Script, RaceError>
+    ensures { IfOk result (λ s. All (λ b. b.next ≡ 0) s.bodies.items) }
+{
     let mut script = Script::new(alloc);
     for line in text.split(|b| *b == b'/') {
         if !script.add(alloc, line)? {
@@ -41,24 +46,34 @@ fn script(alloc: Global, text: &[u8]) -> Result<Script, RaceError> {
     Ok(script)
 }
 
-/// Judges a run's report: how it ended, that the history is legal and leaves no work asleep, and that the logs agree with it.
+/// Judges a run's report: how it ended, that the history is legal, follows the script and leaves no work asleep, and that the logs agree
+/// with it.
 fn judge(
     alloc: Global,
     limits: Limits,
-    bodies: u16,
+    bodies: &[ScriptBody],
     capacities: &[u32],
     report: &Report<Boxed>,
     ends: Outcome,
-) -> Result<(), RaceError> {
+) -> Result<(), RaceError>
+    requires { All (λ b. b.next ≡ 0) bodies.now }
+{
     if audit(&report.history, &report.logs).is_err() {
         return Err(RaceError::Mismatch);
     }
     if leaves_work_asleep(alloc, limits.machines, &report.history)? {
         return Err(RaceError::Asleep);
     }
-    match outcome_of(alloc, limits, bodies, capacities, &report.history) {
+    let Ok(count) = u16::try_from(bodies.len()) else {
+        return Err(RaceError::NotLegal);
+    };
+    match outcome_of(alloc, limits, count, capacities, &report.history) {
         Ok(Some(outcome)) if outcome == report.outcome => {}
         _ => return Err(RaceError::NotLegal),
+    }
+    match follows(alloc, limits, bodies, capacities, &report.history) {
+        Ok(true) => {}
+        _ => return Err(RaceError::OtherAsk),
     }
     if report.outcome == ends {
         Ok(())
@@ -67,19 +82,19 @@ fn judge(
     }
 }
 
-/// Runs the bodies of a row's script by machines in threads, under a gate of this seed, and judges the run.
+/// Runs the bodies of a row's script by machines in threads, under a gate of this seed, and judges the run beside the same bodies once more.
 fn raced<R: Threads + Wait + Sync>(
     rt: &R,
     alloc: Global,
     limits: Limits,
     capacities: &[u32],
     bodies: Vec<ScriptBody>,
+    same: &[ScriptBody],
     row: &Row,
     seed: u64,
-) -> Result<(), RaceError> {
-    let Ok(count) = u16::try_from(bodies.len()) else {
-        return Err(RaceError::NotBegun);
-    };
+) -> Result<(), RaceError>
+    requires { All (λ b. b.next ≡ 0) same.now }
+{
     let mut boxes: Vec<Boxed> = Vec::new(alloc);
     for body in bodies {
         let Ok(body) = Box::new(alloc, body) else {
@@ -101,7 +116,7 @@ fn raced<R: Threads + Wait + Sync>(
     match run(
         rt, alloc, seed, limits, capacities, boxes, &clock, &gate, seed,
     ) {
-        Ok(report) => judge(alloc, limits, count, capacities, &report, row.ends),
+        Ok(report) => judge(alloc, limits, same, capacities, &report, row.ends),
         Err(_) => Err(RaceError::NotBegun),
     }
 }
@@ -119,11 +134,12 @@ pub fn played<R: Threads + Wait + Sync>(
         bodies,
         ..
     } = script(alloc, row.script)?;
+    let same = script(alloc, row.script)?.bodies;
     let limits = Limits {
         procs: size.0,
         machines: size.1,
         channels: 16,
         entries: 10_000,
     };
-    raced(rt, alloc, limits, &capacities, bodies, row, seed)
+    raced(rt, alloc, limits, &capacities, bodies, &same, row, seed)
 }

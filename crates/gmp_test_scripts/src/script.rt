@@ -1,8 +1,10 @@
-//! Scripts, each with the trace that is to be written of it: run, compared, read again, checked, cut, explained, drawn and explored.
+//! Scripts, each with the trace that is to be written of it: run, compared, read again, checked, held
+//! against the script, cut, explained, drawn and explored.
 
 use crate::error::ScriptError;
 use crate::program::{Ran, checked, drawn, explained, explored, stepped};
 use crate::reasons::judge_reasons;
+use gmp_follow::follows;
 use gmp_test_cuts::cut_everywhere;
 use gmp_trace::{read, write};
 use std::alloc::{AllocError, Global};
@@ -81,6 +83,28 @@ fn judge_check(rt: &HostRuntime, stem: &str, trace: &[u8]) -> Result<(), ScriptE
         "gmp check wrote another line",
     )?;
     Ok(())
+}
+
+/// The trace's entries are a run of the script's bodies.
+fn judge_follows(rt: &HostRuntime, name: &str, trace: &[u8]) -> Result<(), ScriptError> {
+    let alloc = rt.alloc();
+    let text = fs::read_to_string(rt, name)?;
+    let Ok(script) = gmp_words::script(alloc, &mut text.as_bytes()) else {
+        return Err(ScriptError::line(alloc, 0, "the script is not read"));
+    };
+    let Ok(trace) = read(alloc, trace) else {
+        return Err(ScriptError::line(alloc, 0, "the trace is not read"));
+    };
+    match follows(
+        alloc,
+        trace.limits,
+        &script.bodies,
+        &script.capacities,
+        &trace.entries,
+    ) {
+        Ok(true) => Ok(()),
+        _ => Err(ScriptError::line(alloc, 0, "the trace is no run of the script")),
+    }
 }
 
 /// No line of the text has more columns.
@@ -221,6 +245,7 @@ pub fn judged(rt: &HostRuntime, name: &str) -> Result<usize, ScriptError> {
     judge_step(rt, name, trace.as_bytes())?;
     judge_read(rt.alloc(), trace.as_bytes())?;
     judge_check(rt, stem, trace.as_bytes())?;
+    judge_follows(rt, name, trace.as_bytes())?;
     judge_cuts(rt.alloc(), trace.as_bytes())?;
     judge_explained(rt, stem, trace.as_bytes(), false)?;
     judge_explained(rt, stem, trace.as_bytes(), true)?;

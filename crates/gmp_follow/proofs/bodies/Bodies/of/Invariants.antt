@@ -1,0 +1,6 @@
+use Rattle.std.proofs.Common.{◌≡◌, take}
+use Rattle.gmp_follow.proofs.bodies.Bodies.of.Given as goal
+
+-- those of the bodies before the index
+abbrev pub invariant-loop-body : goal.invariant-loop-body
+invariant-loop-body l = l.list.items ≡ take l.body-index l.script
