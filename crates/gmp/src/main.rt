@@ -51,12 +51,7 @@ fn tell(rt: &HostRuntime, json: bool) -> ExitCode {
 
 /// Explores the script on standard input, and notes on standard error what was found where there is no trace of it.
 fn look(rt: &HostRuntime, settings: &Settings) -> Ended {
-    let found = explore(
-        rt.alloc(),
-        settings,
-        &mut rt.reader(),
-        &mut io::writer(rt),
-    );
+    let found = explore(rt.alloc(), settings, &mut rt.reader(), &mut io::writer(rt));
     // Where the note cannot be written, the status still says what was found.
     let _ = eprint!(rt; "{}", found.note);
     found.ended

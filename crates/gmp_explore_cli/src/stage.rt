@@ -189,7 +189,7 @@ impl Stage {
 
     /// Whether the run has come to what was found.
     pub(crate) fn shows(&self, found: Verdict) -> bool
-        ensures { result ≡ true → HasComeTo found self.now.journal }
+        ensures { result ≡ true → HasComeTo found self.now.journal.history self.now.journal.state }
     {
         match found {
             Verdict::Deadlock => self.outcome() == Some(Outcome::AllAsleep),

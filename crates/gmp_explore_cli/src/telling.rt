@@ -1,5 +1,7 @@
 //! What was found, in words: the path that leads to it, a choice a line, and what stands at its end.
 
+ghost use Rattle.std.specs.Prelude.{◌≤◌, length};
+
 use crate::asking::Asking;
 use crate::lines::Lines;
 use crate::reading::{Bounds, fault_next, goroutine_at, is_abandoned, is_on};
@@ -152,7 +154,9 @@ pub(crate) fn told(
     badness: Badness,
     path: &[Move],
     size: Size,
-) -> Result<String, AllocError> {
+) -> Result<String, AllocError>
+    requires { length script.now.bodies.items ≤ 65536 }
+{
     let bodies = script.bodies.as_slice();
     let mut scene = Scene::opening(alloc, bodies, &script.capacities)?;
     let mut teller = Teller {

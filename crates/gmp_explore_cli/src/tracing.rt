@@ -1,6 +1,7 @@
 //! The trace of a run that follows the path to what was found.
 
 ghost use Rattle.std.specs.Prelude.{◌≡◌, IfOk, length, true};
+ghost use Rattle.gmp_explore.specs.Fresh.{AreFresh};
 ghost use Rattle.gmp_explore_cli.specs.Played.{IsOpened, Keeps, WritesPlayed, is_of_trace};
 ghost use Rattle.gmp_words.specs.Runs.{status_of_verdict};
 ghost use Rattle.gmp_words.specs.Said.{is_before_writing};
@@ -9,7 +10,9 @@ ghost use Rattle.gmp_words.specs.declared.said.Said.TheVariants.{Nothing};
 use crate::playing::Player;
 use crate::reading::Bounds;
 use crate::unplayed::{ASTRAY, Unplayed};
+use gmp_check::OpenError;
 use gmp_explore::Scene;
+use gmp_follow::follows;
 use gmp_scene::Move;
 use gmp_script::Script;
 use gmp_seq::{LEAST_ENTRIES, Limits, MOST_ENTRIES};
@@ -113,8 +116,9 @@ pub(crate) fn traced<W: Write>(
     path: &[Move],
     writer: &mut W,
 ) -> Ended
+    requires { AreFresh script.now.bodies.items }
     ensures traced { result.said ≡ Nothing
-        → WritesPlayed script.now.capacities.items (length script.now.bodies.items) found (W.contents writer.old) (W.contents writer.new) }
+        → WritesPlayed script.now.capacities.items script.now.bodies.items found (W.contents writer.old) (W.contents writer.new) }
     ensures status { result.said ≡ Nothing → result.status ≡ status_of_verdict found }
     ensures kinds { is_of_trace result.said ≡ true }
     ensures quiet { is_before_writing result.said ≡ true → W.contents writer.new ≡ W.contents writer.old }
@@ -127,11 +131,18 @@ pub(crate) fn traced<W: Write>(
     if !player.stage.shows(found) {
         return ASTRAY.ended();
     }
+    let entries = player.stage.history();
+    // So it is known that the run is one of the script.
+    match follows(alloc, limits, &script.bodies, &script.capacities, entries) {
+        Ok(true) => {}
+        Ok(false) | Err(OpenError::BadLimits) => return ASTRAY.ended(),
+        Err(OpenError::OutOfMemory) => return Ended::out_of_memory(),
+    }
     let trace = TraceView {
         limits,
         bodies: script.bodies.len() as u16,
         beginning: BeginningView::Opening(&script.capacities),
-        entries: player.stage.history(),
+        entries,
         end: End::of(player.stage.outcome()),
     };
     match write_view(alloc, trace, writer) {

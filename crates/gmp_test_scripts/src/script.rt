@@ -189,7 +189,12 @@ fn judge_found(alloc: Global, script: &[u8], found: &Ran) -> Result<(), ScriptEr
     }
     if traced.written.is_empty() {
         let told = text_of(alloc, found)?;
-        return same(alloc, traced.said.as_bytes(), told.as_bytes(), "another note");
+        return same(
+            alloc,
+            traced.said.as_bytes(),
+            told.as_bytes(),
+            "another note",
+        );
     }
     let ran = checked(alloc, &traced.written)?;
     if ran.status != 0 {
