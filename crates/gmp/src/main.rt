@@ -1,8 +1,10 @@
 //! The program `gmp`: runs scripts of goroutines, in one thread (`step`) or in several (`run`), and prints what was done; and checks what
-//! was printed (`check`), cuts it (`cut`), says what it tells (`explain`) and draws it (`draw`).
+//! was printed (`check`), cuts it (`cut`), says what it tells (`explain`) and draws it (`draw`). Of a script it also says what can go wrong
+//! in any run (`explore`).
 //!
 //! It hands the commands what the host has: standard input and output, the memory, the threads and the clock. What each command promises
-//! stands in its crate (gmp_cli, gmp_run_cli, gmp_check_cli, gmp_explain, gmp_draw), what the command line may say in gmp_words.
+//! stands in its crate (gmp_cli, gmp_run_cli, gmp_check_cli, gmp_explain, gmp_draw, gmp_explore_cli), what the command line may say in
+//! gmp_words.
 //!
 //! Each way out is an `Ended`: a status, and a text that goes to standard error, or to standard output where the status is 0. Nothing is
 //! refused here that the commands don't refuse. Where even the last words can't be written the status stays, so that a script that calls
@@ -16,9 +18,10 @@ use gmp_check_cli::{check, cut};
 use gmp_cli::step;
 use gmp_draw::draw;
 use gmp_explain::explain;
+use gmp_explore_cli::explore;
 use gmp_host::Since;
 use gmp_run_cli::run;
-use gmp_words::{Ended, Task, arguments, settings};
+use gmp_words::{Ended, Settings, Task, arguments, settings};
 use std::io::{self, IsTerminal};
 use std::process::ExitCode;
 
@@ -44,6 +47,14 @@ fn tell(rt: &HostRuntime, json: bool) -> ExitCode {
         Ok(()) => code,
         Err(_) => finish(rt, &Ended::output_failed()),
     }
+}
+
+/// Explores the script on standard input, and notes on standard error what was found where there is no trace of it.
+fn look(rt: &HostRuntime, settings: &Settings) -> Ended {
+    let found = explore(rt.alloc(), settings, &mut rt.reader(), &mut io::writer(rt));
+    // Where the note cannot be written, the status still says what was found.
+    let _ = eprint!(rt; "{}", found.note);
+    found.ended
 }
 
 /// Reads the command line, does what it says, and ends with what came of it.
@@ -73,6 +84,7 @@ fn main(rt: HostRuntime) -> ExitCode {
             ),
             Task::Cut => cut(alloc, settings.at, &mut rt.reader(), &mut io::writer(&rt)),
             Task::Explain => return tell(&rt, settings.json),
+            Task::Explore => look(&rt, &settings),
             Task::Draw => draw(
                 alloc,
                 settings.from,

@@ -27,12 +27,13 @@ impl fmt::Display for Way {
     }
 }
 
-/// How a command ended that wrote this. It writes `whole` where nothing is refused, and `unmade` where a make is.
-pub fn judged(ended: &Ended, written: &[u8], whole: &str, unmade: &str) -> Way {
+/// How a command ended that wrote this. It writes `whole` where nothing is refused, and `unmade` where a make is, and ends with this status.
+pub fn judged(ended: &Ended, status: u8, written: &[u8], whole: &str, unmade: &str) -> Way {
     match &ended.said {
         Said::OutOfMemory if ended.status == 5 => Way::OutOfMemory,
-        Said::Nothing if ended.status == 0 && written == whole.as_bytes() => Way::Whole,
-        Said::Nothing if ended.status == 0 && written == unmade.as_bytes() => Way::NoMemory,
+        Said::Nothing if ended.status != status => Way::Wrong,
+        Said::Nothing if written == whole.as_bytes() => Way::Whole,
+        Said::Nothing if written == unmade.as_bytes() => Way::NoMemory,
         _ => Way::Wrong,
     }
 }

@@ -10,11 +10,12 @@ mod judging;
 mod texts;
 
 use crate::judging::{Way, judged};
-use crate::texts::{FACTS, PART, PICTURE, SCRIPT, SUMMARY, TRACE, UNMADE};
+use crate::texts::{FACTS, FOUND, PART, PICTURE, SCRIPT, STUCK, SUMMARY, TRACE, UNMADE};
 use gmp_check_cli::{check, cut};
 use gmp_cli::step;
 use gmp_draw::draw;
 use gmp_explain::explain;
+use gmp_explore_cli::explore;
 use gmp_run::Clock;
 use gmp_run_cli::run;
 use gmp_words::{Ended, Settings, Task, arguments, settings};
@@ -27,6 +28,9 @@ use std::thread::Threads;
 
 /// The command line of a run that prints its trace; the other commands have no use for the flag.
 const LINE: &str = "gmp run --trace --entries 16";
+
+/// The command line of an exploration that tells what it finds.
+const WORDS: &str = "gmp explore";
 
 /// The entry from which `cut` prints.
 const AT: u64 = 4;
@@ -81,46 +85,61 @@ fn settings_of(alloc: Global, line: &str) -> Result<Settings, Ended> {
 struct Command {
     name: &'static str,
     task: Task,
+    /// The status where nothing is refused.
+    status: u8,
     whole: &'static str,
     unmade: &'static str,
 }
 
-const COMMANDS: [Command; 6] = [
+const COMMANDS: [Command; 7] = [
     Command {
         name: "step",
         task: Task::Step,
+        status: 0,
         whole: TRACE,
         unmade: UNMADE,
     },
     Command {
         name: "run",
         task: Task::Run,
+        status: 0,
         whole: TRACE,
         unmade: UNMADE,
     },
     Command {
         name: "check",
         task: Task::Check,
+        status: 0,
         whole: SUMMARY,
         unmade: SUMMARY,
     },
     Command {
         name: "cut",
         task: Task::Cut,
+        status: 0,
         whole: PART,
         unmade: PART,
     },
     Command {
         name: "explain",
         task: Task::Explain,
+        status: 0,
         whole: FACTS,
         unmade: FACTS,
     },
     Command {
         name: "draw",
         task: Task::Draw,
+        status: 0,
         whole: PICTURE,
         unmade: PICTURE,
+    },
+    Command {
+        name: "explore",
+        task: Task::Explore,
+        status: 2,
+        whole: FOUND,
+        unmade: FOUND,
     },
 ];
 
@@ -131,6 +150,19 @@ fn told(alloc: Global, output: &mut &mut [u8]) -> Ended {
         Ok(()) => explained.ended,
         Err(_) => Ended::output_failed(),
     }
+}
+
+/// What `explore` finds goes to `output`: in words, and behind that as the trace that the settings want.
+fn looked(alloc: Global, settings: &Settings, output: &mut &mut [u8]) -> Ended {
+    let words = match settings_of(alloc, WORDS) {
+        Ok(words) => words,
+        Err(ended) => return ended,
+    };
+    let found = explore(alloc, &words, &mut STUCK.as_bytes(), output);
+    if found.ended.status != 2 {
+        return found.ended;
+    }
+    explore(alloc, settings, &mut STUCK.as_bytes(), output).ended
 }
 
 impl Command {
@@ -150,6 +182,7 @@ impl Command {
             Task::Cut => cut(alloc, AT, &mut TRACE.as_bytes(), output),
             Task::Explain => told(alloc, output),
             Task::Draw => draw(alloc, 0, 2, &mut TRACE.as_bytes(), output, &mut ()),
+            Task::Explore => looked(alloc, settings, output),
         }
     }
 
@@ -160,7 +193,7 @@ impl Command {
         let ended = self.done(rt, alloc, settings, &mut output);
         let count = ROOM.saturating_sub(output.len());
         let written = room.get(..count).unwrap_or(&[]);
-        judged(&ended, written, self.whole, self.unmade)
+        judged(&ended, self.status, written, self.whole, self.unmade)
     }
 }
 
@@ -172,7 +205,7 @@ fn line(rt: &impl Print, ended: Result<Settings, Ended>) -> io::Result<Option<Se
             Ok(Some(settings))
         }
         Err(ended) => {
-            println!(rt; "line: {}", judged(&ended, b"", "", ""))?;
+            println!(rt; "line: {}", judged(&ended, 0, b"", "", ""))?;
             Ok(None)
         }
     }

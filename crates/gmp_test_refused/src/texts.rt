@@ -73,6 +73,29 @@ begin
 end main ended
 ";
 
+/// Main waits for good.
+pub const STUCK: &str = "chan 0
+body
+recv 0
+";
+
+/// What `explore` tells of that script, and the trace.
+pub const FOUND: &str = "deadlock after 0 steps: 1 states, 0 steps
+goroutine 0 waits: recv 0
+channel 0: open, room 0, holds 0
+gmp-trace 1
+limits procs 1 machines 1 bodies 1 channels 16 entries 25
+caps 0
+0 0.0 acquire -> proc 0
+1 0.1 take -> ticket 0.1
+2 0.2 claim 0.1 -> held
+3 0.3 recv 0 -> waits
+4 0.4 declare -> idle 0
+5 0.5 bare -> done
+6 0.6 park -> all asleep
+end all asleep
+";
+
 /// The picture of entries 0 and 1 of the trace.
 pub const PICTURE: &str =
     r##"<svg xmlns="http://www.w3.org/2000/svg" width="1280" height="168" viewBox="0 0 1280 168">

@@ -1,5 +1,5 @@
-//! Judges `gmp step`, `check`, `explain` and `draw` by files of lines, which lie in `data/`: docs/HACKING.md. A file is a script with its worked trace
-//! (and what `gmp explain` tells of it, and its picture), a trace that is not right, a table of changes of a trace or script, or a table of limits of entries.
+//! Judges `gmp step`, `check`, `explain`, `draw` and `explore` by files of lines, which lie in `data/`: docs/HACKING.md. A file is a script with its worked trace
+//! (and what `gmp explain` tells of it, its picture, and what `gmp explore` finds), a trace that is not right, a table of changes of a trace or script, or a table of limits of entries.
 //!
 //! For each file that an argument names it prints that all went well, or the first line that falls short; the gate compares that with
 //! `stdout`. Traces are compared byte for byte: that a trace is a legal run is proved, which legal run was meant is not.

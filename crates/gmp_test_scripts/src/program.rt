@@ -4,6 +4,7 @@ use gmp_check_cli::check;
 use gmp_cli::step;
 use gmp_draw::draw;
 use gmp_explain::explain;
+use gmp_explore_cli::explore;
 use gmp_words::{Said, settings};
 use std::alloc::{AllocError, Global};
 
@@ -16,14 +17,17 @@ pub struct Ran {
     pub status: u8,
 }
 
-/// The first line, where it is a comment that begins with `gmp step`, and else `gmp step`.
-fn command_of(script: &[u8]) -> &str {
-    let first = script.split(|byte| *byte == b'\n').next().unwrap_or(&[]);
-    let first = str::from_utf8(first).unwrap_or("");
-    match first.strip_prefix("# ") {
-        Some(command) if command.starts_with("gmp step") => command,
-        _ => "gmp step",
+/// The first comment of the script's head that begins with these words, or else the words.
+fn command_of<'a>(script: &'a [u8], words: &'static str) -> &'a str {
+    for line in script.split(|byte| *byte == b'\n') {
+        let line = str::from_utf8(line).unwrap_or("");
+        match line.strip_prefix("# ") {
+            Some(command) if command.starts_with(words) => return command,
+            Some(_) => {}
+            None => break,
+        }
     }
+    words
 }
 
 /// The words of a command line, parted by single spaces.
@@ -35,15 +39,15 @@ fn words_of(alloc: Global, command: &str) -> Result<Vec<String>, AllocError> {
     Ok(words)
 }
 
-/// `gmp step` on a script. Its options are those of the first line, where that is a comment that begins with `gmp step`.
+/// `gmp step` on a script. Its options are those of a comment of its head that begins with `gmp step`, if there is one.
 pub fn stepped(alloc: Global, script: &[u8]) -> Result<Ran, AllocError> {
-    let words = words_of(alloc, command_of(script))?;
+    let words = words_of(alloc, command_of(script, "gmp step"))?;
     step_by(alloc, &words, script)
 }
 
 /// The same with this limit of entries.
 pub fn stepped_within(alloc: Global, script: &[u8], entries: &str) -> Result<Ran, AllocError> {
-    let command = format!(in alloc; "{} --entries {entries}", command_of(script))?;
+    let command = format!(in alloc; "{} --entries {entries}", command_of(script, "gmp step"))?;
     let words = words_of(alloc, command.as_str())?;
     step_by(alloc, &words, script)
 }
@@ -82,6 +86,28 @@ pub fn drawn(alloc: Global, trace: &[u8]) -> Result<Ran, AllocError> {
     let mut written = Vec::new(alloc);
     let ended = draw(alloc, 0, u64::MAX, &mut &trace[..], &mut written, &mut ());
     done(alloc, written, ended.status, &ended.said)
+}
+
+/// `gmp explore` on a script, or with `--trace`. Its options are those of a comment of its head that begins with `gmp explore`, if there is
+/// one. What is noted counts as said.
+pub fn explored(alloc: Global, script: &[u8], trace: bool) -> Result<Ran, AllocError> {
+    let mut words = words_of(alloc, command_of(script, "gmp explore"))?;
+    if trace {
+        words.push(String::from_str(alloc, "--trace")?)?;
+    }
+    let mut written = Vec::new(alloc);
+    match settings(alloc, &words) {
+        Ok(settings) => {
+            let found = explore(alloc, &settings, &mut &script[..], &mut written);
+            let said = format!(in alloc; "{}{}", found.ended.said, found.note)?;
+            Ok(Ran {
+                written,
+                said,
+                status: found.ended.status,
+            })
+        }
+        Err(ended) => done(alloc, written, ended.status, &ended.said),
+    }
 }
 
 /// What was written, with the text of what was said.

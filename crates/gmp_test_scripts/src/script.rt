@@ -1,13 +1,13 @@
 //! Scripts, each with the trace that is to be written of it: run, compared, read again, checked, held
-//! against the script, cut, explained and drawn.
+//! against the script, cut, explained, drawn and explored.
 
 use crate::error::ScriptError;
-use crate::program::{checked, drawn, explained, stepped};
+use crate::program::{Ran, checked, drawn, explained, explored, stepped};
 use crate::reasons::judge_reasons;
 use gmp_follow::follows;
 use gmp_test_cuts::cut_everywhere;
 use gmp_trace::{read, write};
-use std::alloc::Global;
+use std::alloc::{AllocError, Global};
 use std::io::ErrorKind;
 use std::{fs, io};
 
@@ -147,11 +147,7 @@ fn judge_explained(
     if !json {
         judge_width(alloc, &ran.written)?;
     }
-    let got = format!(in alloc;
-        "{}{}",
-        ran.said,
-        str::from_utf8(&ran.written).unwrap_or("?")
-    )?;
+    let got = text_of(alloc, &ran)?;
     let end = if json { ".json" } else { ".explained" };
     is_beside(
         rt,
@@ -177,6 +173,52 @@ fn judge_drawn(rt: &HostRuntime, stem: &str, trace: &[u8]) -> Result<(), ScriptE
         "gmp draw wrote another line",
     )?;
     Ok(())
+}
+
+/// What was said, and behind it what was written.
+fn text_of(alloc: Global, ran: &Ran) -> Result<String, AllocError> {
+    let written = str::from_utf8(&ran.written).unwrap_or("?");
+    format!(in alloc; "{}{written}", ran.said)
+}
+
+/// The trace of what `gmp explore` finds of a script ends with the same status, and `gmp check` passes it.
+fn judge_found(alloc: Global, script: &[u8], found: &Ran) -> Result<(), ScriptError> {
+    let traced = explored(alloc, script, true)?;
+    if traced.status != found.status {
+        return Err(ScriptError::line(alloc, 0, traced.said.trim_end()));
+    }
+    if traced.written.is_empty() {
+        let told = text_of(alloc, found)?;
+        return same(
+            alloc,
+            traced.said.as_bytes(),
+            told.as_bytes(),
+            "another note",
+        );
+    }
+    let ran = checked(alloc, &traced.written)?;
+    if ran.status != 0 {
+        return Err(ScriptError::line(alloc, 0, ran.said.trim_end()));
+    }
+    let told = explained(alloc, &traced.written, false)?;
+    judge_width(alloc, &told.written)
+}
+
+/// `gmp explore` of the script of this name finds what lies beside it, if that does, and has a trace of it.
+fn judge_explored(rt: &HostRuntime, name: &str, stem: &str) -> Result<(), ScriptError> {
+    let alloc = rt.alloc();
+    let script = fs::read_to_string(rt, name)?;
+    let found = explored(alloc, script.as_bytes(), false)?;
+    judge_width(alloc, &found.written)?;
+    let got = text_of(alloc, &found)?;
+    is_beside(
+        rt,
+        stem,
+        ".explored",
+        got.as_bytes(),
+        "gmp explore wrote another line",
+    )?;
+    judge_found(alloc, script.as_bytes(), &found)
 }
 
 /// The trace of this name is not right, and `gmp explain` says why: how many calls it has, or what falls short.
@@ -213,6 +255,7 @@ pub fn judged(rt: &HostRuntime, name: &str) -> Result<usize, ScriptError> {
     judge_explained(rt, stem, trace.as_bytes(), false)?;
     judge_explained(rt, stem, trace.as_bytes(), true)?;
     judge_drawn(rt, stem, trace.as_bytes())?;
+    judge_explored(rt, name, stem)?;
     judge_reasons(rt.alloc(), trace.as_bytes())?;
     Ok(trace.matches(" -> ").count())
 }

@@ -10,6 +10,8 @@ use Rattle.gmp_trace.specs.declared.trace.End.{End}
 use Rattle.gmp_trace.specs.declared.trace.End.TheVariants.{MainEnded, AllAsleep, BookFull, Running}
 use Rattle.gmp_trace.specs.Text.{Content, end_of}
 use Rattle.gmp_trace.specs.Text.Begins.{AtOpening}
+use Rattle.gmp_words.specs.declared.ended.Verdict.{Verdict}
+use Rattle.gmp_words.specs.declared.ended.Verdict.TheVariants.{Safe, Deadlock, Fault, Leak, Unknown}
 use Rattle.gmp_words.specs.declared.options.Settings.{Settings}
 
 -- the limits that the command line gives
@@ -22,6 +24,14 @@ status_of MainEnded = 0
 status_of AllAsleep = 2
 status_of BookFull = 3
 status_of Running = 4
+
+-- the exit status where this was found of all runs of a script
+abbrev pub status_of_verdict : Verdict → ℕ
+status_of_verdict Safe = 0
+status_of_verdict Deadlock = 2
+status_of_verdict Fault = 7
+status_of_verdict Leak = 8
+status_of_verdict Unknown = 9
 
 -- The trace of a run that was opened with these limits and capacities: its entries are a legal run from the opening state, and its end is
 -- the outcome of the state that they lead to, or says that there is none.

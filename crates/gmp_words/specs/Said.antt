@@ -1,5 +1,7 @@
 -- What is said at the end: its text, and the statuses that go with it.
 use Rattle.std.specs.Prelude.{ℕ, Bool, true, false, ◌==◌, ◌||◌, List, [], ◌∷◌, ◌++◌, codes, decimal, string_bytes}
+use Rattle.gmp_words.specs.declared.said.Untraced.{Untraced}
+use Rattle.gmp_words.specs.declared.said.Untraced.TheVariants.{Astray, Crowded, TooLong}
 use Rattle.gmp_words.specs.declared.said.Said.{Said}
 use Rattle.gmp_trace.specs.declared.bad.Bad.{Bad}
 use Rattle.gmp_trace.specs.declared.bad.Why.{Why}
@@ -7,7 +9,13 @@ use Rattle.gmp_trace.specs.declared.bad.Why.TheVariants as why
 use Rattle.gmp_trace.specs.declared.writing.WriteError.{WriteError}
 use Rattle.gmp_trace.specs.declared.writing.WriteError.TheVariants as write_error
 use Rattle.gmp_trace.specs.Bad.{bad_text}
-use Rattle.gmp_words.specs.declared.said.Said.TheVariants.{Nothing, BadLine, BadTrace, InputTooLong, InputUnreadable, OutputFailed, BadLimits, OutOfMemory, Mismatch, Usage}
+use Rattle.gmp_words.specs.declared.said.Said.TheVariants.{Nothing, BadLine, BadTrace, InputTooLong, InputUnreadable, OutputFailed, BadLimits, OutOfMemory, Mismatch, NoTrace, Usage}
+
+-- why there is no trace
+abbrev pub untraced_text : Untraced → List ℕ
+untraced_text (Crowded procs) = codes "gmp: no trace: too few processors: " ++ (decimal procs ++ 10 ∷ [])
+untraced_text TooLong = codes "gmp: no trace: it would have more than 1000000 entries" ++ 10 ∷ []
+untraced_text Astray = codes "gmp: audit: no run follows the choices" ++ 10 ∷ []
 
 abbrev pub text_of : Said → List ℕ
 text_of Nothing = []
@@ -19,12 +27,14 @@ text_of OutputFailed = codes "gmp: output failed" ++ 10 ∷ []
 text_of BadLimits = codes "gmp: bad limits" ++ 10 ∷ []
 text_of OutOfMemory = codes "gmp: out of memory" ++ 10 ∷ []
 text_of (Mismatch m) = codes "gmp: audit: machine " ++ (decimal m.0 ++ 10 ∷ [])
+text_of (NoTrace why) = untraced_text why
 text_of (Usage text) = string_bytes text
 
--- the program may end so with this status: 0 main ended or the check passed, 2 all asleep, 3 book full, 4 no end yet; 1 input, output,
--- script or trace, 5 memory, 6 a count of calls that is not that of the history, 64 limits or command line; help that was asked for is 0
+-- the program may end so with this status: 0 main ended, the check passed, or no run has what is not wanted, 2 all asleep, 3 book full, 4 no
+-- end yet, 7 a fault, 8 a leak, 9 not known; 1 input, output, script or trace, 5 memory, 6 a count of calls that is not that of the history, or
+-- no trace, 64 limits or command line; help that was asked for is 0
 abbrev pub goes_with : Said → ℕ → Bool
-goes_with Nothing status = status == 0 || (status == 2 || (status == 3 || status == 4))
+goes_with Nothing status = status == 0 || (status == 2 || (status == 3 || (status == 4 || (status == 7 || (status == 8 || status == 9)))))
 goes_with (BadLine line) status = status == 1
 goes_with (BadTrace bad) status = status == 1
 goes_with InputTooLong status = status == 1
@@ -33,6 +43,7 @@ goes_with OutputFailed status = status == 1
 goes_with BadLimits status = status == 64
 goes_with OutOfMemory status = status == 5
 goes_with (Mismatch m) status = status == 6
+goes_with (NoTrace why) status = status == 6
 goes_with (Usage text) status = status == 64 || status == 0
 
 -- what may be said where the input could not be had
@@ -60,8 +71,14 @@ is_of_run _ = false
 abbrev pub is_of_step : Said → Bool
 is_of_step (BadTrace bad) = false
 is_of_step (Mismatch m) = false
+is_of_step (NoTrace why) = false
 is_of_step (Usage text) = false
 is_of_step _ = true
+
+-- what may be said by `explore`
+abbrev pub is_of_explore : Said → Bool
+is_of_explore (NoTrace why) = true
+is_of_explore said = is_of_step said
 
 -- what is said of the first bad line that was found, or that memory was refused
 abbrev pub said_for : Why → Bad → Said
@@ -103,6 +120,7 @@ is_before_writing InputTooLong = true
 is_before_writing InputUnreadable = true
 is_before_writing BadLimits = true
 is_before_writing (Mismatch m) = true
+is_before_writing (NoTrace why) = true
 is_before_writing _ = false
 
 -- what may be said where the command line was not read

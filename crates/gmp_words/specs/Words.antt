@@ -1,11 +1,12 @@
 -- The command and the options among the words of a command line.
-use Rattle.std.specs.Prelude.{◌≡◌, ℕ, true, ◌+◌, Bool, false, codes, slice_get, ◌&&◌, ◌==◌, nat_lt, List, [], ◌∷◌, drop, take, length, slice_index, Option, Some, None, if◌then◌else◌}
-use Rattle.std.specs.List.{list_any}
+use Rattle.std.specs.Prelude.{◌≡◌, ℕ, true, ◌+◌, Bool, false, codes, slice_get, ◌&&◌, ◌||◌, ◌==◌, nat_lt, List, [], ◌∷◌, drop, take, length, slice_index, Option, Some, None, is_some, if◌then◌else◌}
+use Rattle.std.specs.List.{list_all, list_any, slice_split}
 use Rattle.std.specs.Str.{bytes_eq}
 use Rattle.std.specs.Option.{option_map_or}
 use Rattle.gmp_script.specs.Numbers.{parsed_number}
 use Rattle.gmp_words.specs.declared.options.Settings.{Settings}
 use Rattle.gmp_words.specs.declared.options.Task.{Task}
+use Rattle.gmp_words.specs.declared.options.Wanted.{Wanted}
 use Rattle.gmp_words.specs.declared.options.Task.TheVariants as task
 
 -- the word for what is to be done
@@ -16,6 +17,7 @@ name_of task.Check = codes "check"
 name_of task.Cut = codes "cut"
 name_of task.Explain = codes "explain"
 name_of task.Draw = codes "draw"
+name_of task.Explore = codes "explore"
 
 -- the word behind the program's name is this task's
 abbrev pub is_named : {W : Type 0} → (W → List ℕ) → List W → Task → Bool
@@ -56,11 +58,31 @@ is_given text words flag = list_any (λ word. bytes_eq (text word) flag) words
 abbrev pub behind : {W : Type 0} → List W → List W
 behind words = drop 2 words
 
+-- a name of what can be wanted
+abbrev pub is_name : List ℕ → Bool
+is_name name = bytes_eq name (codes "no-deadlock") || bytes_eq name (codes "no-fault") || bytes_eq name (codes "no-leak")
+
+-- the names that an option gives, parted by commas, or no-deadlock alone where it isn't given
+abbrev pub names_in : Option (List ℕ) → List (List ℕ)
+names_in None = codes "no-deadlock" ∷ []
+names_in (Some text) = slice_split (λ b. b == 44) text
+
+abbrev pub names_wanted : {W : Type 0} → (W → List ℕ) → List W → List (List ℕ)
+names_wanted text words = names_in (given text words (codes "--want"))
+
+-- what is wanted is what the words name, and they name nothing else
+pub record AreWanted {W : Type 0} (text : W → List ℕ) (words : List W) (w : Wanted) : Type 0 where
+  pub names : list_all is_name (names_wanted text words) ≡ true
+  pub no_deadlock : w.no_deadlock ≡ list_any (λ name. bytes_eq name (codes "no-deadlock")) (names_wanted text words)
+  pub no_fault : w.no_fault ≡ list_any (λ name. bytes_eq name (codes "no-fault")) (names_wanted text words)
+  pub no_leak : w.no_leak ≡ list_any (λ name. bytes_eq name (codes "no-leak")) (names_wanted text words)
+
 -- The settings are what the words say: the task that they name, the number that they give each option behind it, or its default, and the
 -- flags.
 pub record AreSaid {W : Type 0} (text : W → List ℕ) (words : List W) (s : Settings) : Type 0 where
   pub task : is_named text words s.task ≡ true
   pub procs : number_given text (behind words) (codes "--procs") 1 ≡ Some s.procs
+  pub has_procs : s.has_procs ≡ is_some (given text (behind words) (codes "--procs"))
   pub machines : number_given text (behind words) (codes "--machines") 1 ≡ Some s.machines
   pub channels : number_given text (behind words) (codes "--channels") 16 ≡ Some s.channels
   pub entries : number_given text (behind words) (codes "--entries") 10000 ≡ Some s.entries
@@ -72,3 +94,5 @@ pub record AreSaid {W : Type 0} (text : W → List ℕ) (words : List W) (s : Se
   pub json : s.json ≡ is_given text (behind words) (codes "--json")
   pub from : number_given text (behind words) (codes "--from") 0 ≡ Some s.from
   pub to : number_given text (behind words) (codes "--to") 18446744073709551615 ≡ Some s.to
+  pub states : number_given text (behind words) (codes "--states") 1000000 ≡ Some s.states
+  pub wanted : AreWanted text (behind words) s.wanted

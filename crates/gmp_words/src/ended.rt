@@ -1,10 +1,10 @@
 //! How the program ends. One function for each end, so that a status is never paired with another's text.
 
 ghost use Rattle.std.specs.Prelude.{◌≡◌, true};
-ghost use Rattle.gmp_words.specs.Runs.{status_of};
+ghost use Rattle.gmp_words.specs.Runs.{status_of, status_of_verdict};
 ghost use Rattle.gmp_words.specs.Said.{goes_with};
 
-use crate::said::Said;
+use crate::said::{Said, Untraced};
 use gmp_base::MNo;
 use gmp_trace::{Bad, End, Why, WriteError};
 use std::alloc::AllocError;
@@ -30,6 +30,34 @@ fn status_of(end: End) -> u8
     }
 }
 
+/// What was found of all runs of a script.
+#[derive(Clone, Copy, Debug, PartialEq, Eq)]
+pub enum Verdict {
+    /// No run has what is not wanted.
+    Safe,
+    /// A run ends since all goroutines are asleep.
+    Deadlock,
+    /// A run tells a goroutine a fault.
+    Fault,
+    /// A run leaves a goroutine or a value behind.
+    Leak,
+    /// None of these: there are more states than may be looked at.
+    Unknown,
+}
+
+/// The status for what was found.
+fn status_of_verdict(verdict: Verdict) -> u8
+    ensures { result ≡ status_of_verdict verdict }
+{
+    match verdict {
+        Verdict::Safe => 0,
+        Verdict::Deadlock => 2,
+        Verdict::Fault => 7,
+        Verdict::Leak => 8,
+        Verdict::Unknown => 9,
+    }
+}
+
 impl Ended {
     /// The trace was written, and the run ended so.
     pub fn written(end: End) -> Self
@@ -51,6 +79,29 @@ impl Ended {
         Ended {
             status: 0,
             said: Said::Nothing,
+        }
+    }
+
+    /// What was found of a script was written.
+    pub fn found(verdict: Verdict) -> Self
+        ensures status { result.status ≡ status_of_verdict verdict }
+        ensures said { result.said ≡ Said.Nothing }
+    {
+        let status = status_of_verdict(verdict);
+        Ended {
+            status,
+            said: Said::Nothing,
+        }
+    }
+
+    /// There is no trace of what was found of a script.
+    pub fn no_trace(why: Untraced) -> Self
+        ensures status { result.status ≡ 6 }
+        ensures said { result.said ≡ Said.NoTrace why }
+    {
+        Ended {
+            status: 6,
+            said: Said::NoTrace(why),
         }
     }
 

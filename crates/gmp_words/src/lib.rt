@@ -8,7 +8,7 @@
 //! alone, a word that isn't UTF-8. Help and the version that are asked for are no refusal. An input is refused where it is too long
 //! (`MAX_SCRIPT`, `MAX_TRACE`) or can't be read, a script by its first bad line.
 //!
-//! `words` and `numeric` read the command line, `options` has what it says, `host` hands it in, `reading` and `parsing` read the input,
+//! `words`, `numeric` and `wanting` read the command line, `options` has what it says, `host` hands it in, `reading` and `parsing` read the input,
 //! `ended` and `said` are the end.
 #![tactic(auto)]
 
@@ -19,12 +19,13 @@ mod options;
 mod parsing;
 mod reading;
 mod said;
+mod wanting;
 mod words;
 
-pub use ended::Ended;
+pub use ended::{Ended, Verdict};
 pub use host::arguments;
-pub use options::{Settings, Task};
+pub use options::{Settings, Task, Wanted};
 pub use parsing::script;
 pub use reading::{MAX_SCRIPT, MAX_TRACE, input};
-pub use said::Said;
+pub use said::{Said, Untraced};
 pub use words::settings;

@@ -76,7 +76,7 @@ fn value_in<'a>(option: &[u8], word: &'a [u8]) -> Option<&'a [u8]>
 }
 
 /// The text that the words give an option, as its value or behind its `=`. The first counts; a second one `clap` has refused.
-fn given<'a>(option: &[u8], words: &'a [String]) -> Option<&'a [u8]>
+pub fn given<'a>(option: &[u8], words: &'a [String]) -> Option<&'a [u8]>
     ensures { option_map (λ value. value.now) result ≡ given string_bytes words.now option.now }
 {
     for (i, word) in words.iter().enumerate() {

@@ -20,6 +20,19 @@ pub enum Task {
     Explain,
     /// Reads a trace, checks it, and prints a picture of it.
     Draw,
+    /// Looks at all that may happen in any run of a script, and prints what goes wrong, or that nothing does.
+    Explore,
+}
+
+/// What no run of a script is to do. One or more of these are wanted.
+#[derive(Clone, Copy, Debug, PartialEq, Eq)]
+pub struct Wanted {
+    /// End since all goroutines are asleep.
+    pub no_deadlock: bool,
+    /// Tell a goroutine a fault.
+    pub no_fault: bool,
+    /// Leave a goroutine that waits for good, or a value on a channel, behind at main's end.
+    pub no_leak: bool,
 }
 
 /// What the command line says: the task, and the number of each option.
@@ -28,6 +41,8 @@ pub struct Settings {
     pub task: Task,
     /// Processors: 1 to 32.
     pub procs: u8,
+    /// Whether the line says how many.
+    pub has_procs: bool,
     /// Machines: 1 to 64.
     pub machines: u8,
     /// The most channels that a run may have: 0 to 1,024.
@@ -50,11 +65,16 @@ pub struct Settings {
     pub from: u64,
     /// The entry before which a picture ends.
     pub to: u64,
+    /// The most states of a script that are looked at: 1 to 100,000,000.
+    pub states: u32,
+    /// What is looked for in them.
+    pub wanted: Wanted,
     pub ghost procs_in_range: { (1 ≤ procs) × (procs ≤ 32) },
     pub ghost machines_in_range: { (1 ≤ machines) × (machines ≤ 64) },
     pub ghost channels_in_range: { channels ≤ 1024 },
     pub ghost entries_in_range: { (16 ≤ entries) × (entries ≤ 1000000) },
     pub ghost acts_in_range: { (1 ≤ acts) × (acts ≤ 1000000000) },
+    pub ghost states_in_range: { (1 ≤ states) × (states ≤ 100000000) },
 }
 
 impl Settings {

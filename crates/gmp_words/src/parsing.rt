@@ -1,6 +1,6 @@
 //! Reads a script, line by line.
 
-ghost use Rattle.std.specs.Prelude.{◌≡◌, ◌<◌, ◌≤◌, ◌||◌, ℕ, true, false, length, IfOk, IfErr, IfSome};
+ghost use Rattle.std.specs.Prelude.{◌≡◌, ◌<◌, ◌≤◌, ◌||◌, ℕ, true, false, All, length, IfOk, IfErr, IfSome};
 ghost use Rattle.gmp_words.specs.Said.{is_of_input, is_of_script};
 ghost use Rattle.gmp_script.specs.Lines.{lines, IsScript, IsFirstBadLine};
 ghost use Rattle.gmp_words.specs.declared.said.Said.TheVariants.{BadLine, InputTooLong};
@@ -34,6 +34,9 @@ fn parsed(alloc: Global, text: &[u8]) -> Result<Script, Ended>
 /// An error says which: too long, unreadable, the first bad line, or out of memory.
 pub fn script<R: Read>(alloc: Global, reader: &mut R) -> Result<Script, Ended>
     ensures ok { IfOk result (λ s. IfSome (R.remaining reader.old) (λ all. IsScript (lines all) s.capacities.items s.readings.items s.bodies.items)) }
+
+    // No body has asked anything yet.
+    ensures fresh { IfOk result (λ s. All (λ b. b.next ≡ 0) s.bodies.items) }
 
     ensures kinds { IfErr result (λ e. (is_of_input e.said || is_of_script e.said) ≡ true) }
     ensures first { IfErr result (λ e. (line : ℕ) → e.said ≡ BadLine line

@@ -4,6 +4,17 @@ use gmp_base::MNo;
 use gmp_trace::Bad;
 use std::fmt;
 
+/// Why there is no trace of a run that follows what was found.
+#[derive(Clone, Copy, Debug, PartialEq, Eq)]
+pub enum Untraced {
+    /// More goroutines are between two asks at once than there are processors, of which there are so many.
+    Crowded(u8),
+    /// A run may not have so many entries.
+    TooLong,
+    /// A call was refused, or answered otherwise than what was found says.
+    Astray,
+}
+
 /// What is said at the end, besides the trace or the summary.
 ///
 /// Its text, by `Display`, ends with a line feed. `Nothing` has no text.
@@ -27,6 +38,8 @@ pub enum Said {
     OutOfMemory,
     /// The least machine whose count of calls is not the number of its entries.
     Mismatch(MNo),
+    /// There is no trace of what was found.
+    NoTrace(Untraced),
     /// A text of the command line's parser: why it refused, or the help that was asked for.
     Usage(String),
 }
@@ -48,6 +61,15 @@ impl fmt::Display for Said {
             Said::BadLimits => f.write_str("gmp: bad limits\n"),
             Said::OutOfMemory => f.write_str("gmp: out of memory\n"),
             Said::Mismatch(m) => writeln!(f, "gmp: audit: machine {}", m.0),
+            Said::NoTrace(Untraced::Crowded(procs)) => {
+                writeln!(f, "gmp: no trace: too few processors: {procs}")
+            }
+            Said::NoTrace(Untraced::TooLong) => f.write_str(
+                "gmp: no trace: it would have more than 1000000 entries\n",
+            ),
+            Said::NoTrace(Untraced::Astray) => f.write_str(
+                "gmp: audit: no run follows the choices\n",
+            ),
             Said::Usage(text) => f.write_str(text),
         }
     }

@@ -3,13 +3,14 @@
 
 ghost use Rattle.std.specs.Prelude.{◌≡◌, ◌≢◌, ◌⊎◌, codes, string_bytes, true, Some, IfOk, IfErr, IfSome};
 ghost use Rattle.gmp_words.specs.Said.{is_of_words};
-ghost use Rattle.gmp_words.specs.Words.{AreSaid, behind, is_given, is_named, number_given};
+ghost use Rattle.gmp_words.specs.Words.{AreSaid, AreWanted, behind, is_given, is_named, number_given};
 ghost use Rattle.clap.specs.Values.{kind_of};
 
 use crate::ended::Ended;
-use crate::numeric::Numeric;
-use crate::options::{Settings, Task};
+use crate::numeric::{Numeric, given};
+use crate::options::{Settings, Task, Wanted};
 use crate::said::Said;
+use crate::wanting;
 use clap::error::ErrorKind;
 use clap::{Arg, ArgAction, Command};
 use gmp_seq::{LEAST_ENTRIES, MOST_CHANNELS, MOST_ENTRIES, MOST_MACHINES, MOST_PROCS};
@@ -23,6 +24,12 @@ const PROCS: Numeric = Numeric {
     least: 1,
     most: MOST_PROCS as u64,
     default: 1,
+};
+
+/// The same for `explore`.
+const PROCS_OF_ALL: Numeric = Numeric {
+    help: "Processors, 1 to 32 [default: one for each goroutine, but 32 at most]",
+    ..PROCS
 };
 
 const MACHINES: Numeric = Numeric {
@@ -106,6 +113,15 @@ const TO: Numeric = Numeric {
     default: u64::MAX,
 };
 
+const STATES: Numeric = Numeric {
+    id: "states",
+    option: "--states",
+    help: "The most states that are looked at, 1 to 100000000 [default: 1000000]",
+    least: 1,
+    most: 100_000_000,
+    default: 1_000_000,
+};
+
 /// The program's version, and that of the traces that it writes and reads.
 const VERSION: &str = "0.1.0 (gmp-trace 1, 2)";
 
@@ -117,11 +133,14 @@ output.
 Exit status:
   0   main ended, the trace is right, or help or the version was asked for
   1   the input is bad or can't be read, or the output can't be written
-  2   all goroutines are asleep: deadlock
+  2   all goroutines are asleep: deadlock; explore: in some run
   3   the history is full
   4   step: no end yet, by --acts or since all machines are parked
   5   memory was refused
-  6   run: a machine's count of its calls is not that of the history
+  6   run: a machine's count of its calls is not that of the history; explore: no trace of what was found
+  7   explore: in some run a goroutine is told a fault
+  8   explore: some run leaves a goroutine or a value behind
+  9   explore: not known, since there are more states than --states says
   64  the command line or the limits are bad
 
 Try: gmp step < examples/hello.gmp | gmp check";
@@ -165,6 +184,13 @@ each channel, from left to right by entries.
 
 Exit status: as of check.";
 
+const EXPLORE_INPUT: &str =
+    "The script comes on standard input. What no run is to have is looked for in all runs of it, by any machines, processors and
+clock: what goes wrong goes to standard output with the choices that lead there, or how many states were looked at.
+
+Exit status: 0 no run has it, 2 a deadlock, 7 a fault, 8 a leak, 9 not known (there are more states), 1 bad script,
+input or output, 5 out of memory, 6 no trace of what was found, 64 bad command line or limits.";
+
 /// The command with these options.
 fn with<'a>(
     alloc: Global,
@@ -195,15 +221,18 @@ fn run<'a>(alloc: Global) -> Result<Command<'a>, AllocError> {
     let run = Command::new(alloc, "run")
         .about("Runs a script by machines in threads and prints the summary")
         .after_help(RUN_INPUT);
-    with(alloc, run, &[PROCS, MACHINES, CHANNELS, ENTRIES, RANDOM])?.arg(trace(alloc))
+    with(alloc, run, &[PROCS, MACHINES, CHANNELS, ENTRIES, RANDOM])?.arg(trace(
+        alloc,
+        "Prints the trace, and not the summary",
+    ))
 }
 
-/// The flag `--trace` of `run`.
-fn trace<'a>(alloc: Global) -> Arg<'a> {
+/// The flag `--trace`, with what `--help` says of it.
+fn trace<'a>(alloc: Global, help: &'static str) -> Arg<'a> {
     Arg::new(alloc, "trace")
         .long("trace")
         .action(ArgAction::SetTrue)
-        .help("Prints the trace, and not the summary")
+        .help(help)
 }
 
 /// The command `check`, which has no options.
@@ -242,6 +271,18 @@ fn draw<'a>(alloc: Global) -> Result<Command<'a>, AllocError> {
     with(alloc, draw, &[FROM, TO])
 }
 
+/// The command `explore`, with its options.
+fn explore<'a>(alloc: Global) -> Result<Command<'a>, AllocError> {
+    let explore = Command::new(alloc, "explore")
+        .about(
+            "Looks at all runs of a script and prints what goes wrong in one, or that nothing does",
+        )
+        .after_help(EXPLORE_INPUT);
+    with(alloc, explore, &[PROCS_OF_ALL, CHANNELS, STATES])?
+        .arg(wanting::arg(alloc))?
+        .arg(trace(alloc, "Prints a trace of what goes wrong"))
+}
+
 /// The program with all its commands.
 fn command<'a>(alloc: Global) -> Result<Command<'a>, AllocError> {
     Command::new(alloc, "gmp")
@@ -256,7 +297,8 @@ fn command<'a>(alloc: Global) -> Result<Command<'a>, AllocError> {
         .subcommand(check(alloc))?
         .subcommand(cut(alloc)?)?
         .subcommand(explain(alloc)?)?
-        .subcommand(draw(alloc)?)
+        .subcommand(draw(alloc)?)?
+        .subcommand(explore(alloc)?)
 }
 
 /// What a refusal by `clap` ends with: its own text, and for help or the version that was asked for status 0.
@@ -287,6 +329,7 @@ fn task(words: &[String]) -> Option<Task>
         b"cut" => Some(Task::Cut),
         b"explain" => Some(Task::Explain),
         b"draw" => Some(Task::Draw),
+        b"explore" => Some(Task::Explore),
         _ => None,
     }
 }
@@ -337,8 +380,9 @@ fn of_trace(options: &[String]) -> Option<OfTrace>
 /// What the words say for this task.
 ///
 /// None where a number is out of range, or is not written in digits alone.
-fn settings_of(task: Task, words: &[String]) -> Option<Settings>
-    requires { is_named string_bytes words.now task ≡ true }
+fn settings_of(task: Task, wanted: Wanted, words: &[String]) -> Option<Settings>
+    requires task { is_named string_bytes words.now task ≡ true }
+    requires wanted { AreWanted string_bytes (behind words.now) wanted }
     ensures { IfSome result (AreSaid string_bytes words.now) }
 {
     let options = behind(words);
@@ -346,6 +390,7 @@ fn settings_of(task: Task, words: &[String]) -> Option<Settings>
     Some(Settings {
         task,
         procs: PROCS.read(options)? as u8,
+        has_procs: given(b"--procs", options).is_some(),
         machines: MACHINES.read(options)? as u8,
         channels: CHANNELS.read(options)? as u16,
         entries: ENTRIES.read(options)? as u32,
@@ -357,6 +402,8 @@ fn settings_of(task: Task, words: &[String]) -> Option<Settings>
         json: of_trace.json,
         from: of_trace.from,
         to: of_trace.to,
+        states: STATES.read(options)? as u32,
+        wanted,
     })
 }
 
@@ -376,7 +423,12 @@ pub fn settings<'a>(alloc: Global, words: &'a [String]) -> Result<Settings, Ende
         let error = command.error(ErrorKind::InvalidSubcommand, "there is no such command")?;
         return Err(refused(alloc, &error));
     };
-    let Some(settings) = settings_of(task, words) else {
+    // So is this, for names that it takes and `wanted` doesn't know.
+    let Some(wanted) = wanting::wanted(behind(words)) else {
+        let error = command.error(ErrorKind::InvalidValue, "nothing of this name is wanted")?;
+        return Err(refused(alloc, &error));
+    };
+    let Some(settings) = settings_of(task, wanted, words) else {
         let error = command.error(
             ErrorKind::InvalidValue,
             "a number is written in digits alone",

@@ -1,6 +1,6 @@
 //! The command line, the input, and how the program ends. `Pieces` is a reader that is interrupted before each piece.
 use gmp_trace::{Bad, Why};
-use gmp_words::{Ended, Said, Settings, input, settings};
+use gmp_words::{Ended, Said, Settings, Untraced, input, settings};
 use std::alloc::{AllocError, Global};
 use std::io;
 use std::io::{ErrorKind, Read};
@@ -49,6 +49,34 @@ fn options_are_read(rt: HostRuntime) -> Result<(), Fail> {
     Ok(())
 }
 
+#[test]
+fn options_of_explore_are_read(rt: HostRuntime) -> Result<(), Fail> {
+    for (line, want) in [
+        (
+            "gmp explore",
+            (false, 1, 1_000_000, false, (true, false, false)),
+        ),
+        (
+            "gmp explore --procs=32 --states 1 --trace",
+            (true, 32, 1, true, (true, false, false)),
+        ),
+        (
+            "gmp explore --want no-leak,no-fault --states=100000000",
+            (false, 1, 100_000_000, false, (false, true, true)),
+        ),
+        (
+            "gmp explore --procs 1 --want=no-fault,no-deadlock,no-fault",
+            (true, 1, 1_000_000, false, (true, true, false)),
+        ),
+    ] {
+        let s = settings_of(&rt, rt.alloc(), line)?;
+        let wanted = (s.wanted.no_deadlock, s.wanted.no_fault, s.wanted.no_leak);
+        let got = (s.has_procs, s.procs, s.states, s.trace, wanted);
+        assert_eq!(rt; got, want, "{line}");
+    }
+    Ok(())
+}
+
 /// A line is refused with this status, and a text is told.
 fn is_refused(said: &Result<Settings, Ended>, status: u8) -> bool {
     match said {
@@ -90,6 +118,16 @@ fn bad_lines_are_refused(rt: HostRuntime) -> Result<(), Fail> {
         ("gmp run --word 1", 64),
         ("gmp run --acts 1", 64),
         ("gmp run --help", 0),
+        ("gmp explore --states 0", 64),
+        ("gmp explore --states 100000001", 64),
+        ("gmp explore --procs 0", 64),
+        ("gmp explore --want", 64),
+        ("gmp explore --want no-race", 64),
+        ("gmp explore --want no-fault,,no-leak", 64),
+        ("gmp explore --want no-fault --want no-leak", 64),
+        ("gmp explore --machines 1", 64),
+        ("gmp explore extra", 64),
+        ("gmp explore --help", 0),
         ("gmp", 64),
         ("gmp --help", 0),
         ("gmp --version", 0),
@@ -134,6 +172,19 @@ fn texts_are_those_asked_for(rt: HostRuntime) -> Result<(), Fail> {
     tells(&rt, alloc, Ended::bad_limits(), 64, "gmp: bad limits\n")?;
     let no_memory = Ended::out_of_memory();
     tells(&rt, alloc, no_memory, 5, "gmp: out of memory\n")?;
+    for (why, text) in [
+        (
+            Untraced::Crowded(2),
+            "gmp: no trace: too few processors: 2\n",
+        ),
+        (
+            Untraced::TooLong,
+            "gmp: no trace: it would have more than 1000000 entries\n",
+        ),
+        (Untraced::Astray, "gmp: audit: no run follows the choices\n"),
+    ] {
+        tells(&rt, alloc, Ended::no_trace(why), 6, text)?;
+    }
     let usage = String::from_str(alloc, "error: no\n")?;
     tells(&rt, alloc, Ended::usage(usage), 64, "error: no\n")?;
     Ok(())

@@ -18,8 +18,9 @@ overflow_cast-result-5 c = omega (arith, c.in_ok-read-6.ensures.in_range)
 
 pub returns : goal.returns
 returns c = record {
-  task = c.requires;
+  task = c.requires.task;
   procs = search rules;
+  has_procs = search rules;
   machines = search rules;
   channels = search rules;
   entries = search rules;
@@ -31,6 +32,8 @@ returns c = record {
   json = search rules;
   from = search rules;
   to = search rules;
+  states = search rules;
+  wanted = c.requires.wanted;
 }
 
 pub invariant_of-result : goal.invariant_of-result

@@ -1,0 +1,12 @@
+use Rattle.std.proofs.Common.{rules, tests, ◌==◌}
+use Rattle.std.proofs.lemmas.Iterator.Search.{all_from_yields_List}
+use Rattle.std.proofs.lemmas.Iterator.Splits.{YieldsList-from_slice_split}
+use Rattle.gmp_words.specs.Words.{is_name}
+use Rattle.gmp_words.proofs.wanting.are_names.Goals as goal
+
+pub returns : goal.returns
+returns c =
+    all_from_yields_List is_name _ _ _ c.all.ensures.ran
+    (YieldsList-from_slice_split _ (λ b. b == 44) c.args.list.now c.split.ensures.rest c.split.ensures.done c.split.ensures.closure
+    (λ x b q k. search (rules, tests)))
+    (λ x b q k. search (rules, tests))

@@ -1,0 +1,70 @@
+//! The option `--want`: names of what no run of a script is to do, parted by commas.
+
+ghost use Rattle.std.specs.Prelude.{◌≡◌, ◌==◌, string_bytes, IfSome};
+ghost use Rattle.std.specs.List.{list_all, list_any, slice_split};
+ghost use Rattle.std.specs.Str.{bytes_eq};
+ghost use Rattle.gmp_words.specs.Words.{AreWanted, is_name};
+
+use crate::numeric::given;
+use crate::options::Wanted;
+use clap::builder::ValueParser;
+use clap::{Arg, ArgAction};
+use std::alloc::Global;
+
+// What can be wanted. The first is where the option is not given.
+const NO_DEADLOCK: &[u8] = b"no-deadlock";
+
+const NO_FAULT: &[u8] = b"no-fault";
+
+const NO_LEAK: &[u8] = b"no-leak";
+
+/// The same for `clap`.
+const NAMES: &[&str] = &["no-deadlock", "no-fault", "no-leak"];
+
+/// The option as `clap` has it.
+pub fn arg<'a>(alloc: Global) -> Arg<'a> {
+    Arg::new(alloc, "want")
+        .long("want")
+        .action(ArgAction::Set)
+        .value_delimiter(',')
+        .value_parser(ValueParser::Names(NAMES))
+        .help("What no run is to have, parted by commas [default: no-deadlock]")
+}
+
+/// Whether the text is a name of what can be wanted.
+fn is_name(text: &[u8]) -> bool
+    ensures { result ≡ is_name text.now }
+{
+    text == NO_DEADLOCK || text == NO_FAULT || text == NO_LEAK
+}
+
+/// Whether each part of the list is such a name.
+fn are_names(list: &[u8]) -> bool
+    ensures { result ≡ list_all is_name (slice_split (λ b. b == 44) list.now) }
+{
+    list.split(|byte| *byte == b',').all(is_name)
+}
+
+/// Whether the name is a part of the list.
+fn has(list: &[u8], name: &[u8]) -> bool
+    ensures { result ≡ list_any (λ part. bytes_eq part name.now) (slice_split (λ b. b == 44) list.now) }
+{
+    list.split(|byte| *byte == b',').any(|one| one == name)
+}
+
+/// What the words want.
+///
+/// None where something is no name of what can be wanted.
+pub fn wanted(words: &[String]) -> Option<Wanted>
+    ensures { IfSome result (AreWanted string_bytes words.now) }
+{
+    let list = given(b"--want", words).unwrap_or(NO_DEADLOCK);
+    if !are_names(list) {
+        return None;
+    }
+    Some(Wanted {
+        no_deadlock: has(list, NO_DEADLOCK),
+        no_fault: has(list, NO_FAULT),
+        no_leak: has(list, NO_LEAK),
+    })
+}
