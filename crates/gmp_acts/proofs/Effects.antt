@@ -50,6 +50,7 @@ effect_gear limits m call.Take answer old new hand u s (awake, (h, rest, more)) 
 effect_gear limits m (call.Put r) answer old new hand u s (awake, (h, rest, more)) = same_gear m (call.Put r) answer _ _ _ _ more (put_processor hand.to_store hand) refl refl
 effect_gear limits m (call.Claim r) answer old new hand u s (free, holds, (h, rest, more)) = same_gear m (call.Claim r) answer _ _ _ _ more refl refl refl
 effect_gear limits m (call.Go k) answer old new hand u s (g, running, (h, rest, more)) = goes_gear m (call.Go k) answer _ _ hand refl refl more
+effect_gear limits m call.Spawn answer old new hand u s (g, running, (h, rest, more)) = goes_gear m call.Spawn answer _ _ hand refl refl more
 effect_gear limits m call.Yield answer old new hand u s (g, running, (h, rest, more)) = same_gear m call.Yield answer _ _ _ _ more refl refl refl
 effect_gear limits m call.Exit answer old new hand u s (g, running, (h, rest, more)) = same_gear m call.Exit answer _ _ _ _ more refl refl refl
 effect_gear limits m (call.Make capacity) answer old new hand u s (g, running, (h, is, more)) = goes_gear m (call.Make capacity) answer _ _ hand refl refl more

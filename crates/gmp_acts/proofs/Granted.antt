@@ -69,6 +69,7 @@ module _ (procs : ℕ) (fresh : Bool) (turns : ℕ) (hand : PlainHand) (what : O
   call_state place.Unspin c is d few = subst (λ (q : Call). CallState q what (spins_at place.Unspin)) (call_is call.Unspin c is) d
   call_state place.Claim c is d few = elim (claim_calls fresh hand.to_claim c is) [ inl w ↦ subst (λ (q : Call). CallState q what (spins_at place.Claim)) w d | inr w ↦ subst (λ (q : Call). CallState q what (spins_at place.Claim)) w.2 (d, refl) ]
   call_state (place.Do (ask.Go g)) c is d few = subst (λ (q : Call). CallState q what (spins_at (place.Do (ask.Go g)))) (call_is (call.Go g) c is) d
+  call_state (place.Do ask.Spawn) c is d few = subst (λ (q : Call). CallState q what (spins_at (place.Do ask.Spawn))) (call_is call.Spawn c is) d
   call_state (place.Do (ask.Make capacity)) c is d few = subst (λ (q : Call). CallState q what (spins_at (place.Do (ask.Make capacity)))) (call_is (call.Make capacity) c is) d
   call_state (place.Do (ask.Send n v)) c is d few = subst (λ (q : Call). CallState q what (spins_at (place.Do (ask.Send n v)))) (call_is (call.Send n v) c is) d
   call_state (place.Do (ask.Recv n)) c is d few = subst (λ (q : Call). CallState q what (spins_at (place.Do (ask.Recv n)))) (call_is (call.Recv n) c is) d

@@ -34,7 +34,7 @@ use Rattle.gmp_seq.specs.declared.status.Transfer.TheVariants.{Handed, Relayed, 
 use Rattle.gmp_seq.specs.Machines.{Sets}
 use Rattle.gmp_seq.specs.State.{State}
 use Rattle.gmp_seq.specs.Step
-use Rattle.gmp_seq.specs.Table.{Table, IsRunning, IsCalling, status_at, epoch_at, next_of, is_held, is_out, is_parked, is_waiting, set_status, made_ready, made_wait, all_woken, due_answer}
+use Rattle.gmp_seq.specs.Table.{Table, IsRunning, IsCalling, status_at, epoch_at, next_of, is_held, is_out, is_parked, is_startable, is_waiting, set_status, made_ready, made_wait, all_woken, due_answer}
 use Rattle.gmp_seq.specs.Waits.{close_answer}
 use Rattle.gmp_seq.specs.Step.{sender_in, ticket_in, ticket_of}
 use Rattle.gmp_driver.specs.declared.registers.CalledParts.{CalledParts}
@@ -313,19 +313,32 @@ module _ (m : MNo) (old new : Table) (hand : PlainHand) where
   starts_turn h (reply.Fault fault.AlreadyStarted) store (none, is) = stays (ap rows is) (on_same _ hand None store refl)
   starts_turn h _ store k = absurd k
 
-  parked_at : (h : GNo) → option_map is_parked (status_at old h) ≡ Some true → (s : Status) × (status_at old h ≡ Some s) × (is_held s ≡ false) × (is_out s ≡ false)
-  parked_at h e = by_status (status_at old h) refl e where
-    parked_free : (s : Status) → is_parked s ≡ true → (is_held s ≡ false) × (is_out s ≡ false)
-    parked_free (status.Waiting w) k = (refl, refl)
-    parked_free _ k = absurd (false≢true k)
-
-    by_status : (o : Option Status) → status_at old h ≡ o → option_map is_parked o ≡ Some true → (s : Status) × (status_at old h ≡ Some s) × (is_held s ≡ false) × (is_out s ≡ false)
+  -- one whose status passes the test, and so is neither in hand nor out
+  free_at : (test : Status → Bool) → ((s : Status) → test s ≡ true → (is_held s ≡ false) × (is_out s ≡ false)) → (h : GNo) → option_map test (status_at old h) ≡ Some true
+      → (s : Status) × (status_at old h ≡ Some s) × (is_held s ≡ false) × (is_out s ≡ false)
+  free_at test free h e = by_status (status_at old h) refl e where
+    by_status : (o : Option Status) → status_at old h ≡ o → option_map test o ≡ Some true → (s : Status) × (status_at old h ≡ Some s) × (is_held s ≡ false) × (is_out s ≡ false)
     by_status None is k = absurd cc
-    by_status (Some s) is k = let parts = parked_free s (let same : is_parked s ≡ true = cc in same) in (s, is, parts.0, parts.1)
+    by_status (Some s) is k = let parts = free s (let same : test s ≡ true = cc in same) in (s, is, parts.0, parts.1)
+
+  startable_free : (s : Status) → is_startable s ≡ true → (is_held s ≡ false) × (is_out s ≡ false)
+  startable_free status.Dormant k = (refl, refl)
+  startable_free status.Dead k = (refl, refl)
+  startable_free _ k = absurd (false≢true k)
+
+  spawns_turn : (answer : Reply) → hand.to_store ≡ None → Step.Spawns answer old new → Turn m old new hand (left_by answer hand)
+  spawns_turn (reply.Ticket r) store (startable, next, is) =
+      let s = free_at is_startable startable_free r.g startable in readies_turn _ _ r.g s.0 (Some r) s.1 s.2 s.3 (ap Some next) (ap rows is) store
+  spawns_turn (reply.Fault fault.NoSuchBody) store (none, is) = stays (ap rows is) (on_same _ hand None store refl)
+  spawns_turn _ store k = absurd k
+
+  parked_free : (s : Status) → is_parked s ≡ true → (is_held s ≡ false) × (is_out s ≡ false)
+  parked_free (status.Waiting w) k = (refl, refl)
+  parked_free _ k = absurd (false≢true k)
 
   wakes_turn : (h : GNo) (answer : Reply) → hand.to_store ≡ None → Step.Readies h answer old new → Turn m old new hand (left_by answer hand)
   wakes_turn h (reply.Ticket r) store (parked, next, is) =
-      let p = parked_at h parked in readies_turn _ _ h p.0 (Some r) p.1 p.2 p.3 (ap Some next) (ap rows is) store
+      let p = free_at is_parked parked_free h parked in readies_turn _ _ h p.0 (Some r) p.1 p.2 p.3 (ap Some next) (ap rows is) store
   wakes_turn h (reply.Fault fault.NoSuchBody) store (none, is) = stays (ap rows is) (on_same _ hand None store refl)
   wakes_turn h (reply.Fault fault.NotParked) store (none, is) = stays (ap rows is) (on_same _ hand None store refl)
   wakes_turn h _ store k = absurd k
@@ -457,6 +470,7 @@ effect_turn limits m call.Take answer old new hand u runs calls (awake, (h, rest
 effect_turn limits m (call.Put r) answer old new hand u runs calls (awake, (h, rest, more)) = puts_turn m _ _ hand r answer u h
 effect_turn limits m (call.Claim r) answer old new hand u runs calls (free, holds, (h, rest, more)) = claims_turn m _ _ hand r answer u.0 u.1 h
 effect_turn limits m (call.Go k) answer old new hand u runs calls (g, running, (h, rest, more)) = starts_turn m _ _ hand k answer u.2 h
+effect_turn limits m call.Spawn answer old new hand u runs calls (g, running, (h, rest, more)) = spawns_turn m _ _ hand answer u.2 h
 effect_turn limits m call.Yield answer old new hand u runs calls (g, running, (h, rest, more)) = yields_turn m _ _ hand g answer running h
 effect_turn limits m call.Exit answer old new hand u runs calls (g, running, (h, rest, more)) = exits_turn m _ _ hand g answer running h
 effect_turn limits m (call.Make capacity) answer old new hand u runs calls (g, running, h) = makes_turn m old new hand u.2 limits capacity answer h

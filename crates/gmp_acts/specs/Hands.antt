@@ -95,7 +95,7 @@ hand_after t call.Poke answer hand = hand
 hand_after t call.Bare answer hand = hand
 hand_after t call.Park answer hand = hand
 hand_after t (call.Tick moment) answer hand = hand
--- go, make, send, recv, close, len, cap, select, sleep, gopark, ready
+-- go, spawn, make, send, recv, close, len, cap, procs, select, sleep, gopark, ready
 hand_after t asked answer hand = left_by answer hand
 
 -- what it holds once its make wanted memory: its goroutine is to be told so

@@ -27,7 +27,7 @@ use Rattle.gmp_seq.specs.declared.status.Transfer.TheVariants.{Handed, Relayed}
 use Rattle.gmp_seq.specs.Machines.{Machines, Holds, IsIdle}
 use Rattle.gmp_seq.specs.State.{State, SameTable, SameMachines}
 use Rattle.gmp_seq.specs.Step.{Effect, Communicates, Deals, Selects, Closes, Parks}
-use Rattle.gmp_seq.specs.Table.{Table, IsHeld, IsRunning, due_answer, is_held, is_parked, made_wait, status_at, woken_with}
+use Rattle.gmp_seq.specs.Table.{Table, IsHeld, IsRunning, due_answer, is_held, is_parked, is_startable, made_wait, status_at, woken_with}
 use Rattle.gmp_seq.specs.Waits.{close_answer}
 use Rattle.gmp_seq.proofs.OneEach.{row_at}
 use Rattle.gmp_seq.proofs.Waiting.{first_waits}
@@ -137,6 +137,12 @@ due_free now (status.Running m) h = absurd (false≢true h)
 due_free now (status.Calling m) h = absurd (false≢true h)
 due_free now _ h = refl
 
+startable_status : (o : Option Status) → option_map is_startable o ≡ Some true → (s : Status) × (o ≡ Some s) × (is_held s ≡ false)
+startable_status (Some status.Dormant) e = (status.Dormant, refl, refl)
+startable_status (Some status.Dead) e = (status.Dead, refl, refl)
+startable_status None e = absurd cc
+startable_status (Some s) e = absurd cc
+
 parked_status : (o : Option Status) → option_map is_parked o ≡ Some true → (s : Status) × (o ≡ Some s) × (is_held s ≡ false)
 parked_status None e = absurd cc
 parked_status (Some (status.Running m)) e = absurd cc
@@ -214,6 +220,11 @@ moves limits m (call.Go k) (reply.Ticket r) old new (g, runs, ((dormant, ticket,
 moves limits m (call.Go k) (reply.Fault fault.NoSuchBody) old new (g, runs, ((none, is), rest, machines)) = still old new is machines
 moves limits m (call.Go k) (reply.Fault fault.AlreadyStarted) old new (g, runs, ((started, is), rest, machines)) = still old new is machines
 moves limits m (call.Go k) _ old new (g, runs, (h, rest, machines)) = absurd h
+moves limits m call.Spawn (reply.Ticket r) old new (g, runs, ((startable, ticket, is), rest, machines)) =
+    let was = startable_status (status_at old.table r.g) startable in
+    (turns old.table new.table r.g _ _ was.1 was.2 (rows new.table _ is), same_idles old.machines new.machines machines)
+moves limits m call.Spawn (reply.Fault fault.NoSuchBody) old new (g, runs, ((none, is), rest, machines)) = still old new is machines
+moves limits m call.Spawn _ old new (g, runs, (h, rest, machines)) = absurd h
 moves limits m call.Yield (reply.Shelved r) old new (g, runs, ((ticket, is), rest, machines)) =
     ((refl, refl, g, inl runs, one_in old.table new.table g _ (rows new.table _ is)), same_idles old.machines new.machines machines)
 moves limits m call.Yield _ old new (g, runs, (h, rest, machines)) = absurd h

@@ -49,6 +49,6 @@ pub opening_is_book : {T Q : Type 0} (run : ℕ) (limits : Limits) (capacities :
 opening_is_book run limits capacities bodies owners may = record {
   bodies_count = length-Some bodies;
   owners_count = length-Some owners ∙ may.1;
-  bodies = λ none. bodies_in bodies may.0.stock.0;
-  owners = λ none. all_in is_none owners None limits.procs (sym may.1) refl;
+  bodies = λ none on. bodies_in bodies may.0.stock.0;
+  owners = λ none on. all_in is_none owners None limits.procs (sym may.1) refl;
 }

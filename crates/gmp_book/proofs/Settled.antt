@@ -156,8 +156,8 @@ module _ {T Q : Type 0} (old now : Log) (bodies : List (Option T)) (owners : Lis
   placed bodies' owners' opened bodies_are owners_are = record {
     bodies_count = bodies_are.1 ∙ (kept.bodies_count ∙ ap (λ (l : Log). l.bodies) (sym opened));
     owners_count = owners_are.1 ∙ (kept.owners_count ∙ ap (λ (l : Log). l.limits.procs) (sym opened));
-    bodies = λ none. bodies_are.0;
-    owners = λ none. owners_are.0;
+    bodies = λ none on. bodies_are.0;
+    owners = λ none on. owners_are.0;
   }
 
   module _ (order : IsInOrder old.limits old.state) (before after : Pass) (v : Values T Q) (asked : Call) (answer : Reply) (suits : Suits asked (handed_of v))
@@ -170,15 +170,15 @@ module _ {T Q : Type 0} (old now : Log) (bodies : List (Option T)) (owners : Lis
 
     pub body_fits : FitsBody (way_of answer) (claimed asked) v.held v.called bodies
     body_fits =
-        fits_body old.limits old.state before.m order bodies (kept.bodies records.step.0) asked now.state.table (hands_proc asked) v by (way_of answer) moved.0
+        fits_body old.limits old.state before.m order bodies (kept.bodies records.step.0 records.lasts) asked now.state.table (hands_proc asked) v by (way_of answer) moved.0
 
     pub owner_fits : FitsOwner answer v.proc owners
     owner_fits =
-        fits_owner old.limits old.state before.m order owners (kept.owners records.step.0) asked now.state.machines (hands_held asked) (hands_called asked) v by answer moved.1
+        fits_owner old.limits old.state before.m order owners (kept.owners records.step.0 records.lasts) asked now.state.machines (hands_held asked) (hands_called asked) v by answer moved.1
 
     pub settled : (run : ℕ) (told : Woke) (held' : Option (Held T)) (called' : Option (Called T)) (proc' : Option (Proc Q)) (bodies' : List (Option T)) (owners' : List (Option Q))
         → HandsBody (way_of answer) run (claimed asked) told v.held v.called held' called' bodies bodies' → HandsOwner answer run v.proc proc' owners owners' → Placed now bodies' owners'
     settled run told held' called' proc' bodies' owners' body owner =
         placed bodies' owners' records.opened
-        (bodies_in old.limits old.state before.m order bodies (kept.bodies records.step.0) asked now.state.table (hands_proc asked) v by (way_of answer) run told held' called' bodies' moved.0 body)
-        (owners_in old.limits old.state before.m order owners (kept.owners records.step.0) asked now.state.machines (hands_held asked) (hands_called asked) v by answer run proc' owners' moved.1 owner)
+        (bodies_in old.limits old.state before.m order bodies (kept.bodies records.step.0 records.lasts) asked now.state.table (hands_proc asked) v by (way_of answer) run told held' called' bodies' moved.0 body)
+        (owners_in old.limits old.state before.m order owners (kept.owners records.step.0 records.lasts) asked now.state.machines (hands_held asked) (hands_called asked) v by answer run proc' owners' moved.1 owner)

@@ -1,6 +1,7 @@
 -- What a contract sees of a book, and what its calls do to it.
-use Rattle.std.specs.Prelude.{◌≡◌, ℕ, ◌==◌, All, Bool, not, ◌&&◌, List, [], ◌∷◌, length, map, Option, Some, None, is_some, is_none, slice_get, slice_set}
+use Rattle.std.specs.Prelude.{◌≡◌, ℕ, ◌==◌, All, Bool, false, true, not, ◌&&◌, List, [], ◌∷◌, ◌++◌, length, map, Option, Some, None, is_some, is_none, slice_get, slice_set}
 use Rattle.std.specs.List.{range_with_len}
+use Rattle.gmp_base.specs.declared.number.CNo.{CNo}
 use Rattle.gmp_base.specs.declared.pass.Pass.{Pass}
 use Rattle.gmp_base.specs.declared.refusal.Refusal.{Refusal}
 use Rattle.gmp_base.specs.declared.refusal.Refusal.TheVariants.{WrongRun, NotOver, Busy, BadLimits, OutOfMemory}
@@ -10,14 +11,14 @@ use Rattle.gmp_seq.specs.declared.call.Limits.{Limits}
 use Rattle.gmp_seq.specs.declared.status.Goroutine.{Goroutine}
 use Rattle.gmp_seq.specs.Fits.{AreLimits, Fits}
 use Rattle.gmp_seq.specs.Machines.{Machines}
-use Rattle.gmp_seq.specs.declared.call.Entry.{Entry}
-use Rattle.gmp_seq.specs.Run.{IsLegal, Run}
-use Rattle.gmp_seq.specs.State.{opening}
+use Rattle.gmp_seq.specs.Channels.{items_at}
+use Rattle.gmp_seq.specs.Run.{received, sent}
 use Rattle.gmp_seq.specs.Table.{Table, is_held}
 use Rattle.gmp_book.specs.Slots.{all_filled}
 use Rattle.gmp_book.specs.declared.report.Report.{Report}
-use Rattle.gmp_journal.specs.Log.{Log, opening_log}
+use Rattle.gmp_journal.specs.Log.{Log, is_over, opening_log}
 use Rattle.gmp_journal.specs.Refusals.{Line, refusal_line}
+use Rattle.gmp_journal.specs.Segments.{IsPart}
 
 -- the run, and the bodies and owners that are in the book
 pub record BookContents (T Q : Type 0) : Type 0 where
@@ -39,8 +40,8 @@ OwnersIn w owners = map is_some owners ≡ map is_none w.holders
 pub record IsBook {T Q : Type 0} (book : BookContents T Q) : Type 0 where
   pub bodies_count : length book.bodies ≡ book.log.bodies
   pub owners_count : length book.owners ≡ book.log.limits.procs
-  pub bodies : book.log.state.outcome ≡ None → BodiesIn book.log.state.table book.bodies
-  pub owners : book.log.state.outcome ≡ None → OwnersIn book.log.state.machines book.owners
+  pub bodies : book.log.state.outcome ≡ None → book.log.stopped ≡ false → BodiesIn book.log.state.table book.bodies
+  pub owners : book.log.state.outcome ≡ None → book.log.stopped ≡ false → OwnersIn book.log.state.machines book.owners
 
 -- What a call does with bodies and owners
 
@@ -93,9 +94,13 @@ opening_book run limits capacities bodies owners = record {
   owners = map Some owners;
 }
 
--- no segment was taken: the history begins at the opening
-abbrev pub BeginsAtOpening : Log → Type 0
-BeginsAtOpening log = log.start ≡ opening log.limits log.bodies log.capacities
+-- The history
+
+-- It is a part of a legal run. What was on a channel's list at its start and what was sent since is what was received since, and then what is on
+-- its list.
+pub record IsBookPart (log : Log) : Type 0 where
+  pub part : IsPart log
+  pub fifo : (c : CNo) → items_at part.start.channels c ++ sent c log.history ≡ received c log.history ++ items_at log.state.channels c
 
 -- each machine's pass before its first call
 abbrev pub opening_passes : ℕ → ℕ → List Pass
@@ -107,27 +112,27 @@ opening_passes run machines = map (λ (m : ℕ). record { run = run; m = record 
 abbrev pub surrender_lines : Log → ℕ → Bool → Refusal → List Line
 surrender_lines log run astray why =
     refusal_line (not (run == log.run)) WrongRun
-    ∷ refusal_line (is_none log.state.outcome) NotOver
+    ∷ refusal_line (not (is_over log)) NotOver
     ∷ refusal_line astray why
     ∷ []
 
 -- when a report is refused: the run lasts, or a body or an owner is out
 abbrev pub report_lines : {T Q : Type 0} → BookContents T Q → List Line
 report_lines book =
-    refusal_line (is_none book.log.state.outcome) NotOver
+    refusal_line (not (is_over book.log)) NotOver
     ∷ refusal_line (not (all_filled book.bodies && all_filled book.owners)) Busy
     ∷ []
 
--- the report tells the run, whose history is a run from its start, to which a legal run leads, and has all bodies and owners in order
+-- the report tells the run, whose history is a part of a legal run, and has all bodies and owners in order
 pub record IsReport {T Q : Type 0} (book : BookContents T Q) (report : Report T Q) : Type 0 where
   pub limits : report.limits ≡ book.log.limits
   pub capacities : report.capacities.items ≡ book.log.capacities
   pub history : report.history.list ≡ book.log.history
-  pub outcome : Some report.outcome ≡ book.log.state.outcome
+  pub outcome : report.outcome ≡ book.log.state.outcome
+  pub over : is_over book.log ≡ true
   pub bodies : map Some report.bodies.items ≡ book.bodies
   pub owners : map Some report.owners.items ≡ book.owners
   pub stock : length report.bodies.items ≡ book.log.bodies
-  pub legal : Run book.log.limits book.log.start book.log.history book.log.state
-  pub before : (h : List Entry) × IsLegal book.log.limits book.log.bodies book.log.capacities h book.log.start
+  pub part : IsPart book.log
   pub fits : All Fits book.log.history
   pub within : AreLimits book.log.limits book.log.bodies book.log.capacities

@@ -54,6 +54,7 @@ moves_nothing c = not (hands_held c || hands_called c || hands_proc c || gives_p
 -- its goroutine goes on
 abbrev pub goes_on : Call → Bool
 goes_on (call.Go body) = true
+goes_on call.Spawn = true
 goes_on (call.Make capacity) = true
 goes_on (call.Close c) = true
 goes_on (call.Len c) = true

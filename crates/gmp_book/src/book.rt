@@ -1,22 +1,18 @@
 //! The book.
-ghost use Rattle.std.specs.Prelude.{◌≡◌, ◌≤◌, ◌<◌, ◌++◌, All, List, false, length, slice_get, sum, OnOk, OnErr, IfOk, IfErr, IfNone};
-ghost use Rattle.gmp_base.specs.declared.number.CNo.{CNo};
-ghost use Rattle.gmp_seq.specs.Channels.{items_at};
-ghost use Rattle.gmp_seq.specs.Fits.{AreLimits, Fits};
+ghost use Rattle.std.specs.Prelude.{◌≡◌, ◌↔◌, ◌≤◌, ◌<◌, [], None, false, true, length, slice_get, IsTrue, OnOk, OnErr, IfOk, IfErr, IfNone};
 ghost use Rattle.gmp_seq.specs.Machines.{is_parked_mode};
 ghost use Rattle.gmp_seq.specs.Laws.{IsInOrder, NobodyCouldProceed};
-ghost use Rattle.gmp_seq.specs.Run.{IsLegal, Run, sent, received};
-ghost use Rattle.gmp_seq.specs.declared.call.Entry.{Entry};
 ghost use Rattle.gmp_seq.specs.Table.{is_shelved};
+ghost use Rattle.gmp_start.specs.Start.{state_of};
 ghost use Rattle.gmp_table.specs.Kept.{IsListing};
 ghost use Rattle.std.specs.Option.{option_map_or};
 ghost use Rattle.gmp_seq.specs.Needs.{WantsMemory};
 ghost use Rattle.gmp_journal.specs.Grants.{Chooses, Grants, NeedsMemory, Suits};
 ghost use Rattle.gmp_journal.specs.Done.{IsDoneTo};
 ghost use Rattle.gmp_journal.specs.Handed.{goroutine_in, names_other, processor_in};
-ghost use Rattle.gmp_journal.specs.Log.{Records, entries_made};
+ghost use Rattle.gmp_journal.specs.Log.{Records, entries_made, is_over};
 ghost use Rattle.gmp_journal.specs.Refusals.{Says, refusal_in, refusal_of};
-ghost use Rattle.gmp_journal.specs.Segments.{IsSegment, WhyNoSegment};
+ghost use Rattle.gmp_journal.specs.Segments.{MayGoOn};
 ghost use Rattle.gmp_book.specs.Hands.{handed_of};
 
 mod asking;
@@ -32,9 +28,10 @@ use crate::slots::Slots;
 use crate::values::{Values, claimed, handed, ticket_out, told_by, way_of};
 use gmp_base::{MNo, Pass, Refusal};
 use gmp_history::History;
-use gmp_journal::{Journal, Segment};
+use gmp_journal::Journal;
 use gmp_seq::{Call, Limits, Outcome, Reply};
-use std::alloc::Global;
+use gmp_start::Start;
+use std::alloc::{AllocError, Global};
 use std::marker::Model;
 
 /// A run of the scheduler, with the bodies `T` of its goroutines and the owners `Q` of its processors.
@@ -43,7 +40,7 @@ use std::marker::Model;
 /// by a pass. It adds one entry, or it is refused: then nothing has changed, and what it was handed comes back.
 ///
 /// Where several refusals hold, a call answers the first of `WrongRun`, `OutOfTurn`, `Behind`, `Over`, `Busy`, `NoProcessor`,
-/// `NotOutstanding`, `NotHeld`; a surrender of `WrongRun`, `NotOver`, and then `NotOutstanding` or `NotHeld`; the report of `NotOver`,
+/// `NotOutstanding`, `NotHeld`, `Full`; a surrender of `WrongRun`, `NotOver`, and then `NotOutstanding` or `NotHeld`; the report of `NotOver`,
 /// `Busy`.
 // Bodies and owners lie beside the journal and not in it: what a step does is proved once, of plain data.
 #[derive(Drop)]
@@ -64,13 +61,13 @@ impl<T, Q> Model for Book<T, Q> {
 }
 
 impl<T, Q> Book<T, Q> {
-    ghost use Rattle.gmp_book.specs.Book.{IsBook, MayOpen, SameValues, WhyUnopened, opening_book, opening_passes};
+    ghost use Rattle.gmp_book.specs.Book.{IsBook, IsBookPart, MayOpen, SameValues, WhyUnopened, opening_book, opening_passes};
     ghost use Rattle.gmp_book.specs.Hands.{Hands, values_back};
 
     /// A book of a run that has made no call, and one pass for each machine, in order.
     ///
-    /// It takes memory for the whole history, the shelf, the channels, all who may wait, and all that is counted; but for it only `make`
-    /// and `segment` take any. `capacities` are those of the channels that the run begins with. There is a body for each goroutine, and an
+    /// It takes memory for a history's entries, the shelf, the channels, all who may wait, and all that is counted; but for it only `make`
+    /// and `start` take any. `capacities` are those of the channels that the run begins with. There is a body for each goroutine, and an
     /// owner for each processor. Refused, by `BadLimits` or `OutOfMemory`, it hands both back.
     pub fn open(
         alloc: Global,
@@ -124,17 +121,11 @@ impl<T, Q> Book<T, Q> {
         Ok((book, passes))
     }
 
-    /// Every accepted call since the last segment, with its reply, in order: a run from the start to the present state.
+    /// Every accepted call that was not handed out, with its reply, in order.
     pub fn history(&self) -> &History
         ensures entries { result.now.list ≡ self.now.log.history }
-        ensures legal { Run self.now.log.limits self.now.log.start self.now.log.history self.now.log.state }
-        // A legal run leads to the start.
-        ensures before { (h : List Entry) × IsLegal self.now.log.limits self.now.log.bodies self.now.log.capacities h self.now.log.start }
-        ensures fits { All Fits self.now.log.history }
-        ensures within { AreLimits self.now.log.limits self.now.log.bodies self.now.log.capacities }
+        ensures part { IsBookPart self.now.log }
         ensures values { IsBook self.now }
-        // What was on a channel's list at the start and what was sent since is what was received since, and then what is on its list.
-        ensures fifo { (c : CNo) → items_at self.now.log.start.channels c ++ sent c self.now.log.history ≡ received c self.now.log.history ++ items_at self.now.log.state.channels c }
         ensures waiting { NobodyCouldProceed self.now.log.state }
         // The shelf has each goroutine on it once, and no other.
         ensures listing { IsListing is_shelved self.now.log.state.table.goroutines self.now.log.shelf }
@@ -142,20 +133,35 @@ impl<T, Q> Book<T, Q> {
         self.journal.history()
     }
 
-    /// Hands out the entries since the last segment, with the state before the first of them, and how the run ended, if it did. The start
-    /// is the present state from then on.
-    ///
-    /// It takes no pass and makes no entry. Refused, nothing has changed: `Over` where a segment was taken since the outcome, else
-    /// `OutOfMemory`. It leaves room for each entry that may still be made.
-    pub fn segment(&mut self, alloc: Global) -> Result<Segment, Refusal>
-        ensures taken { IfOk result (λ x. IsSegment self.old.log x self.new.log) }
-        // So many entries at most were made before.
-        ensures few { IfOk result (λ x. sum x.start.counts.items ≤ 1000000) }
-        ensures why { IfErr result (WhyNoSegment self.old.log) }
-        ensures values { SameValues self.old self.new }
-        ensures err { OnErr result (self.new ≡ self.old) }
+    /// Whether as many entries as the history holds at a time wait to be handed out: then no call is accepted.
+    #[inline(always)]
+    pub fn is_full(&self) -> bool
+        ensures { IsTrue result ↔ (length self.now.log.history ≡ self.now.log.limits.room) }
     {
-        self.journal.segment(alloc)
+        self.journal.is_full()
+    }
+
+    /// Hands out the entries since the last time, and takes the spare in their place. It takes no pass, makes no entry and takes no memory,
+    /// and may be called whenever one likes, after the outcome too. Emptied, what was handed out is a spare again.
+    pub fn hand_out(&mut self, spare: &mut History)
+        requires empty { spare.old.list ≡ [] }
+        requires room { self.old.log.limits.room ≤ spare.old.room }
+        requires lasting { self.old.log.limits.room ≤ spare.old.lasting }
+        ensures out { spare.new.list ≡ self.old.log.history }
+        ensures lasting { self.old.log.limits.room ≤ spare.new.lasting }
+        ensures rest { self.new.log ≡ record self.old.log { history = [] } }
+        ensures values { SameValues self.old self.new }
+    {
+        self.journal.hand_out(spare);
+    }
+
+    /// The present state, copied but for its outcome. A start takes memory for each of its lists.
+    pub fn start(&self, alloc: Global) -> Result<Start, AllocError>
+        ensures state { IfOk result (λ s. state_of s ≡ record self.now.log.state { outcome = None }) }
+        // While the run lasts one may go on from it.
+        ensures together { IfOk result (λ s. self.now.log.state.outcome ≡ None → MayGoOn self.now.log (state_of s)) }
+    {
+        self.journal.start(alloc)
     }
 
     /// How the run ended, if it did.
@@ -165,6 +171,22 @@ impl<T, Q> Book<T, Q> {
         ensures ongoing { IfNone result (entries_made self.now.log < self.now.log.limits.entries) }
     {
         self.journal.outcome()
+    }
+
+    /// Whether no call is accepted any more: the run has come to its outcome, or was stopped.
+    #[inline(always)]
+    pub fn is_over(&self) -> bool
+        ensures { result ≡ is_over self.now.log }
+    {
+        self.journal.is_over()
+    }
+
+    /// Stops the run where it stands: no call is accepted any more, and what is out may be surrendered, as after an outcome.
+    pub fn stop(&mut self)
+        ensures log { self.new.log ≡ record self.old.log { stopped = true } }
+        ensures values { SameValues self.old self.new }
+    {
+        self.journal.stop();
     }
 
     /// Whether the machine is parked.

@@ -1,9 +1,8 @@
 -- Traces that are right, and those that are not.
-use Rattle.std.proofs.Common.{◌≡◌, ◌≢◌, ℕ, zero, suc, ◌<◌, ◌≤◌, Option, Some, List, [], ◌∷◌, length, take, refl, sym, ap, subst, ◌∙◌, arith}
-use Rattle.std.proofs.lemmas.List.{length-take-le, take-take}
+use Rattle.std.proofs.Common.{◌≡◌, ◌≢◌, ℕ, zero, suc, ◌<◌, Option, Some, List, [], ◌∷◌, length, take, refl, sym, ap, subst, ◌∙◌, arith}
+use Rattle.std.proofs.lemmas.List.{take-take}
 use Rattle.std.proofs.lemmas.Option.{slice_get_within}
 use Rattle.std.specs.List.{slice_get}
-use Rattle.gmp_seq.proofs.Counts.{run_total}
 use Rattle.gmp_seq.specs.declared.call.Entry.{Entry}
 use Rattle.gmp_seq.specs.declared.call.Limits.{Limits}
 use Rattle.gmp_seq.specs.declared.call.Outcome.{Outcome}
@@ -16,26 +15,14 @@ use Rattle.gmp_trace.specs.declared.bad.Why.TheVariants as why
 use Rattle.gmp_trace.specs.HasText.{lines_before}
 use Rattle.gmp_trace.specs.Text.{Begins, Content, end_of}
 use Rattle.gmp_trace.specs.Text.Begins.{AtOpening, AtState}
-use Rattle.gmp_check.proofs.Keeping.{opening_consistent, run_fixed, run_keeps}
+use Rattle.gmp_check.proofs.Keeping.{opening_consistent, run_fixed}
 use Rattle.gmp_check.specs.Checked.{AreBadCapacities, IsBadAt, IsBadBeginning, IsBadPartAt, IsBadStart, IsFirstBad, IsNoStepAt, IsOtherEndAt, IsRight, IsRightPart, MayStart, Part, line_of, part_of, start_at}
 use Rattle.gmp_check.specs.Consistent.{IsConsistentUnder}
 use Rattle.gmp_check.specs.Replayed.{EndsWith, IsNoStep}
 
--- How many entries there are
-
-run_few : (limits : Limits) (start s : State) (h : List Entry) → IsConsistentUnder limits start → Run limits start h s → length h ≤ 1000000
-run_few limits start s h is run =
-    let there = run_keeps limits start s h is run in
-    omega (arith, run_total limits start s h run, there.together.entries, there.limit)
-
-pub few_entries : (limits : Limits) (start : State) (h : List Entry) (outcome : Option Outcome) → IsConsistentUnder limits start → EndsWith limits start h outcome → length h ≤ 1000000
-few_entries limits start h outcome is (s, run, told) = run_few limits start s h is run
-
-pub few_before : (limits : Limits) (start : State) (h : List Entry) (n : ℕ) → IsConsistentUnder limits start → IsNoStep limits start h n → n ≤ 1000000
-few_before limits start h n is (s, run, e, at, none) =
-    let within : n < length h = slice_get_within h n e at in
-    let few : length (take n h) ≤ 1000000 = run_few limits start s (take n h) is run in
-    omega (arith, length-take-le n h (omega (arith, within)), few)
+-- an entry that is no step is one of the entries
+pub stops_within : (limits : Limits) (start : State) (h : List Entry) (n : ℕ) → IsNoStep limits start h n → n < length h
+stops_within limits start h n (s, run, e, at, none) = slice_get_within h n e at
 
 -- Entries from any state on
 
@@ -118,8 +105,9 @@ no_capacities limits bodies capacities range =
       machines = range.machines;
       stock = range.stock;
       channels = (omega arith, range.channels.1);
-      room = λ k d small. absurd (omega arith);
+      buffers = λ k d small. absurd (omega arith);
       entries = range.entries;
+      room = range.room;
     }
 
 -- the limits are in range

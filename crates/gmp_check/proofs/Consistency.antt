@@ -1,5 +1,5 @@
 -- What follows for a consistent state.
-use Rattle.std.proofs.Common.{◌≡◌, ℕ, ◌<◌, ◌^◌, inl, inr, Bool, true, false, Option, None, Some, List, [], ◌∷◌, cond, sum, refl, sym, ap, subst, ◌∙◌, arith}
+use Rattle.std.proofs.Common.{◌≡◌, ℕ, ◌<◌, ◌≤◌, ◌^◌, inl, inr, Bool, true, false, Option, None, Some, List, [], ◌∷◌, cond, sum, refl, sym, ap, subst, ◌∙◌, arith}
 use Rattle.std.specs.List.{slice_get, filter}
 use Rattle.gmp_base.specs.declared.number.CNo.{CNo}
 use Rattle.gmp_base.specs.declared.number.GNo.{GNo}
@@ -22,10 +22,10 @@ use Rattle.gmp_check.specs.First.{IsFirstOf, IsOfferOn}
 -- Here t is the state as the code has it, and s as contracts do
 
 -- epochs, arrivals and counts can rise
-pub consistent_young : (s t : State) → t ≡ s → IsConsistent s → (g : GNo) → epoch_at t.table g < 2 ^ 63
+pub consistent_young : (s t : State) → t ≡ s → IsConsistent s → (g : GNo) → epoch_at t.table g ≤ 2 ^ 63
 consistent_young s t same (limits, is) g =
-    let young : epoch_at s.table g < 2 ^ 63 = omega (arith, is.together.epochs g, is.together.entries, is.limit) in
-    subst (λ (x : State). epoch_at x.table g < 2 ^ 63) (sym same) young
+    let young : epoch_at s.table g ≤ 2 ^ 63 = omega (arith, is.together.epochs g, is.together.entries, is.limit) in
+    subst (λ (x : State). epoch_at x.table g ≤ 2 ^ 63) (sym same) young
 
 pub consistent_arrivals : (s t : State) → t ≡ s → IsConsistent s → t.table.arrivals < 2 ^ 63
 consistent_arrivals s t same (limits, is) =

@@ -105,12 +105,12 @@ joined_right x y z o may right joined =
 -- a run that begins so leads to a start while it lasts
 leads_to_start : (limits : Limits) (bodies : ℕ) (b : Begins) (h : List Entry) (s : State) → IsBeginning limits bodies b → All (λ (e : Entry). FitsCall e.call) h
     → Run limits (start_at limits bodies b) h s → s.outcome ≡ None → IsStart limits bodies s
-leads_to_start limits bodies (AtOpening capacities) h s is fit run none = legal_start limits bodies capacities h s is fit run none
+leads_to_start limits bodies (AtOpening capacities) h s is fit run none = legal_start limits bodies capacities h s is.0 fit run none
 leads_to_start limits bodies (AtState a) h s is fit run none = run_start limits bodies a s h is.0.entries.1 is.1 fit run none
 
 -- a run that begins so has a text
 has_text : (x : Content) (b : Begins) (s : State) → x.begins ≡ b → IsBeginning x.limits x.bodies b → Run x.limits (start_at x.limits x.bodies b) x.entries s → All Fits x.entries → HasText x
-has_text x (AtOpening capacities) s begun is run fits = legal_text x capacities s begun is run fits
+has_text x (AtOpening capacities) s begun is run fits = legal_text x capacities s begun is.0 is.1 run fits
 has_text x (AtState a) s begun is run fits = run_text x a s begun is.0 is.1 run fits
 
 calls_fit : (h : List Entry) → All Fits h → All (λ (e : Entry). FitsCall e.call) h
@@ -152,4 +152,4 @@ module _ (x : Content) (capacities : List ℕ) (h : List Entry) (start s : State
   pub segment_has_text : All Fits x.entries → HasText x
   segment_has_text fits =
       has_text x (AtState start) s begun
-      (in_range x.limits x.bodies (AtOpening capacities) range, leads_to_start x.limits x.bodies (AtOpening capacities) h start range (calls_fit h fit) legal none) run fits
+      (in_range x.limits x.bodies (AtOpening capacities) range, legal_start x.limits x.bodies capacities h start range (calls_fit h fit) legal none) run fits

@@ -10,6 +10,7 @@ IsMake c = (capacity : ℕ) × (c ≡ call.Make capacity)
 -- it is of the goroutine that the machine runs
 abbrev pub is_ask : Call → Bool
 is_ask (call.Go h) = true
+is_ask call.Spawn = true
 is_ask call.Yield = true
 is_ask call.Exit = true
 is_ask (call.Make capacity) = true

@@ -6,7 +6,7 @@ use Rattle.gmp_seq.specs.State.{State}
 
 -- What the plain scheduler keeps of its state. Each step keeps it, wherever the run began.
 pub record IsConsistentUnder (limits : Limits) (s : State) : Type 0 where
-  pub limit : limits.entries ≤ 1000000
+  pub limit : limits.entries < 2 ^ 63
   pub together : FitsTogether limits s
 
 -- the same under some limits

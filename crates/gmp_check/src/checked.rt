@@ -26,7 +26,7 @@ const NO_MEMORY: Bad = Bad {
 /// Behind so many lines, the line of an entry, or of the end, behind so many entries.
 fn line_of(before: u64, entries: usize) -> u64
     requires lines { before < 2 ^ 63 }
-    requires few { entries ≤ 1000000 }
+    requires few { entries < 2 ^ 32 }
     ensures { result ≡ line_of before entries }
 {
     before + entries as u64 + 1
@@ -48,10 +48,11 @@ fn check_from<W: Watch>(
     ensures exact { (outcome : Option Outcome) → IsRightPart (part replay.limits replay.state entries.now.list end) outcome
         → IfErr result (λ bad. bad.why ≡ why.OutOfMemory) }
 {
+    let all = entries.len();
     match replay.run(entries, watch) {
         Ok(outcome) if end == End::of(outcome) => Ok(outcome),
         Ok(_) => Err(Bad {
-            line: line_of(before, entries.len()),
+            line: line_of(before, all),
             why: Why::Outcome,
         }),
         Err(Stop::NoStep(i)) => Err(Bad {

@@ -52,7 +52,7 @@ fn outcome_after(limits: Limits, reply: Reply, counts: &[u64]) -> Option<Outcome
     match reply {
         Reply::MainEnded => Some(Outcome::MainEnded),
         Reply::AllAsleep => Some(Outcome::AllAsleep),
-        _ if made >= u64::from(limits.entries) => Some(Outcome::BookFull),
+        _ if made >= limits.entries => Some(Outcome::BookFull),
         _ => None,
     }
 }

@@ -2,7 +2,7 @@
 //! `waking` changes of many, `waiting` who waits on a channel.
 //! Who was last at each machine is noted beside the rows: with a look through all of them for whom a machine has, a check of 4,096
 //! goroutines took seven times as long.
-ghost use Rattle.std.specs.Prelude.{◌≡◌, ◌↔◌, ◌<◌, ◌^◌, ◌∷◌, ◌-◌, Some, None, Option, option_copied, replicate, length, slice_get, slice_set, IfOk, IfSome, IfNone, IsTrue};
+ghost use Rattle.std.specs.Prelude.{◌≡◌, ◌↔◌, ◌<◌, ◌≤◌, ◌^◌, ◌∷◌, ◌-◌, Some, None, Option, option_copied, replicate, length, slice_get, slice_set, IfOk, IfSome, IfNone, IsTrue};
 ghost use Rattle.gmp_base.specs.declared.ask.Woke.{Woke};
 ghost use Rattle.gmp_base.specs.declared.number.GNo.{GNo};
 ghost use Rattle.gmp_base.specs.declared.number.MNo.{MNo};
@@ -12,7 +12,7 @@ ghost use Rattle.gmp_check.specs.Last.{AreLast, IsAlone, IsAt};
 ghost use Rattle.gmp_start.specs.Start.{table_of};
 ghost use Rattle.gmp_seq.specs.Needs.{IsOutstanding};
 ghost use Rattle.gmp_seq.specs.State.{first_goroutine, dormant};
-ghost use Rattle.gmp_seq.specs.Table.{IsReady, IsRunning, IsCalling, IsHeld, epoch_at, is_astir, is_ready_or_running, is_running_on, is_shelved, made_ready, made_wait, next_of, set_status, some_status, status_at};
+ghost use Rattle.gmp_seq.specs.Table.{IsReady, IsRunning, IsCalling, IsHeld, epoch_at, is_astir, is_ready_or_running, is_running_on, is_shelved, is_startable, made_ready, made_wait, next_of, set_status, some_status, status_at};
 
 mod calls;
 mod waiting;
@@ -207,6 +207,13 @@ impl Table {
         self.goroutines.iter().any(|row| row.status.is_astir())
     }
 
+    /// Whether somebody was not started, or has ended.
+    fn has_startable(&self) -> bool
+        ensures { result ≡ some_status is_startable self.now }
+    {
+        self.goroutines.iter().any(|row| row.status.is_startable())
+    }
+
     /// Whether the ticket of this readiness is given out.
     pub(crate) fn is_outstanding(&self, r: Readiness) -> bool
         ensures { IsTrue result ↔ IsOutstanding self.now r }
@@ -256,7 +263,7 @@ impl Table {
 
     /// The next readiness of g.
     pub(crate) fn next(&self, g: GNo) -> Readiness
-        requires { epoch_at self.now g < 2 ^ 63 }
+        requires { epoch_at self.now g ≤ 2 ^ 63 }
         ensures { result ≡ next_of self.now g }
     {
         Readiness {
@@ -289,7 +296,7 @@ impl Table {
 
     /// The goroutine's ticket is at this place, with a new epoch, and this is stored for it.
     pub(crate) fn make_ready(&mut self, g: GNo, place: TicketPlace, woke: Woke)
-        requires { epoch_at self.old g < 2 ^ 63 }
+        requires { epoch_at self.old g ≤ 2 ^ 63 }
         ensures { self.new ≡ made_ready self.old g place woke }
     {
         let epoch = self.epoch(g) + 1;

@@ -8,6 +8,7 @@ use Rattle.gmp_trace.specs.HasText.{HasText}
 use Rattle.gmp_trace.specs.Text.{Content, end_of}
 use Rattle.gmp_trace.specs.Text.Begins.{AtOpening}
 use Rattle.gmp_trace.proofs.Numbered.{legal_text}
+use Rattle.gmp_words.proofs.Whole.{kept_whole}
 use Rattle.gmp_words.specs.declared.options.Settings.{Settings}
 use Rattle.gmp_cli.specs.Plays.{IsPlayed, Stage, opening_stage}
 use Rattle.gmp_words.specs.Runs.{IsTraceOf, limits_of}
@@ -47,4 +48,4 @@ module _ (s : Settings) (capacities readings : List ℕ) (bodies : List Commands
 
   pub has_text : HasText x
   unfolding is_trace
-  has_text = legal_text x capacities behind.system.book.state begun is_trace.within is_trace.legal (rw entries fits)
+  has_text = legal_text x capacities behind.system.book.state begun is_trace.within (kept_whole x.limits s limits_are) is_trace.legal (rw entries fits)

@@ -8,6 +8,7 @@ ghost use Rattle.gmp_seq.specs.Fits.{AreLimits, Fits};
 ghost use Rattle.gmp_acts.specs.Acts.{Acts};
 ghost use Rattle.gmp_acts.specs.System.{machine_at};
 ghost use Rattle.gmp_driver.specs.Table.{next_act};
+ghost use Rattle.gmp_turn.specs.Whole.{IsWholeRun};
 ghost use Rattle.gmp_core.specs.Whole.{HeadlineOf, wanted_by};
 
 use crate::clock::Clock;
@@ -47,11 +48,11 @@ impl Player {
         bodies: Vec<ScriptBody>,
         readings: Vec<u64>,
     ) -> Result<Self, Refusal>
-        ensures within { IfOk result (λ _. AreLimits limits (length bodies.items) capacities.now) }
+        ensures within { IfOk result (λ _. IsWholeRun limits (length bodies.items) capacities.now) }
         ensures stage { IfOk result (λ p. stage p ≡ opening_stage limits capacities.now readings.items bodies.items) }
         ensures manned { IfOk result IsManned }
         ensures why { IfErr result (λ why. (why ≡ BadLimits) ⊎ (why ≡ OutOfMemory)) }
-        ensures limits { IfErr result (λ why. why ≡ BadLimits → ¬ (AreLimits limits (length bodies.items) capacities.now)) }
+        ensures limits { IfErr result (λ why. why ≡ BadLimits → ¬ (IsWholeRun limits (length bodies.items) capacities.now)) }
     {
         match Core::open(alloc, RUN, limits, capacities, bodies) {
             Ok(core) => Ok(Player {

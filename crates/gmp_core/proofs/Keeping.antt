@@ -1,5 +1,5 @@
 -- What the core keeps it keeps by each act, and the stock of bodies stays.
-use Rattle.std.proofs.Common.{◌≡◌, ◌≢◌, ◌⊎◌, inl, inr, ℕ, List, length, refl, sym, ap, ◌∙◌, subst, Option, Some, None, IsSome, IsNone, Result}
+use Rattle.std.proofs.Common.{◌≡◌, ◌≢◌, ◌⊎◌, inl, inr, ℕ, List, length, refl, sym, ap, ◌∙◌, subst, Option, Some, None, IsSome, IsNone, Result, Ok, Err}
 use Rattle.std.specs.List.{slice_get}
 use Rattle.std.specs.Option.{option_map}
 use Rattle.gmp_base.specs.declared.number.GNo.{GNo}
@@ -7,6 +7,7 @@ use Rattle.gmp_base.specs.declared.number.MNo.{MNo}
 use Rattle.gmp_base.specs.declared.number.PNo.{PNo}
 use Rattle.gmp_base.specs.declared.refusal.Refusal.{Refusal}
 use Rattle.gmp_seq.specs.declared.call.Call.{Call}
+use Rattle.gmp_seq.specs.declared.call.Limits.{Limits}
 use Rattle.gmp_seq.specs.declared.call.Reply.{Reply}
 use Rattle.gmp_seq.specs.declared.status.Status.{Status}
 use Rattle.gmp_seq.specs.declared.status.Status.TheVariants as status
@@ -34,11 +35,12 @@ use Rattle.gmp_acts.proofs.Moving.{act_sound}
 use Rattle.gmp_acts.proofs.Watching.{act_watchful}
 use Rattle.gmp_acts.proofs.Onward.{act_opened}
 use Rattle.gmp_acts.proofs.Whole.{headline_of}
-use Rattle.gmp_turn.specs.Surrenders.{Surrenders}
+use Rattle.gmp_journal.specs.Log.{Log}
+use Rattle.gmp_turn.proofs.Ending.{log_after}
+use Rattle.gmp_turn.specs.Surrenders.{Surrenders, surrendered}
 use Rattle.gmp_turn.specs.Turns.{Turns}
 use Rattle.gmp_turn.specs.Values.{AreOut, KeepsValues, body_in, called_body, held_body, owner_in, proc_owner}
-use Rattle.gmp_turn.proofs.Opened.{surrender_opened, turn_opened}
-use Rattle.gmp_book.specs.Book.{BeginsAtOpening, BookContents}
+use Rattle.gmp_book.specs.Book.{BookContents}
 use Rattle.gmp_core.specs.Doing.{Desk, Does}
 use Rattle.gmp_core.specs.Inside.{IsCore, Parts, system_of}
 use Rattle.gmp_core.specs.Local.{KeepsHand}
@@ -158,21 +160,23 @@ module _ {T : Type 0} (c : Parts T) (m : MNo) (x : Machine T Unit) (choice : Cho
   room_same (act.Surrender which) d = ap (λ (r : Rings). r.room) d.2
   room_same act.Nothing d = ap (λ (e : Desk T). e.rings.room) d
 
-  opened_at : now.book ≡ c.book → BeginsAtOpening now.book.log
-  opened_at book = subst (λ (b : BookContents T Unit). BeginsAtOpening b.log) (sym book) core.opened
+  by_turn : (asked : Call) (result : Result Reply Refusal) → Turns x c.book asked choice.word result now.machine now.book → now.book.log.stopped ≡ c.book.log.stopped
+  by_turn asked (Ok answer) t = ap (λ (l : Log). l.stopped) t.records.opened
+  by_turn asked (Err why) t = ap (λ (b : BookContents T Unit). b.log.stopped) t.err.0
 
-  still_opened : (a : Act) → Does a m choice old now → BeginsAtOpening now.book.log
-  still_opened (act.Call asked) d = turn_opened x c.book core.opened asked choice.word d.0 now.machine now.book d.1
-  still_opened act.Pop d = opened_at d.book
-  still_opened act.Drain d = opened_at d.book
-  still_opened act.Push d = opened_at d.book
-  still_opened act.Hunt d = opened_at d.book
-  still_opened (act.Steal v) d = opened_at d.book
-  still_opened act.Resume d = opened_at (ap (λ (e : Desk T). e.book) d)
-  still_opened act.Block d = opened_at (ap (λ (e : Desk T). e.book) d)
-  still_opened (act.Clock minded) d = opened_at (ap (λ (e : Desk T). e.book) d)
-  still_opened (act.Surrender which) d = surrender_opened x c.book core.opened which d.0 now.machine now.book d.1
-  still_opened act.Nothing d = opened_at (ap (λ (e : Desk T). e.book) d)
+  stopped_same : (a : Act) → Does a m choice old now → now.book.log.stopped ≡ c.book.log.stopped
+  stopped_same (act.Call asked) d = by_turn asked d.0 d.1
+  stopped_same act.Pop d = ap (λ (b : BookContents T Unit). b.log.stopped) d.book
+  stopped_same act.Drain d = ap (λ (b : BookContents T Unit). b.log.stopped) d.book
+  stopped_same act.Push d = ap (λ (b : BookContents T Unit). b.log.stopped) d.book
+  stopped_same act.Hunt d = ap (λ (b : BookContents T Unit). b.log.stopped) d.book
+  stopped_same (act.Steal v) d = ap (λ (b : BookContents T Unit). b.log.stopped) d.book
+  stopped_same act.Resume d = ap (λ (e : Desk T). e.book.log.stopped) d
+  stopped_same act.Block d = ap (λ (e : Desk T). e.book.log.stopped) d
+  stopped_same (act.Clock minded) d = ap (λ (e : Desk T). e.book.log.stopped) d
+  stopped_same (act.Surrender which) d =
+      ap (λ (b : BookContents T Unit). b.log.stopped) d.1.places ∙ ap (λ (l : Log). l.stopped) (log_after which d.0 (surrendered x d.1.before which) c.book)
+  stopped_same act.Nothing d = ap (λ (e : Desk T). e.book.log.stopped) d
 
   module _ (acts : Acts (system_of c) m choice (system_of c')) (d : Does (next_act x) m choice old now) where
     sound' : IsSound (system_of c')
@@ -201,7 +205,7 @@ module _ {T : Type 0} (c : Parts T) (m : MNo) (x : Machine T Unit) (choice : Cho
           bodies = out_same (λ (y : Machine T Unit). body_in y.hand) c.machines m.0 x now.machine c.book.bodies now.book.bodies is kept.0 apart_bodies core.bodies;
           owners = out_same (λ (y : Machine T Unit). owner_in y.hand) c.machines m.0 x now.machine c.book.owners now.book.owners is kept.1 apart_owners core.owners;
           tickets_room = room_same (next_act x) d ∙ core.tickets_room ∙ sym opened.bodies;
-          opened = still_opened (next_act x) d;
+          whole = (ap (λ (l : Limits). l.room) opened.limits ∙ core.whole.0 ∙ ap (λ (l : Limits). l.entries) (sym opened.limits), stopped_same (next_act x) d ∙ core.whole.1);
         }
 
     stock_after : stock_of c'.machines c'.book.bodies ≡ stock_of c.machines c.book.bodies

@@ -210,7 +210,7 @@ module _ {T : Type 0} (c : Parts T) (m : MNo) (x : Machine T Unit) (is : slice_g
     bodies = still_out (λ (y : Machine T Unit). body_in y.hand) (with_body x w) c.book.bodies (λ i. still_in x.place x.hand w i either) core.bodies;
     owners = still_out (λ (y : Machine T Unit). owner_in y.hand) (with_body x w) c.book.owners (λ i some. subst (λ (o : ℕ → Option Unit). IsSome (o i)) (owner_same x.place x.hand w) some) core.owners;
     tickets_room = core.tickets_room;
-    opened = core.opened;
+    whole = core.whole;
   }
 
   pub same_core : IsCore (record c { machines = set c.machines m.0 x })

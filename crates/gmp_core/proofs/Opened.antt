@@ -4,9 +4,11 @@ use Rattle.std.proofs.lemmas.List.{get_or_default, same_lists}
 use Rattle.std.proofs.lemmas.List.FromFn.{get_or-map-range_with_len, length-map-range_with_len}
 use Rattle.std.specs.List.{range_with_len, slice_get}
 use Rattle.gmp_base.specs.declared.pass.Pass.{Pass}
+use Rattle.gmp_base.specs.declared.refusal.Refusal.{Refusal}
+use Rattle.gmp_base.specs.declared.refusal.Refusal.TheVariants.{BadLimits, OutOfMemory}
 use Rattle.gmp_seq.specs.declared.call.Limits.{Limits}
 use Rattle.gmp_seq.specs.Fits.{AreLimits}
-use Rattle.gmp_book.specs.Book.{BookContents, opening_book, opening_passes}
+use Rattle.gmp_book.specs.Book.{BookContents, MayOpen, WhyUnopened, opening_book, opening_passes}
 use Rattle.gmp_driver.specs.Machine.{Machine}
 use Rattle.gmp_driver.specs.Registers.{first_of, nothing}
 use Rattle.gmp_acts.specs.Hands.{PlainMachine, plain_machine}
@@ -15,6 +17,7 @@ use Rattle.gmp_acts.specs.System.{System}
 use Rattle.gmp_acts.proofs.Watching.{opening_watchful}
 use Rattle.gmp_acts.proofs.Whole.{opening_sound}
 use Rattle.gmp_turn.specs.Values.{AreOut, body_in, owner_in}
+use Rattle.gmp_turn.specs.Whole.{IsWholeRun}
 use Rattle.gmp_core.specs.Inside.{IsCore, Parts, system_of}
 use Rattle.gmp_core.specs.Opening.{at_start}
 use Rattle.gmp_core.specs.Queues.{Rings}
@@ -69,14 +72,14 @@ module _ {T : Type 0} (run : ℕ) (limits : Limits) (capacities : List ℕ) (bod
   nothing_out f places none m x is i some = absurd (no_some (f x i) (none x i (hand_empty limits.procs (opening_passes run limits.machines) m x is)) some)
 
   pub opening_core : (rings : Rings) → rings.queues ≡ (opening_system run limits (length bodies) capacities).queues → AreLimits limits (length bodies) capacities
-      → rings.room ≡ length bodies → IsCore (c rings)
-  opening_core rings queues within tickets = record {
+      → limits.room ≡ limits.entries → rings.room ≡ length bodies → IsCore (c rings)
+  opening_core rings queues within whole tickets = record {
     sound = rw (opening_is rings queues) (opening_sound run limits (length bodies) capacities within);
     watchful = rw (opening_is rings queues) (opening_watchful run limits (length bodies) capacities within);
     bodies = nothing_out (λ (x : Machine T Unit). body_in x.hand) book.bodies (λ x i e. ap (λ h. body_in h i) e);
     owners = nothing_out (λ (x : Machine T Unit). owner_in x.hand) book.owners (λ x i e. ap (λ h. owner_in h i) e);
     tickets_room = tickets;
-    opened = refl;
+    whole = (whole, refl);
   }
 
   pub opening_stock : stock_of machines book.bodies ≡ map Some bodies
@@ -85,3 +88,10 @@ module _ {T : Type 0} (run : ℕ) (limits : Limits) (capacities : List ℕ) (bod
       (λ i. ap (λ (o : Option T). first_of o (get_or (map Some bodies) i None))
       (none_has (λ (x : Machine T Unit). body_in x.hand i) machines (λ n y at. ap (λ h. body_in h i) (hand_empty limits.procs (opening_passes run limits.machines) n y at))))
       ∙ listed (map Some bodies) None
+
+-- why the book is not opened is why the core is not
+pub why_whole : (limits : Limits) (bodies owners : ℕ) (capacities : List ℕ) (why : Refusal) → owners ≡ limits.procs → limits.room ≡ limits.entries
+    → WhyUnopened (MayOpen limits bodies capacities owners) why → WhyUnopened (IsWholeRun limits bodies capacities) why
+why_whole limits bodies owners capacities BadLimits count whole out = λ within. out (within.0, count)
+why_whole limits bodies owners capacities OutOfMemory count whole may = (may.0, whole)
+why_whole limits bodies owners capacities _ count whole none = absurd none

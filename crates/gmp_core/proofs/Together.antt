@@ -95,10 +95,10 @@ module _ {T : Type 0} (c : Parts T) (m : MNo) (x : Machine T Unit) (is : slice_g
 
     taken : (which : Option Value) (result : Result Unit Refusal) → next_act x ≡ act.Surrender which → Surrenders x c.book which result now.machine now.book → result ≡ Ok tt
     taken which result next s =
-        surrender_taken x now.machine c.book now.book which result same_run (over c m x choice now is core.sound which next) (core.bodies m.0 x is) (core.owners m.0 x is) (tickets c m x choice now is core.sound) s
+        surrender_taken x now.machine c.book now.book which result same_run (over c m x choice now is core.sound core.whole which next) (core.bodies m.0 x is) (core.owners m.0 x is) (tickets c m x choice now is core.sound core.whole) s
 
     pub acts_so : Acts k m choice (system_of c')
-    acts_so = does c m x choice now is core.sound taken few d
+    acts_so = does c m x choice now is core.sound core.whole taken few d
 
     both : IsCore c' × (stock_of c'.machines c'.book.bodies ≡ stock_of c.machines c.book.bodies)
     both =

@@ -12,6 +12,8 @@ use Rattle.gmp_base.specs.declared.refusal.Refusal.{Refusal}
 use Rattle.gmp_seq.specs.declared.call.Call.{Call}
 use Rattle.gmp_seq.specs.declared.call.Outcome.{Outcome}
 use Rattle.gmp_seq.specs.declared.call.Reply.{Reply}
+use Rattle.gmp_seq.proofs.Counts.{legal_total}
+use Rattle.gmp_seq.proofs.InOrder.{legal_in_order}
 use Rattle.gmp_seq.specs.Needs.{IsOutstanding}
 use Rattle.gmp_seq.specs.Table.{Table, is_outstanding}
 use Rattle.gmp_book.specs.Book.{BookContents}
@@ -44,7 +46,7 @@ use Rattle.gmp_turn.proofs.Acting.{accepted}
 use Rattle.gmp_turn.proofs.Giving.{given}
 use Rattle.gmp_turn.proofs.Refusing.{stopped, unmade}
 use Rattle.gmp_core.specs.Doing.{Desk, Does, Locally}
-use Rattle.gmp_core.specs.Inside.{Parts, system_of}
+use Rattle.gmp_core.specs.Inside.{IsKeptWhole, Parts, system_of}
 use Rattle.gmp_core.specs.Queues.{Rings}
 
 none_or_outcome : (o : Option Outcome) → (o ≡ None) ⊎ (o ≢ None)
@@ -101,7 +103,7 @@ is_there {T = T} c m x is = slice_get_within (map plain_machine c.machines) m.0 
 pub agrees : {T : Type 0} (c : Parts T) (m : MNo) (x : Machine T Unit) → slice_get c.machines m.0 ≡ Some x → IsSound (system_of c) → Agrees (system_of c).book m (plain_machine x)
 agrees c m x is s = subst (Agrees (system_of c).book m) (machine_is c m x is) (s.each m (is_there c m x is))
 
-module _ {T : Type 0} (c : Parts T) (m : MNo) (x : Machine T Unit) (choice : Choice) (now : Desk T) (is : slice_get c.machines m.0 ≡ Some x) (s : IsSound (system_of c)) where
+module _ {T : Type 0} (c : Parts T) (m : MNo) (x : Machine T Unit) (choice : Choice) (now : Desk T) (is : slice_get c.machines m.0 ≡ Some x) (s : IsSound (system_of c)) (whole : IsKeptWhole c.book.log) where
   abbrev k : System
   k = system_of c
 
@@ -138,12 +140,19 @@ module _ {T : Type 0} (c : Parts T) (m : MNo) (x : Machine T Unit) (choice : Cho
   there : m.0 < c.book.log.limits.machines
   there = let l = inside in let e = s.count in omega (arith, l, e)
 
+  -- as long as the run lasts there is room for another entry: none was handed out
+  room : c.book.log.state.outcome ≡ None → length c.book.log.history < c.book.log.limits.room
+  room goes =
+      let made = legal_total k.book.limits k.book.bodies k.book.capacities k.book.history k.book.state s.legal in
+      let more = (legal_in_order k.book.limits k.book.bodies k.book.capacities k.book.history k.book.state s.within s.legal).together.ongoing goes in
+      let same = whole.0 in omega (arith, made, more, same)
+
   answers : (asked : Call) (result : Result Reply Refusal) → next_act x ≡ act.Call asked → Turns x c.book asked choice.word result now.machine now.book
       → Answers (plain_machine x) m asked k.book k.own (plain_machine now.machine) (run_of now.book.log) (with_made k.own (made_by m asked result))
   answers asked (Ok answer) next t =
       inl (accepted x now.machine c.book now.book m asked choice.word answer k.own next fits (grants asked next t.records.step.0) t)
   answers asked (Err why) next t = elim (none_or_outcome c.book.log.state.outcome) [
-    | inl goes ↦ inr (inr (inl (unmade x now.machine c.book now.book m asked choice.word why k.own next fits mine.run.0 there may t goes (grants asked next goes))))
+    | inl goes ↦ inr (inr (inl (unmade x now.machine c.book now.book m asked choice.word why k.own next fits mine.run.0 there may t goes whole.1 (room goes) (grants asked next goes))))
     | inr over ↦ inr (inl (stopped x now.machine c.book now.book m asked choice.word why k.own next fits mine.run.0 there may t over))
   ]
 

@@ -22,6 +22,7 @@ pub(crate) fn copied_ask(ask: &Ask) -> Ask
     match ask {
         Ask::Yield => Ask::Yield,
         Ask::Go(g) => Ask::Go(*g),
+        Ask::Spawn => Ask::Spawn,
         Ask::Make(capacity) => Ask::Make(*capacity),
         Ask::Send(c, v) => Ask::Send(*c, *v),
         Ask::Recv(c) => Ask::Recv(*c),

@@ -7,6 +7,7 @@ ghost use Rattle.std.specs.Option.{option_map_or};
 ghost use Rattle.gmp_seq.specs.Fits.{AreLimits, Fits};
 ghost use Rattle.gmp_seq.specs.Machines.{is_parked_mode};
 ghost use Rattle.gmp_book.specs.Book.{WhyUnopened};
+ghost use Rattle.gmp_turn.specs.Whole.{IsWholeRun};
 ghost use Rattle.gmp_acts.specs.System.{made_of};
 ghost use Rattle.gmp_core.specs.Whole.{wanted_by};
 ghost use Rattle.gmp_driver.specs.Table.{next_act};
@@ -99,7 +100,8 @@ impl<T> Core<T> {
 
     /// Machines that have made no act, each at its start with nothing in hand. There is a body for each goroutine. It takes all the memory
     /// that acts need, but for a make. Refused, it hands the bodies back.
-    /// `BadLimits` comes before `OutOfMemory`. With other limits numbers of the history might not fit their types.
+    /// The history is kept whole, so there has to be as much room as entries. `BadLimits` comes before `OutOfMemory`. With other limits
+    /// numbers of the history might not fit their types.
     pub fn open(
         alloc: Global,
         run: u64,
@@ -107,13 +109,14 @@ impl<T> Core<T> {
         capacities: &[u32],
         bodies: Vec<T>,
     ) -> Result<Self, Refused<Vec<T>>>
-        ensures within { OnOk result (AreLimits limits (length bodies.items) capacities.now) }
-        ensures why { IfErr result (λ r. WhyUnopened (AreLimits limits (length bodies.items) capacities.now) r.why) }
+        ensures within { OnOk result (IsWholeRun limits (length bodies.items) capacities.now) }
+        ensures why { IfErr result (λ r. WhyUnopened (IsWholeRun limits (length bodies.items) capacities.now) r.why) }
         ensures back { IfErr result (λ r. r.back.items ≡ bodies.items) }
         ensures system { IfOk result (λ k. k.system ≡ opening_system run limits (length bodies.items) capacities.now) }
         ensures stock { IfOk result (λ k. k.stock ≡ map Some bodies.items) }
     {
-        if !limits.allow(bodies.len(), capacities) {
+        let is_whole = u64::from(limits.room) == limits.entries;
+        if !is_whole || !limits.allow(bodies.len(), capacities) {
             return Err(Refused::of(Refusal::BadLimits, bodies));
         }
         let why = Refusal::OutOfMemory;

@@ -10,8 +10,6 @@ use thiserror::Error;
 pub enum PieceError {
     #[error("out of memory")]
     OutOfMemory,
-    #[error("the last piece went out")]
-    Over,
     #[error("a call is refused")]
     Refused,
     #[error("the file of a piece can't be written or read")]
@@ -29,7 +27,6 @@ impl From<AllocError> for PieceError {
 impl From<Refusal> for PieceError {
     fn from(why: Refusal) -> PieceError {
         match why {
-            Refusal::Over => PieceError::Over,
             Refusal::OutOfMemory => PieceError::OutOfMemory,
             _ => PieceError::Refused,
         }

@@ -10,7 +10,7 @@ mod error;
 mod host;
 
 use crate::error::PieceError;
-use crate::host::{hand_out, opened, yield_once};
+use crate::host::{hand_out, hold, opened, yield_once};
 use anyhow::Result;
 use gmp_base::{Pass, Refusal};
 use gmp_book::Book;
@@ -60,13 +60,18 @@ fn pieces<R: Files + Print>(
     pass: &mut Pass,
 ) -> Result<()> {
     for number in 0..PIECES {
+        // Once the run is over nothing is left: the piece before had all.
+        if book.outcome().is_some() {
+            break;
+        }
+        // The state before the first entry of the piece.
+        let start = book.start(alloc)?;
+        if number == 0 {
+            hold(book, pass)?;
+        }
         fill(book, pass)?;
         let path = format!(in alloc; "piece-{number}.trace")?;
-        match hand_out(rt, alloc, book, path.as_str()) {
-            Ok(()) => {}
-            Err(PieceError::Over) => break,
-            Err(error) => return Err(error.into()),
-        }
+        hand_out(rt, alloc, book, &start, path.as_str())?;
         let summary = summary(rt, alloc, path.as_str())?;
         println!(rt; "{path}")?;
         print!(rt; "{}", str::from_utf8(&summary).unwrap_or("?"))?;

@@ -43,9 +43,10 @@ pub struct Spans {
 /// Whether a goroutine asks for this call, and not its machine.
 fn is_asked(call: &Call) -> bool {
     match call {
-        Call::Go(_) | Call::Yield | Call::Exit | Call::Make(_) | Call::Ready(_) => true,
+        Call::Go(_) | Call::Spawn | Call::Yield | Call::Exit | Call::Make(_) => true,
         Call::Send(_, _) | Call::Recv(_) | Call::Close(_) | Call::Len(_) | Call::Cap(_) => true,
         Call::Select(_, _, _) | Call::Sleep(_) | Call::Procs(_) | Call::Gopark => true,
+        Call::Ready(_) => true,
         _ => false,
     }
 }

@@ -51,6 +51,7 @@ module _ {T Q : Type 0} (procs : ℕ) (fresh : Bool) (turns : ℕ) (hand : Regis
   asks ask.Block f = (f.has_held, f.has_processor, none_of hand.called f.has_called)
   asks ask.Yield f = (f.has_held, none_of hand.called f.has_called, none_of hand.to_store f.has_to_store)
   asks (ask.Go g) f = (f.has_held, none_of hand.called f.has_called, none_of hand.to_store f.has_to_store)
+  asks ask.Spawn f = (f.has_held, none_of hand.called f.has_called, none_of hand.to_store f.has_to_store)
   asks (ask.Make capacity) f = (f.has_held, none_of hand.called f.has_called, none_of hand.to_store f.has_to_store)
   asks (ask.Send n v) f = (f.has_held, none_of hand.called f.has_called, none_of hand.to_store f.has_to_store)
   asks (ask.Recv n) f = (f.has_held, none_of hand.called f.has_called, none_of hand.to_store f.has_to_store)

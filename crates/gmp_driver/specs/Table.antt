@@ -28,6 +28,7 @@ use Rattle.gmp_driver.specs.Seen.{seen}
 abbrev pub call_for : Ask → Call
 call_for ask.Yield = call.Yield
 call_for (ask.Go g) = call.Go g
+call_for ask.Spawn = call.Spawn
 call_for (ask.Make capacity) = call.Make capacity
 call_for (ask.Send c v) = call.Send c v
 call_for (ask.Recv c) = call.Recv c

@@ -26,6 +26,7 @@ fn call_for(ask: &Ask) -> Call
     match ask {
         Ask::Yield => Call::Yield,
         Ask::Go(g) => Call::Go(*g),
+        Ask::Spawn => Call::Spawn,
         Ask::Make(capacity) => Call::Make(*capacity),
         Ask::Send(c, v) => Call::Send(*c, *v),
         Ask::Recv(c) => Call::Recv(*c),

@@ -107,6 +107,17 @@ fn of_take(rows: &[Goroutine], out: &mut Vec<Reply>) -> Result<(), AllocError> {
     Ok(())
 }
 
+/// A start of each goroutine that was not started, or has ended, or of none.
+fn of_spawn(rows: &[Goroutine], out: &mut Vec<Reply>) -> Result<(), AllocError> {
+    out.push(Reply::Fault(Fault::NoSuchBody))?;
+    for (g, row) in rows.iter().enumerate() {
+        if row.status.is_startable() {
+            out.push(Reply::Ticket(next(rows, goroutine_at(g))))?;
+        }
+    }
+    Ok(())
+}
+
 /// What a send may do.
 fn of_send(rows: &[Goroutine], c: CNo, out: &mut Vec<Taken>) -> Result<(), AllocError> {
     out.push(Taken::Failed)?;
@@ -342,6 +353,7 @@ pub(crate) fn candidates(
     let mut out = Vec::new(alloc);
     match call {
         Call::Take => of_take(&last.goroutines, &mut out)?,
+        Call::Spawn => of_spawn(&last.goroutines, &mut out)?,
         Call::Send(c, v) => of_plain(alloc, last, Case::Send(*c, *v), &mut out)?,
         Call::Recv(c) => of_plain(alloc, last, Case::Recv(*c), &mut out)?,
         Call::Select(cases, _, _) => of_select(alloc, last, cases.as_slice(), &mut out)?,

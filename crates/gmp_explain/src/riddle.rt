@@ -59,18 +59,19 @@ fn tell_machine<S: Sink>(story: &Story, m: MNo, sink: &mut S) -> Result<(), Allo
     })
 }
 
-/// The goroutine that a call names.
-fn named(call: &Call) -> Option<GNo> {
-    match call {
+/// The goroutine that a call names; of a spawn, its reply.
+fn named(entry: &Entry) -> Option<GNo> {
+    match &entry.call {
         Call::Put(r) | Call::Claim(r) => Some(r.g),
         Call::Go(h) | Call::Ready(h) => Some(*h),
+        Call::Spawn => Some(entry.reply.ticket()?.g),
         _ => None,
     }
 }
 
-/// The goroutine that the call names, and its latest ticket.
-fn tell_named<S: Sink>(story: &Story, call: &Call, sink: &mut S) -> Result<(), AllocError> {
-    let Some(g) = named(call) else {
+/// The goroutine that the entry names, and its latest ticket.
+fn tell_named<S: Sink>(story: &Story, entry: &Entry, sink: &mut S) -> Result<(), AllocError> {
+    let Some(g) = named(entry) else {
         return Ok(());
     };
     tell_goroutine(story, g, sink)?;
@@ -145,7 +146,7 @@ pub fn tell_riddle<S: Sink>(
     if let Some(g) = at_machine(&story.last.goroutines, entry.m) {
         tell_goroutine(story, g, sink)?;
     }
-    tell_named(story, &entry.call, sink)?;
+    tell_named(story, &entry, sink)?;
     tell_channels(story, &entry.call, sink)?;
     tell_allowed(alloc, story, &mut entry, sink)
 }

@@ -1,9 +1,8 @@
 //! A run of the scheduler whose calls are made one by one, each by any machine. A journal keeps it; beside it stands what the machines have.
 
-ghost use Rattle.std.specs.Prelude.{◌≡◌, All, IfOk, true};
-ghost use Rattle.gmp_seq.specs.Fits.{AreLimits, Fits};
-ghost use Rattle.gmp_seq.specs.Run.{Run};
+ghost use Rattle.std.specs.Prelude.{◌≡◌, IfOk, true};
 ghost use Rattle.gmp_journal.specs.Grants.{Suits};
+ghost use Rattle.gmp_journal.specs.Segments.{IsPart};
 ghost use Rattle.gmp_explore_cli.specs.Played.{EndInFault, HasComeTo, IsOpened, Keeps};
 
 use crate::unplayed::{ASTRAY, Unplayed};
@@ -163,9 +162,7 @@ impl Stage {
     /// Every call so far.
     pub(crate) fn history(&self) -> &History
         ensures entries { result.now.list ≡ self.now.journal.history }
-        ensures legal { Run self.now.journal.limits self.now.journal.start self.now.journal.history self.now.journal.state }
-        ensures fits { All Fits self.now.journal.history }
-        ensures within { AreLimits self.now.journal.limits self.now.journal.bodies self.now.journal.capacities }
+        ensures part { IsPart self.now.journal }
     {
         self.journal.history()
     }

@@ -3,6 +3,7 @@
 ghost use Rattle.std.specs.Prelude.{◌≡◌, IfOk, length, true};
 ghost use Rattle.gmp_explore.specs.Fresh.{AreFresh};
 ghost use Rattle.gmp_explore_cli.specs.Played.{IsOpened, Keeps, WritesPlayed, is_of_trace};
+ghost use Rattle.gmp_trace.specs.Pieces.{is_whole};
 ghost use Rattle.gmp_words.specs.Runs.{status_of_verdict};
 ghost use Rattle.gmp_words.specs.Said.{is_before_writing};
 ghost use Rattle.gmp_words.specs.declared.said.Said.TheVariants.{Nothing};
@@ -15,28 +16,31 @@ use gmp_explore::Scene;
 use gmp_follow::follows;
 use gmp_scene::Move;
 use gmp_script::Script;
-use gmp_seq::{LEAST_ENTRIES, Limits, MOST_ENTRIES};
+use gmp_seq::{LEAST_ROOM, Limits};
 use gmp_trace::{BeginningView, End, TraceView, write_view};
-use gmp_words::{Ended, Verdict};
+use gmp_words::{Ended, MOST_ENTRIES, Verdict};
 use std::alloc::Global;
 use std::io::Write;
 
 /// A choice, or a goroutine that asks behind the last one, has no more entries.
 const ENTRIES_EACH: usize = 8;
 
-/// The limits of the run: a machine for each processor.
-fn limits_for(bodies: usize, bounds: Bounds, choices: usize) -> Limits {
+/// The limits of the run: a machine for each processor, and room for all entries.
+fn limits_for(bodies: usize, bounds: Bounds, choices: usize) -> Limits
+    ensures { is_whole result ≡ true }
+{
     let turns = choices.saturating_add(bodies);
     let entries = turns
         .saturating_mul(ENTRIES_EACH)
         .saturating_add(usize::from(bounds.procs))
-        .saturating_add(LEAST_ENTRIES as usize)
-        .min(MOST_ENTRIES as usize);
+        .saturating_add(LEAST_ROOM as usize)
+        .min(MOST_ENTRIES as usize) as u32;
     Limits {
         procs: bounds.procs,
         machines: bounds.procs,
         channels: bounds.channels,
-        entries: entries as u32,
+        entries: u64::from(entries),
+        room: entries,
     }
 }
 

@@ -15,6 +15,7 @@ pub(crate) fn is_asked(call: &Call) -> bool
     matches!(
         call,
         Call::Go(_)
+            | Call::Spawn
             | Call::Yield
             | Call::Exit
             | Call::Make(_)

@@ -1,9 +1,12 @@
 -- The channels' records stay those of the waiters of the table, and the list says who runs on each machine, by each change of the table.
 use Rattle.gmp_goroutines.proofs.Common.{◌≡◌, ℕ, zero, suc, ◌+◌, ◌-◌, ◌<◌, ◌≤◌, Bool, true, false, inl, inr, Option, Some, None, List, [], ◌∷◌, ◌++◌, length, set, slice_get, refl, sym, ap, subst, ◌∙◌, arith, false≢true, eqb-true, cases_eq, Case, GNo, MNo, Goroutine, Kind, Offer, Status, Running, Waiting, Wait, Waiter, Table, IsRunning, status_at, status_of, as_waiters, first_waiters, waiters}
-use Rattle.std.proofs.Common.{count_by, replicate, length-set}
+use Rattle.std.proofs.Common.{count_by, option_map, replicate, length-set}
 use Rattle.std.proofs.lemmas.List.{length-replicate}
 use Rattle.std.specs.Prelude.{IfNone, IfSome}
 use Rattle.gmp_base.specs.declared.cases.Case.TheVariants as case
+use Rattle.gmp_base.specs.declared.ask.Fault.TheVariants as fault
+use Rattle.gmp_base.specs.declared.ask.Woke.TheVariants as woke
+use Rattle.gmp_base.specs.declared.number.Readiness.{Readiness}
 use Rattle.gmp_chan.specs.Contents.{is_of, without, without_served}
 use Rattle.gmp_chan.specs.Order.{is_later}
 use Rattle.gmp_chan.specs.Served.{served}
@@ -16,8 +19,11 @@ use Rattle.gmp_seq.specs.declared.status.Kind.TheVariants as kind
 use Rattle.gmp_seq.specs.declared.status.Transfer.{Transfer}
 use Rattle.gmp_seq.specs.declared.status.Transfer.TheVariants.{Failed, Handed, Stored, First, Relayed, Drained}
 use Rattle.gmp_seq.specs.State.{dormant, first_goroutine}
-use Rattle.gmp_seq.specs.Step.{served_by}
-use Rattle.gmp_seq.specs.Table.{IsOffShelf, RunsNothing, epoch_at, is_parked, is_running_on, is_waiting, made_wait, some_status}
+use Rattle.gmp_seq.specs.declared.call.Reply.TheVariants as reply
+use Rattle.gmp_seq.specs.declared.status.Status.TheVariants as status
+use Rattle.gmp_seq.specs.declared.status.TicketPlace.TheVariants.{Out}
+use Rattle.gmp_seq.specs.Step.{Spawns, served_by}
+use Rattle.gmp_seq.specs.Table.{IsOffShelf, RunsNothing, epoch_at, is_parked, is_running_on, is_startable, is_waiting, made_ready, made_wait, some_status}
 use Rattle.gmp_seq.specs.Waits.{Channel, Proceeds}
 use Rattle.gmp_table.proofs.Listing.{slice_get-set_same, slice_get-set_other}
 use Rattle.std.proofs.lemmas.Bool.{eq-eqb}
@@ -85,6 +91,18 @@ module _ {t : Table} {records : List Waiter} {bodies : ℕ} {runners : List GNo}
   pub kept : (g : GNo) (s : Status) (y : Goroutine) (new : Table) → status_at t g ≡ Some s → is_waiting s ≡ false → is_idle y.status ≡ true
       → new ≡ record t { goroutines = set t.goroutines g.0 y } → IsTied new records bodies runners
   kept g s y new was free idle is = offered_kept g y new (unwaiting_none t g s was free) idle is
+
+  -- one that is dormant or dead is made ready, or nobody
+  spawned_kept : (r : Readiness) (new : Table) (o : Option Status) → status_at t r.g ≡ o → option_map is_startable o ≡ Some true
+      → new ≡ made_ready t r.g Out woke.First → IsTied new records bodies runners
+  spawned_kept r new (Some status.Dormant) was startable is = kept r.g status.Dormant _ new was refl refl is
+  spawned_kept r new (Some status.Dead) was startable is = kept r.g status.Dead _ new was refl refl is
+  spawned_kept r new _ was startable is = absurd cc
+
+  pub spawn_kept : (new : Table) (o : Option Readiness) → IfNone o (Spawns (reply.Fault fault.NoSuchBody) t new) → IfSome o (λ r. Spawns (reply.Ticket r) t new)
+      → IsTied new records bodies runners
+  spawn_kept new None none some = rw none.1 tied
+  spawn_kept new (Some r) none some = spawned_kept r new _ refl some.0 some.2
 
   -- one that is parked is made ready
   pub readied_kept : (g : GNo) (s : Status) (y : Goroutine) (new : Table) → status_at t g ≡ Some s → is_parked s ≡ true → is_idle y.status ≡ true

@@ -3,15 +3,17 @@
 //!
 //! Go's runtime (proc.go) has the like: `go` is `newproc`, `yield_to` `Gosched`, `exit` `goexit`, `park` `gopark`, `ready` `goready`,
 //! `sleep` `time.Sleep`, `take` `globrunqget`. Goroutines here are numbers and rows: which body each has, and where it is, is known above.
-ghost use Rattle.std.specs.Prelude.{◌≡◌, ◌<◌, ◌≤◌, ◌^◌, ◌++◌, ◌∷◌, [], true, false, Some, IfOk, map, option_copied, length, slice_get};
+ghost use Rattle.std.specs.Prelude.{◌≡◌, ◌<◌, ◌≤◌, ◌^◌, ◌++◌, ◌∷◌, [], true, false, Some, IfOk, map, option_copied, length, position, slice_get};
 ghost use Rattle.std.specs.Option.{option_map_or};
 ghost use Rattle.gmp_base.specs.declared.number.GNo.{GNo};
 ghost use Rattle.gmp_base.specs.declared.number.MNo.{MNo};
+ghost use Rattle.gmp_base.specs.declared.number.Readiness.{Readiness};
 ghost use Rattle.gmp_seq.specs.declared.call.Reply.{Reply};
+ghost use Rattle.gmp_seq.specs.declared.status.Goroutine.{Goroutine};
 ghost use Rattle.gmp_seq.specs.declared.status.Kind.{Kind};
 ghost use Rattle.gmp_seq.specs.declared.status.Status.{Status};
-ghost use Rattle.gmp_seq.specs.Step.{Claims, Goparks, Puts, Readies, Resumes, Sleeps, Starts, Takes, Ticks, Yields};
-ghost use Rattle.gmp_seq.specs.Table.{IsCalling, IsRunning, RunsNothing, all_woken, epoch_at, how_many_woken, is_astir, is_outstanding, is_running_on, is_shelved, made_wait, minded, set_status, some_status, status_at, stored_at};
+ghost use Rattle.gmp_seq.specs.Step.{Claims, Goparks, Puts, Readies, Resumes, Sleeps, Spawns, Starts, Takes, Ticks, Yields};
+ghost use Rattle.gmp_seq.specs.Table.{IsCalling, IsRunning, RunsNothing, all_woken, epoch_at, how_many_woken, is_astir, is_outstanding, is_running_on, is_shelved, is_startable, made_wait, minded, set_status, some_status, status_at, stored_at};
 ghost use Rattle.gmp_start.specs.Start.{channel_of};
 ghost use Rattle.gmp_seq.specs.declared.call.Call.{Call};
 ghost use Rattle.gmp_seq.specs.Waits.{waiters};
@@ -243,7 +245,7 @@ impl Goroutines {
     }
 
     /// Starts a body, whose ticket is given out (Go specification, Go statements). A body that isn't there, or was started before, is a
-    /// fault: each runs once.
+    /// fault.
     pub fn go(&mut self, body: GNo) -> Reply
         requires young { epoch_at self.old.table body < 2 ^ 63 }
         ensures starts { Starts body result self.old.table self.new.table }
@@ -255,6 +257,20 @@ impl Goroutines {
                 Status::Dormant => Reply::Ticket(self.table.start(body)),
                 _ => Reply::Fault(Fault::AlreadyStarted),
             },
+        }
+    }
+
+    /// Starts the least body that was not started or has ended, whose ticket is given out; that there is none is a fault. Which one it is the
+    /// definitions leave open.
+    pub fn spawn(&mut self) -> Reply
+        requires young { (g : GNo) → epoch_at self.old.table g < 2 ^ 63 }
+        ensures spawns { Spawns result self.old.table self.new.table }
+        ensures least { (r : Readiness) → result ≡ Reply.Ticket r → position (λ (x : Goroutine). is_startable x.status) self.old.table.goroutines ≡ Some r.g.0 }
+        ensures rest { self.new ≡ record self.old { table = self.new.table } }
+    {
+        match self.table.spawn() {
+            Some(r) => Reply::Ticket(r),
+            None => Reply::Fault(Fault::NoSuchBody),
         }
     }
 

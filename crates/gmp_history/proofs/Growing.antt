@@ -82,10 +82,10 @@ only : {A : Type 0} (P : A → Type 0) (x : A) → P x → All P (x ∷ [])
 only P x p zero d l = p
 only P x p (suc k) d l = absurd (omega arith)
 
-pub one_more : (s s' : List Choosing) (r r' : List Relay) (rows rows' : List Row) (row : Row) (call : Call) (reply : Reply) (room space space' space'' : ℕ)
-    → IsHistory rows s r room space space' space'' → s' ≡ s ++ choosing_in call → r' ≡ r ++ relay_in reply → rows' ≡ rows ++ row ∷ []
-    → IsCallIn (length s') row.call → IsReplyIn (length r') row.reply → length rows < room → room < 2 ^ 32 → IsHistory rows' s' r' room space space' space''
-one_more s s' r r' rows rows' row call reply room space space' space'' h es er erows there there' free small = (
+pub one_more : (s s' : List Choosing) (r r' : List Relay) (rows rows' : List Row) (row : Row) (call : Call) (reply : Reply) (room lasting space space' space'' : ℕ)
+    → IsHistory rows s r room lasting space space' space'' → s' ≡ s ++ choosing_in call → r' ≡ r ++ relay_in reply → rows' ≡ rows ++ row ∷ []
+    → IsCallIn (length s') row.call → IsReplyIn (length r') row.reply → length rows < room → room < 2 ^ 32 → IsHistory rows' s' r' room lasting space space' space''
+one_more s s' r r' rows rows' row call reply room lasting space space' space'' h es er erows there there' free small = (
     let ls : length s' ≡ length s + length (choosing_in call) = ap length es ∙ length-append s (choosing_in call) in
     let lr : length r' ≡ length r + length (relay_in reply) = ap length er ∙ length-append r (relay_in reply) in
     let lrows : length rows' ≡ length rows + 1 = ap length erows ∙ length-append rows (row ∷ []) in
@@ -98,6 +98,9 @@ one_more s s' r r' rows rows' row call reply room space space' space'' h es er e
       few = omega (arith, lrows, free, small);
       few_choosings = omega (arith, ls, lrows, few_choosings call, h.few_choosings);
       few_relays = omega (arith, lr, lrows, few_relays reply, h.few_relays);
+      lasts = h.lasts;
+      choosings_last = h.choosings_last;
+      relays_last = h.relays_last;
       rows_room = h.rows_room;
       choosings_room = omega (arith, ls, lrows, few_choosings call, h.choosings_room);
       relays_room = omega (arith, lr, lrows, few_relays reply, h.relays_room);

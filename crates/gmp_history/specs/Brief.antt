@@ -15,10 +15,11 @@ use Rattle.gmp_history.specs.declared.brief.BriefReply.TheVariants as short
 use Rattle.gmp_history.specs.declared.brief.Choosing.{Choosing}
 use Rattle.gmp_history.specs.declared.brief.Row.{Row}
 
--- a history's entries, and for how many it has room
+-- a history's entries, for how many it has room, and for how many once all are let go
 pub record HistoryContents : Type 0 where
   pub list : List Entry
   pub room : ℕ
+  pub lasting : ℕ
 
 -- the select of this choosing, where there is one
 abbrev pub select_of : Option Choosing → Call
@@ -32,6 +33,7 @@ call_of s brief.Take = call.Take
 call_of s (brief.Put g e) = call.Put (record { g = g; epoch = e })
 call_of s (brief.Claim g e) = call.Claim (record { g = g; epoch = e })
 call_of s (brief.Go g) = call.Go g
+call_of s brief.Spawn = call.Spawn
 call_of s brief.Yield = call.Yield
 call_of s brief.Exit = call.Exit
 call_of s (brief.Make capacity) = call.Make capacity

@@ -20,6 +20,7 @@ pub enum BriefCall {
     Put(GNo, u64),
     Claim(GNo, u64),
     Go(GNo),
+    Spawn,
     Yield,
     Exit,
     Make(u32),

@@ -12,7 +12,7 @@ use gmp_seq::{Call, Entry, Relay, Reply};
 use std::alloc::{AllocError, Global};
 use std::marker::Model;
 
-/// A list of entries. A contract sees the list, and for how many there is room.
+/// A list of entries. A contract sees the list, for how many there is room, and for how many there is once all are let go.
 ///
 /// Only `with_room`, `make_room` and `of` take memory. What is not written is not touched: to write to each page at the opening would cost
 /// the same, and a run that ends early would pay for its limit.
@@ -25,6 +25,9 @@ pub struct History {
     relays: Vec<Relay>,
     /// For how many entries there is room, in each of the three.
     room: u32,
+    /// For how many there is once all are let go. Room that was made entry by entry is no room for as many of the wide ones, so of a
+    /// history that grew it is what it was opened with.
+    lasting: u32,
 }
 
 impl Model for History {
@@ -34,11 +37,11 @@ impl Model for History {
 
     ghost Value = { HistoryContents };
 
-    ghost view = { λ h. record { list = entries_of h.choosings.items h.relays.items h.rows.items; room = h.room } };
+    ghost view = { λ h. record { list = entries_of h.choosings.items h.relays.items h.rows.items; room = h.room; lasting = h.lasting } };
 
     // Each number that a row has is one of its vector, which has no more than there are rows, and in each of the three there is room for as
     // many entries as `room` says.
-    ghost invariant = { λ h. IsHistory h.rows.items h.choosings.items h.relays.items h.room (vec_capacity h.rows) (vec_capacity h.choosings) (vec_capacity h.relays) };
+    ghost invariant = { λ h. IsHistory h.rows.items h.choosings.items h.relays.items h.room h.lasting (vec_capacity h.rows) (vec_capacity h.choosings) (vec_capacity h.relays) };
 }
 
 /// The row at this place, if there is one.
@@ -51,25 +54,27 @@ fn row_at(rows: &[Row], place: usize) -> Option<Row>
 impl History {
     /// No entry, and room for so many, whatever they are: as many places for each of the three vectors, 240 bytes an entry.
     pub fn with_room(alloc: Global, room: u32) -> Result<Self, AllocError>
-        ensures { IfOk result (λ h. h ≡ record { list = []; room = room }) }
+        ensures { IfOk result (λ h. h ≡ record { list = []; room = room; lasting = room }) }
     {
         Ok(History {
             rows: Vec::with_capacity(alloc, room as usize)?,
             choosings: Vec::with_capacity(alloc, room as usize)?,
             relays: Vec::with_capacity(alloc, room as usize)?,
             room,
+            lasting: room,
         })
     }
 
     /// No entry, and no room.
     pub fn new(alloc: Global) -> Self
-        ensures { result ≡ record { list = []; room = 0 } }
+        ensures { result ≡ record { list = []; room = 0; lasting = 0 } }
     {
         History {
             rows: Vec::new(alloc),
             choosings: Vec::new(alloc),
             relays: Vec::new(alloc),
             room: 0,
+            lasting: 0,
         }
     }
 
@@ -93,6 +98,7 @@ impl History {
         // Where there is room already it is not refused.
         ensures had { length self.old.list < self.old.room → IsOk result }
         ensures room { self.old.room ≤ self.new.room }
+        ensures lasting { self.new.lasting ≡ self.old.lasting }
     {
         let len = self.rows.len();
         if len >= u32::MAX as usize {
@@ -120,6 +126,16 @@ impl History {
         ensures { IsTrue result ↔ (length self.now.list ≡ 0) }
     {
         self.rows.is_empty()
+    }
+
+    /// Lets all entries go, and keeps the room that lasts. It takes no memory.
+    pub fn clear(&mut self)
+        ensures { self.new ≡ record { list = []; room = self.old.lasting; lasting = self.old.lasting } }
+    {
+        self.rows.clear();
+        self.choosings.clear();
+        self.relays.clear();
+        self.room = self.lasting;
     }
 
     /// Adds an entry at the end. The parts are copied from where they lie.

@@ -143,6 +143,7 @@ pub(crate) fn brief_call(choosings: &mut Vec<Choosing>, call: &Call, is_plain: b
             BriefCall::Claim(r.g, r.epoch)
         }
         Call::Go(g) => BriefCall::Go(goroutine(*g)),
+        Call::Spawn => BriefCall::Spawn,
         Call::Yield => BriefCall::Yield,
         Call::Exit => BriefCall::Exit,
         Call::Make(capacity) => BriefCall::Make(*capacity),
@@ -200,6 +201,7 @@ pub(crate) fn whole_call(choosings: &[Choosing], brief: BriefCall) -> Call
         BriefCall::Put(g, epoch) => Call::Put(Readiness { g, epoch }),
         BriefCall::Claim(g, epoch) => Call::Claim(Readiness { g, epoch }),
         BriefCall::Go(g) => Call::Go(g),
+        BriefCall::Spawn => Call::Spawn,
         BriefCall::Yield => Call::Yield,
         BriefCall::Exit => Call::Exit,
         BriefCall::Make(capacity) => Call::Make(capacity),

@@ -5,6 +5,7 @@ use Rattle.gmp_seq.specs.declared.call.Limits.{Limits}
 use Rattle.gmp_seq.specs.Fits.{AreLimits}
 use Rattle.gmp_seq.specs.Run.{IsLegal}
 use Rattle.gmp_seq.specs.State.{State}
+use Rattle.gmp_run.specs.Desks.{TakesAll, joined}
 use Rattle.gmp_host.specs.declared.ending.Ended.{Ended}
 
 -- There is a legal run, from the opening under these limits, which are in range, with these capacities and so many bodies, that has this
@@ -15,4 +16,15 @@ pub record IsOfLegalRun (limits : Limits) (capacities : List ℕ) (bodies : ℕ)
   pub legal : IsLegal limits bodies capacities history last
   pub outcome : last.outcome ≡ Some ended.outcome
   pub entries : length history ≡ ended.entries
+  pub within : AreLimits limits bodies capacities
+
+-- The sink took these pieces, which in order are a legal run, from the opening under these limits, with these capacities and so many bodies, that
+-- has this outcome and as many entries.
+pub record IsOfPieces {S : Type 0} (takes : S → List Entry → S → Type 0) (limits : Limits) (capacities : List ℕ) (bodies : ℕ) (began : S) (ended : Ended) (sink : S) : Type 0 where
+  pub pieces : List (List Entry)
+  pub taken : TakesAll takes began pieces sink
+  pub last : State
+  pub legal : IsLegal limits bodies capacities (joined pieces) last
+  pub outcome : last.outcome ≡ Some ended.outcome
+  pub entries : length (joined pieces) ≡ ended.entries
   pub within : AreLimits limits bodies capacities

@@ -14,8 +14,8 @@ use thiserror::Error;
 #[derive(Clone, Copy, Debug, PartialEq, Eq)]
 pub struct Ended {
     pub outcome: Outcome,
-    /// How many entries its history has.
-    pub entries: usize,
+    /// How many entries its history has, those with it that a sink took.
+    pub entries: u64,
     /// The goroutine that was the first to get an answer that made no sense to it.
     pub lost: Option<Lost>,
 }
@@ -57,6 +57,8 @@ pub enum Short {
     Mismatch,
     #[error("a goroutine was boxed and not pushed")]
     NotPushed,
+    #[error("its sink stopped it")]
+    Stopped,
 }
 
 impl From<AllocError> for Short {

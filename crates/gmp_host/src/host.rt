@@ -1,8 +1,10 @@
 //! A host's goroutines and channels, and their run.
-ghost use Rattle.std.specs.Prelude.{◌≡◌, ◌++◌, ◌∷◌, [], IfErr, IfOk, OnErr, OnOk, Some, length};
+ghost use Rattle.std.specs.Prelude.{◌≡◌, ◌≢◌, ◌++◌, ◌∷◌, ◌<◌, ◌^◌, [], IfErr, IfOk, OnErr, OnOk, Some, length};
+ghost use Rattle.gmp_turn.specs.Whole.{IsWholeRun};
 ghost use Rattle.gmp_seq.specs.Fits.{AreLimits};
-ghost use Rattle.gmp_host.specs.Ends.{IsOfLegalRun};
+ghost use Rattle.gmp_host.specs.Ends.{IsOfLegalRun, IsOfPieces};
 ghost use Rattle.gmp_host.specs.Openings.{limits_of};
+ghost use Rattle.gmp_run.specs.Counts.{all_calls};
 
 use crate::channel::Channel;
 use crate::clock::Since;
@@ -13,8 +15,8 @@ use crate::settings::Settings;
 use crate::stamps::Stamps;
 use crate::table::play_all;
 use gmp_base::{CNo, GNo};
-use gmp_run::{Clock, Gate, Open, run};
-use gmp_worker::{Boxed, audit};
+use gmp_run::{Clock, Gate, Open, Sink, run, run_into};
+use gmp_worker::{Boxed, PassLog, audit};
 use std::alloc::Global;
 use std::sync::{Arc, Mutex, Wait};
 use std::thread::Threads;
@@ -43,6 +45,14 @@ pub struct Host {
 /// Which goroutine was lost first, if one was.
 fn first(loss: &Loss) -> Option<Lost> {
     *loss.try_lock()?
+}
+
+/// How many calls all machines made.
+fn made(logs: &[PassLog]) -> u64
+    requires few { all_calls logs.now < 2 ^ 64 }
+    ensures { result ≡ all_calls logs.now }
+{
+    logs.iter().map(|log| log.calls).sum()
 }
 
 impl Host {
@@ -118,11 +128,11 @@ impl Host {
         u64::try_from(self.bodies.len()) == Ok(self.boxed.get())
     }
 
-    /// Runs the goroutines by a core in this thread, the same every time.
+    /// Runs the goroutines by a core in this thread, the same every time. All entries have to be kept.
     pub fn step(self) -> Result<Ended, Short>
         ensures ended { IfOk result (IsOfLegalRun (limits_of self.settings) self.capacities.items (length self.bodies.items)) }
         ensures limits { IfErr result (λ e. e ≡ Short.BadLimits
-            → AreLimits (limits_of self.settings) (length self.bodies.items) self.capacities.items → ⊥) }
+            → IsWholeRun (limits_of self.settings) (length self.bodies.items) self.capacities.items → ⊥) }
     {
         if !self.is_pushed() {
             return Err(Short::NotPushed);
@@ -145,11 +155,11 @@ impl Host {
     }
 
     /// Runs the goroutines by machines in threads, until the run is over and each thread has ended. Who goes first is the threads' own
-    /// affair.
+    /// affair. All entries have to be kept.
     pub fn run<R: Threads + Wait + time::Clock + Sync>(self, rt: &R) -> Result<Ended, Short>
         ensures ended { IfOk result (IsOfLegalRun (limits_of self.settings) self.capacities.items (length self.bodies.items)) }
         ensures limits { IfErr result (λ e. e ≡ Short.BadLimits
-            → AreLimits (limits_of self.settings) (length self.bodies.items) self.capacities.items → ⊥) }
+            → IsWholeRun (limits_of self.settings) (length self.bodies.items) self.capacities.items → ⊥) }
     {
         let clock = Since::now(rt);
         self.run_by(rt, &clock, &Open)
@@ -164,7 +174,7 @@ impl Host {
     ) -> Result<Ended, Short>
         ensures ended { IfOk result (IsOfLegalRun (limits_of self.settings) self.capacities.items (length self.bodies.items)) }
         ensures limits { IfErr result (λ e. e ≡ Short.BadLimits
-            → AreLimits (limits_of self.settings) (length self.bodies.items) self.capacities.items → ⊥) }
+            → IsWholeRun (limits_of self.settings) (length self.bodies.items) self.capacities.items → ⊥) }
     {
         if !self.is_pushed() {
             return Err(Short::NotPushed);
@@ -204,9 +214,73 @@ impl Host {
             return Err(Short::Mismatch);
         }
         Ok(Ended {
-            outcome: report.outcome,
-            entries: report.history.len(),
+            outcome: report.outcome.unwrap(),
+            entries: report.history.len() as u64,
             lost: first(&loss),
         })
+    }
+
+    /// Runs the goroutines as `run` does, and hands the history to the sink piece by piece, the last piece when the run is over. No more
+    /// entries are kept at a time than the settings say. The sink comes back, also where the run was not begun. One that does not take a piece
+    /// stops the run, which is `Stopped` then: the entries that it left go with the run, where `run_into` of gmp_run hands them back.
+    pub fn run_into<R: Threads + Wait + time::Clock + Sync, S: Sink + Send>(
+        self,
+        rt: &R,
+        sink: S,
+    ) -> (Result<Ended, Short>, S)
+        ensures ended { IfOk result.0 (λ e. IsOfPieces S.takes (limits_of self.settings) self.capacities.items (length self.bodies.items) sink e result.1) }
+        ensures limits { IfErr result.0 (λ e. e ≡ Short.BadLimits
+            → AreLimits (limits_of self.settings) (length self.bodies.items) self.capacities.items → ⊥) }
+        ensures unused { IfErr result.0 (λ e. e ≢ Short.Stopped → result.1 ≡ sink) }
+    {
+        if !self.is_pushed() {
+            return (Err(Short::NotPushed), sink);
+        }
+        let clock = Since::now(rt);
+        let Host {
+            alloc,
+            settings,
+            capacities,
+            bodies,
+            loss,
+            shown,
+            is_timed,
+            ..
+        } = self;
+        let gate = Stamps {
+            clock: &clock,
+            shown: &shown,
+            is_read: is_timed,
+            gate: &Open,
+        };
+        let (ran, mut sink) = run_into(
+            rt,
+            alloc,
+            RUN,
+            settings.limits(),
+            capacities.as_slice(),
+            bodies,
+            &clock,
+            &gate,
+            settings.random,
+            sink,
+        );
+        let report = match ran {
+            Ok(report) => report,
+            Err(unrun) => return (Err(unrun.why.into()), sink),
+        };
+        let mut history = report.history;
+        let Some(outcome) = report.outcome else {
+            return (Err(Short::Stopped), sink);
+        };
+        if sink.take(&mut history).is_err() {
+            return (Err(Short::Stopped), sink);
+        }
+        let ended = Ended {
+            outcome,
+            entries: made(&report.logs),
+            lost: first(&loss),
+        };
+        (Ok(ended), sink)
     }
 }

@@ -1,7 +1,8 @@
 //! For a program that embeds the runtime: goroutines, channels and selects of its own, run by machines in threads or by a core.
 //!
 //! A `Host` takes the goroutines, the first of which is main, and runs them: `run` by machines in threads, `step` in one thread, the same
-//! every time. Both tell how it `Ended`, as a legal run from the opening ended.
+//! every time. Both tell how it `Ended`, as a legal run from the opening ended. `run_into` runs them for as long as they like, and hands the
+//! history to a `Sink` piece by piece.
 //!
 //! A goroutine is a `Goroutine`: a state machine without clauses. `Go` makes a body of it, whose clauses say nothing, and notes where it
 //! was lost. Boxes are made where the goroutine's type is known: no function hands out a box of a type parameter. So `Host::boxed` gives a
@@ -24,7 +25,8 @@ pub use clock::Since;
 pub use ending::{Ended, Lost, Short};
 pub use gmp_base::{Ask, CNo, Case, Cases, Fault, GNo, MNo, Woke};
 pub use gmp_driver::Act;
-pub use gmp_run::{Clock, Gate, MOST_REST, Open};
+pub use gmp_history::History;
+pub use gmp_run::{Clock, Gate, MOST_REST, Open, Sink, Stop};
 pub use gmp_seq::Outcome;
 pub use goroutine::{Go, Goroutine, Nonsense};
 pub use host::Host;

@@ -1,5 +1,5 @@
 //! How a host runs.
-ghost use Rattle.std.specs.Prelude.{◌≡◌};
+ghost use Rattle.std.specs.Prelude.{◌≡◌, min};
 ghost use Rattle.gmp_host.specs.Openings.{limits_of};
 
 use gmp_seq::Limits;
@@ -13,22 +13,26 @@ pub struct Settings {
     pub machines: u8,
     /// How many channels there may be, with those that are made: at most 1024.
     pub channels: u16,
-    /// How many calls a run may make before it ends, its book full: 16 to 1,000,000. Memory for all is taken at the start.
-    pub entries: u32,
+    /// How many calls a run may make before it ends, its book full: 16 to 2^63 - 1.
+    pub entries: u64,
+    /// How many of them are kept at a time: 16 to 1,000,000, for which memory is taken at the start. A run of more entries hands them to a
+    /// sink, by `Host::run_into`.
+    pub room: u32,
     /// The words that choose among cases and victims are drawn from it on.
     pub random: u64,
 }
 
 impl Default for Settings {
-    /// Four processors, six machines, 64 channels, 200,000 entries, and words from 0 on.
+    /// Four processors, six machines, 64 channels, 200,000 entries, all of which are kept, and words from 0 on.
     fn default() -> Self
-        ensures { result ≡ record { procs = 4; machines = 6; channels = 64; entries = 200000; random = 0 } }
+        ensures { result ≡ record { procs = 4; machines = 6; channels = 64; entries = 200000; room = 1000000; random = 0 } }
     {
         Settings {
             procs: 4,
             machines: 6,
             channels: 64,
             entries: 200_000,
+            room: 1_000_000,
             random: 0,
         }
     }
@@ -36,7 +40,7 @@ impl Default for Settings {
 
 impl Settings {
     /// The limits of a run.
-    pub(crate) fn limits(self) -> Limits
+    pub fn limits(self) -> Limits
         ensures { result ≡ limits_of self }
     {
         Limits {
@@ -44,6 +48,7 @@ impl Settings {
             machines: self.machines,
             channels: self.channels,
             entries: self.entries,
+            room: self.entries.min(u64::from(self.room)) as u32,
         }
     }
 }

@@ -1,6 +1,6 @@
 //! A run by a core: one thread makes the acts of all machines, which take turns.
 ghost use Rattle.std.specs.Prelude.{◌≡◌, IfErr, IfOk, IfSome, length};
-ghost use Rattle.gmp_seq.specs.Fits.{AreLimits};
+ghost use Rattle.gmp_turn.specs.Whole.{IsWholeRun};
 ghost use Rattle.gmp_acts.specs.Headline.{SameOpening};
 ghost use Rattle.gmp_host.specs.Ends.{IsOfLegalRun};
 
@@ -106,7 +106,7 @@ impl<T: InHand> Table<'_, T> {
             self.now.core.system.book.bodies) }
     {
         let outcome = self.core.outcome()?;
-        let entries = self.core.history().len();
+        let entries = self.core.history().len() as u64;
         Some(Ended {
             outcome,
             entries,
@@ -142,7 +142,7 @@ pub(crate) fn play_all<T: InHand>(
     shown: &Note,
 ) -> Result<Ended, Short>
     ensures ended { IfOk result (IsOfLegalRun limits capacities.now (length bodies.items)) }
-    ensures limits { IfErr result (λ e. e ≡ Short.BadLimits → AreLimits limits (length bodies.items) capacities.now → ⊥) }
+    ensures limits { IfErr result (λ e. e ≡ Short.BadLimits → IsWholeRun limits (length bodies.items) capacities.now → ⊥) }
 {
     let core = match Core::open(alloc, RUN, limits, capacities, bodies) {
         Ok(core) => core,

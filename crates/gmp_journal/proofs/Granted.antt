@@ -1,5 +1,5 @@
 -- Where no line refuses a call, and its values suit it, it is granted.
-use Rattle.gmp_journal.proofs.Common.{◌≡◌, ℕ, ◌+◌, ◌^◌, ◌<◌, ◌≤◌, Bool, true, false, Option, None, Some, List, [], ◌∷◌, ◌++◌, length, slice_get, refl, sym, ap, subst, inl, inr, ◌∙◌, arith, GNo, PNo, Pass, Call, Outcome, Reply, Goroutine, Mode, IsInOrder, IsAwake, IsParked, State, IsCalling, IsRunning, RunsNothing, is_running_on, some_status, status_at, Handed, Grants, Suits, goroutine_in, processor_in, Log, entries_made, IsAllowed, IsCurrent}
+use Rattle.gmp_journal.proofs.Common.{◌≡◌, ℕ, ◌+◌, ◌^◌, ◌<◌, ◌≤◌, Bool, true, false, Option, None, Some, [], ◌∷◌, ◌++◌, length, slice_get, refl, sym, ap, subst, inl, inr, ◌∙◌, arith, GNo, PNo, Pass, Call, Outcome, Reply, Goroutine, Mode, IsInOrder, IsAwake, IsParked, State, IsCalling, IsRunning, RunsNothing, is_running_on, some_status, status_at, Handed, Grants, Suits, goroutine_in, processor_in, Log, entries_made, IsAllowed, IsCurrent}
 use Rattle.std.proofs.Common.{◌⊎◌, sum, slice_index, slice_set, get_or}
 use Rattle.std.specs.Prelude.{IfNone}
 use Rattle.gmp_seq.specs.declared.call.Call.TheVariants as call
@@ -14,7 +14,6 @@ use Rattle.gmp_seq.specs.Fits.{Fits}
 use Rattle.gmp_seq.specs.Laws.{HasSizes}
 use Rattle.gmp_seq.specs.Run.{IsLegal, Run}
 use Rattle.gmp_seq.specs.Step.{Effect, Step, counted_one}
-use Rattle.gmp_seq.proofs.Counts.{sum_after}
 use Rattle.gmp_seq.proofs.InOrder.{legal_in_order}
 use Rattle.gmp_seq.proofs.Manned.{status_of}
 use Rattle.gmp_seq.proofs.Needed.{some_place}
@@ -22,57 +21,62 @@ use Rattle.gmp_seq.proofs.Runs.{run_join}
 use Rattle.gmp_seq.proofs.Sizes.{legal_sizes}
 use Rattle.gmp_journal.specs.Kept.{IsJournal}
 use Rattle.gmp_journal.specs.Scene.{IsYoung}
+use Rattle.gmp_journal.specs.Segments.{IsPart}
 use Rattle.gmp_goroutines.proofs.Ties.{running_on}
 use Rattle.gmp_journal.specs.Laws.{NeedsOf}
 use Rattle.gmp_journal.proofs.Needed.{needs_of, not_false, out_test}
 use Rattle.gmp_seq.specs.State.{opening}
 
 -- all entries since the opening lead to the present state
-pub since_opening : (log : Log) (space : ℕ) → (kept : IsJournal log space) → IsLegal log.limits log.bodies log.capacities (kept.before ++ log.history) log.state
-since_opening log space kept = run_join log.limits (opening log.limits log.bodies log.capacities) log.start log.state kept.before log.history kept.start kept.legal
+pub since_opening : (log : Log) (part : IsPart log) → IsLegal log.limits log.bodies log.capacities (part.before ++ log.history) log.state
+since_opening log part = run_join log.limits (opening log.limits log.bodies log.capacities) part.start log.state part.before log.history part.led part.run
 
-pub sizes : (log : Log) (space : ℕ) → IsJournal log space → HasSizes log.limits log.bodies log.state
-sizes log space kept = legal_sizes log.limits log.bodies log.capacities (kept.before ++ log.history) log.state kept.within (since_opening log space kept)
+pub sizes : (log : Log) → IsPart log → HasSizes log.limits log.bodies log.state
+sizes log part = legal_sizes log.limits log.bodies log.capacities (part.before ++ log.history) log.state part.within (since_opening log part)
 
-pub in_order : (log : Log) (space : ℕ) → IsJournal log space → IsInOrder log.limits log.state
-in_order log space kept = legal_in_order log.limits log.bodies log.capacities (kept.before ++ log.history) log.state kept.within (since_opening log space kept)
+pub in_order : (log : Log) → IsPart log → IsInOrder log.limits log.state
+in_order log part = legal_in_order log.limits log.bodies log.capacities (part.before ++ log.history) log.state part.within (since_opening log part)
 
 -- while the run lasts another entry fits
-pub ongoing_room : (old now : Log) (space : ℕ) (o : Option Outcome) → old ≡ now → IsJournal old space → old.state.outcome ≡ o → IfNone o (entries_made now < now.limits.entries)
-ongoing_room old now space (Some how) is kept lasts = tt
-ongoing_room old now space None is kept lasts = subst (λ (l : Log). entries_made l < l.limits.entries) is ((in_order old space kept).together.ongoing lasts)
+pub ongoing_room : (old now : Log) (o : Option Outcome) → old ≡ now → IsPart old → old.state.outcome ≡ o → IfNone o (entries_made now < now.limits.entries)
+ongoing_room old now (Some how) is part lasts = tt
+ongoing_room old now None is part lasts = subst (λ (l : Log). entries_made l < l.limits.entries) is ((in_order old part).together.ongoing lasts)
 
-module _ (log : Log) (space : ℕ) (pass : Pass) (kept : IsJournal log space) (current : IsCurrent log pass) where
+module _ (log : Log) (space lasting : ℕ) (pass : Pass) (kept : IsJournal log space lasting) (current : IsCurrent log pass) where
   -- the run is longer by one step
-  pub kept_on : (call : Call) (reply : Reply) (between : State) (last : Entry) (now : Log) (space' : ℕ) → Effect log.limits pass.m call reply log.state (counted_one log.limits pass.m reply between) → between.counts ≡ log.state.counts
+  pub kept_on : (call : Call) (reply : Reply) (between : State) (last : Entry) (now : Log) (space' lasting' : ℕ) → length log.history < log.limits.room → Effect log.limits pass.m call reply log.state (counted_one log.limits pass.m reply between) → between.counts ≡ log.state.counts
       → last ≡ record { m = pass.m; k = pass.calls; call = call; reply = reply } → Fits last
-      → now ≡ record log { history = log.history ++ last ∷ []; state = counted_one log.limits pass.m reply between; shelf = now.shelf } → space' ≡ space → IsJournal now space'
-  kept_on call reply between last now space' done counts is last_fits now_is same =
+      → now ≡ record log { history = log.history ++ last ∷ []; state = counted_one log.limits pass.m reply between; shelf = now.shelf } → space' ≡ space → lasting' ≡ lasting → IsJournal now space' lasting'
+  kept_on call reply between last now space' lasting' free done counts is last_fits now_is same same' =
+      let part = kept.part in
       let e : Entry = record { m = pass.m; k = slice_index log.state.counts pass.m.0; call = call; reply = reply } in
       let last_is : last ≡ e = rw (← current.turn) is in
-      let counted : pass.m.0 < length log.state.counts = omega (arith, current.machine, (sizes log space kept).counts) in
+      let counted : pass.m.0 < length log.state.counts = omega (arith, current.machine, (sizes log part).counts) in
       let number : slice_get log.state.counts pass.m.0 ≡ Some e.k = slice_get-get_or log.state.counts pass.m.0 0 counted in
       let state = counted_one log.limits pass.m reply between in
       let counts_are : state.counts ≡ slice_set log.state.counts pass.m.0 (e.k + 1) = rw counts refl in
       let step : Step log.limits pass.m call reply log.state state = (current.lasts, done, counts_are, refl) in
       let one : Run log.limits log.state (e ∷ []) state = (state, (number, step), refl) in
-      let run = run_join log.limits log.start log.state state log.history (e ∷ []) kept.legal one in
-      let made : sum state.counts ≡ entries_made log + 1 = ap (λ (l : List ℕ). sum l) counts_are ∙ sum_after log.state.counts pass.m.0 e.k number in
       let longer = length-append log.history (e ∷ []) in
-      rw (now_is, last_is, same) (record {
-        before = kept.before;
-        start = kept.start;
-        before_fits = kept.before_fits;
-        legal = run;
-        fits = All-append Fits log.history (e ∷ []) kept.fits (All-cons Fits e [] (subst Fits last_is last_fits) (All-nil Fits));
-        within = kept.within;
-        room = omega (arith, kept.room, made, longer);
+      rw (now_is, last_is, same, same') (record {
+        part = record {
+          before = part.before;
+          start = part.start;
+          led = part.led;
+          before_fits = part.before_fits;
+          run = run_join log.limits part.start log.state state log.history (e ∷ []) part.run one;
+          fits = All-append Fits log.history (e ∷ []) part.fits (All-cons Fits e [] (subst Fits last_is last_fits) (All-nil Fits));
+          within = part.within;
+        };
+        few = omega (arith, free, longer);
+        room = kept.room;
+        lasts = kept.lasts;
       })
 
   -- a machine that is in no blocking call is awake or parked
   here : (slice_get log.state.machines.modes pass.m.0 ≡ Some mode.Calling → ⊥) → IsAwake log.state.machines pass.m ⊎ IsParked log.state.machines pass.m
   here free = by_mode (get_or log.state.machines.modes pass.m.0 mode.Awake)
-      (slice_get-get_or log.state.machines.modes pass.m.0 mode.Awake (omega (arith, current.machine, (sizes log space kept).modes))) where
+      (slice_get-get_or log.state.machines.modes pass.m.0 mode.Awake (omega (arith, current.machine, (sizes log kept.part).modes))) where
         by_mode : (x : Mode) → slice_get log.state.machines.modes pass.m.0 ≡ Some x → IsAwake log.state.machines pass.m ⊎ IsParked log.state.machines pass.m
         by_mode mode.Awake at = inl at
         by_mode mode.Parked at = inr at
@@ -87,7 +91,7 @@ module _ (log : Log) (space : ℕ) (pass : Pass) (kept : IsJournal log space) (c
         let place = some_place (λ (x : Goroutine). is_running_on pass.m x.status) log.state.table.goroutines h in
         let k : GNo = record { 0 = place.0 } in
         let runs : IsRunning log.state.table k pass.m = ap status_of place.2 ∙ ap Some (running_on pass.m place.1.status place.3) in
-        let same : k ≡ g = (in_order log space kept).together.one_goroutine pass.m k g (inl runs) (inr calls) in
+        let same : k ≡ g = (in_order log kept.part).together.one_goroutine pass.m k g (inl runs) (inr calls) in
         let both : Some (status.Running pass.m) ≡ Some (status.Calling pass.m) = sym runs ∙ subst (λ (h : GNo). status_at log.state.table h ≡ Some (status.Calling pass.m)) (sym same) calls in
         absurd cc
 
@@ -95,8 +99,8 @@ module _ (log : Log) (space : ℕ) (pass : Pass) (kept : IsJournal log space) (c
   met : (g : GNo) (p : PNo) (asked : Call) → NeedsOf pass.m g p asked log.state → Grants pass.m g p asked log.state
   met g p (call.Put r) (awake, out) = (awake, not_false _ (out_test log.state.table r out))
   met g p (call.Claim r) (free, holds, out) = (free, holds, not_false _ (out_test log.state.table r out))
-  met g p call.Enter (runs, holds) = (runs, holds, ((in_order log space kept).together.runner g pass.m runs).0)
-  met g p (call.Leave number) calls = (calls, caller_free g calls, ((in_order log space kept).together.caller pass.m).0 (g, calls))
+  met g p call.Enter (runs, holds) = (runs, holds, ((in_order log kept.part).together.runner g pass.m runs).0)
+  met g p (call.Leave number) calls = (calls, caller_free g calls, ((in_order log kept.part).together.caller pass.m).0 (g, calls))
   met g p call.Woken free = here free
   met g p _ needs = needs
 
@@ -112,27 +116,30 @@ pub record MayGo (log : Log) (space : ℕ) (pass : Pass) (asked : Call) (values 
   pub young : IsYoung log.state
   pub counted : pass.m.0 < length log.state.counts
   pub few : entries_made log < 2 ^ 63
+  pub free : length log.history < log.limits.room
   pub room : length log.history < space
   pub calls : pass.calls < 2 ^ 63
 
-pub may_go : (old now : Log) (space : ℕ) (pass : Pass) (asked : Call) (values : Handed) → old ≡ now → IsJournal old space → Suits asked values → IsAllowed now pass asked values
+pub may_go : (old now : Log) (space lasting : ℕ) (pass : Pass) (asked : Call) (values : Handed) → old ≡ now → IsJournal old space lasting → Suits asked values → IsAllowed now pass asked values
     → MayGo old space pass asked values
-may_go old now space pass asked values is kept suits allowed =
+may_go old now space lasting pass asked values is kept suits allowed =
     let may = subst (λ (l : Log). IsAllowed l pass asked values) (sym is) allowed in
-    let order = in_order old space kept in
+    let part = kept.part in
+    let order = in_order old part in
     let more : entries_made old < old.limits.entries = order.together.ongoing may.current.lasts in
-    let few : entries_made old < 2 ^ 63 = omega (arith, more, kept.within.entries.1) in
-    let counted : pass.m.0 < length old.state.counts = omega (arith, may.current.machine, (sizes old space kept).counts) in
+    let few : entries_made old < 2 ^ 63 = omega (arith, more, part.within.entries.1) in
+    let counted : pass.m.0 < length old.state.counts = omega (arith, may.current.machine, (sizes old part).counts) in
     let most : slice_index old.state.counts pass.m.0 ≤ sum old.state.counts = get_or-le-sum_by (λ (n : ℕ). n) old.state.counts pass.m.0 0 counted in
     record {
       current = may.current;
-      grants = granted old space pass kept may.current asked values suits may;
+      grants = granted old space lasting pass kept may.current asked values suits may;
       young = record {
-        epochs = λ g. omega (arith, order.together.epochs g, order.together.entries, kept.within.entries.1);
-        arrivals = omega (arith, order.together.arrivals, order.together.entries, kept.within.entries.1);
+        epochs = λ g. omega (arith, order.together.epochs g, more, part.within.entries.1);
+        arrivals = omega (arith, order.together.arrivals, few);
       };
       counted = counted;
       few = few;
-      room = omega (arith, more, kept.room);
+      free = may.room;
+      room = omega (arith, may.room, kept.room);
       calls = omega (arith, most, few, may.current.turn);
     }

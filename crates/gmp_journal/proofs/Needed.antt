@@ -1,5 +1,5 @@
 -- A call by a pass that may call, with values of the run, is granted exactly where its needs are met.
-use Rattle.gmp_journal.proofs.Common.{◌≡◌, ◌↔◌, ℕ, ◌==◌, Bool, true, false, not, ◌||◌, ◌&&◌, is_some, Option, None, Some, ◌++◌, slice_get, refl, sym, ap, ◌∙◌, arith, eq-eqb, eqb-true, false≢true, or_parts, option_map_or, GNo, MNo, PNo, Readiness, Pass, Call, Goroutine, Mode, Status, Holds, IsAwake, State, Table, IsCalling, IsRunning, is_calling_on, is_running_on, status_at, Handed, Suits, goroutine_in, names_other, processor_in, Log, entries_made, IsCurrent, need_lines, turn_lines}
+use Rattle.gmp_journal.proofs.Common.{◌≡◌, ◌↔◌, ℕ, ◌<◌, ◌==◌, Bool, true, false, not, ◌||◌, ◌&&◌, is_some, Option, None, Some, ◌++◌, length, slice_get, refl, sym, ap, ◌∙◌, arith, eq-eqb, eqb-true, false≢true, or_parts, option_map_or, GNo, MNo, PNo, Readiness, Pass, Call, Goroutine, Mode, Status, Holds, IsAwake, State, Table, IsCalling, IsRunning, is_calling_on, is_running_on, status_at, Handed, Suits, goroutine_in, names_other, processor_in, Log, entries_made, IsCurrent, need_lines, turn_lines}
 use Rattle.std.proofs.Common.{nat_lt, nat_le}
 use Rattle.std.proofs.lemmas.Bool.Decides.{nat_tests}
 use Rattle.gmp_seq.specs.declared.call.Call.TheVariants as call
@@ -11,8 +11,8 @@ use Rattle.gmp_seq.specs.Table.{is_out, is_outstanding}
 use Rattle.gmp_table.proofs.Moves.{given_out}
 use Rattle.gmp_journal.specs.Handed.{held_handed}
 use Rattle.gmp_journal.specs.Laws.{NeedsOf}
-use Rattle.gmp_journal.specs.Log.{calls_of}
-use Rattle.gmp_journal.specs.Refusals.{calls_some, is_anothers, is_awake, is_busy, is_foreign, is_spent, lacks_processor, refusal_of}
+use Rattle.gmp_journal.specs.Log.{calls_of, is_over}
+use Rattle.gmp_journal.specs.Refusals.{calls_some, is_anothers, is_awake, is_busy, is_foreign, is_spent, lacks_processor, refusal_of, room_lines}
 use Rattle.gmp_journal.proofs.Lines.{none_holds, none_refuses}
 
 -- Tests, and where they fail
@@ -129,21 +129,23 @@ pub own_run : (run : ℕ) → not (run == run) ≡ false
 own_run run = ap not (eq-eqb run run refl)
 
 -- no line refuses exactly where none on the state does
-lines_of : (log : Log) (pass : Pass) (asked : Call) (values : Handed) → pass.run ≡ log.run → IsCurrent log pass → names_other log.run values ≡ false
+lines_of : (log : Log) (pass : Pass) (asked : Call) (values : Handed) → pass.run ≡ log.run → IsCurrent log pass → length log.history < log.limits.room → names_other log.run values ≡ false
     → (refusal_of log pass asked values ≡ None) ↔ NoneRefuses log.state pass.m asked values
-lines_of log pass asked values run current ours =
-    let lines = turn_lines log pass values ++ need_lines log.state pass.m asked values in
+lines_of log pass asked values run current room ours =
+    let lines = turn_lines log pass values ++ need_lines log.state pass.m asked values ++ room_lines log in
     let same = λ (n k : ℕ) (e : n ≡ k). ap not (eq-eqb n k e) in
     let there : nat_le log.limits.machines pass.m.0 ≡ false = (let within = current.machine in grind (arith, nat_tests, within)) in
     let seen : nat_lt (entries_made log) pass.seen ≡ false = (let most = current.seen in grind (arith, nat_tests, most)) in
+    let free : nat_le log.limits.room (length log.history) ≡ false = grind (arith, nat_tests, room) in
+    let over : is_over log ≡ false = rw (current.lasts, current.goes_on) refl in
     let foreign : is_foreign log pass values ≡ false = rw (same pass.run log.run run, there, ours) refl in (
       λ e. let needs = (none_holds lines e).1.1.1.1 in (needs.0, needs.1.0, needs.1.1.0, needs.1.1.1.0),
-      λ h. none_refuses lines (foreign, (same pass.calls (calls_of log pass.m) current.turn, (seen, (ap is_some current.lasts, (h.0, (h.1, (h.2, (h.3, tt)))))))),
+      λ h. none_refuses lines (foreign, (same pass.calls (calls_of log pass.m) current.turn, (seen, (over, (h.0, (h.1, (h.2, (h.3, (free, tt))))))))),
     )
 
-pub granted_where : (log : Log) (pass : Pass) (asked : Call) (values : Handed) → pass.run ≡ log.run → IsCurrent log pass → Suits asked values → names_other log.run values ≡ false
+pub granted_where : (log : Log) (pass : Pass) (asked : Call) (values : Handed) → pass.run ≡ log.run → IsCurrent log pass → length log.history < log.limits.room → Suits asked values → names_other log.run values ≡ false
     → (refusal_of log pass asked values ≡ None) ↔ NeedsOf pass.m (goroutine_in values) (processor_in values) asked log.state
-granted_where log pass asked values run current suits ours =
-    let lines = lines_of log pass asked values run current ours in
+granted_where log pass asked values run current room suits ours =
+    let lines = lines_of log pass asked values run current room ours in
     let needs = needs_of log.state pass.m asked values suits in
     (λ e. needs.0 (lines.0 e), λ h. lines.1 (needs.1 h))

@@ -8,11 +8,12 @@ use Rattle.gmp_seq.specs.declared.call.Call.{Call}
 use Rattle.gmp_seq.specs.declared.call.Call.TheVariants as call
 use Rattle.gmp_seq.specs.declared.call.Reply.{Reply}
 use Rattle.gmp_seq.specs.declared.call.Reply.TheVariants as reply
+use Rattle.gmp_seq.specs.declared.status.Goroutine.{Goroutine}
 use Rattle.gmp_seq.specs.declared.status.Mode.TheVariants as mode
 use Rattle.gmp_seq.specs.Machines.{Holds, IsAwake, IsBare, IsParked, has_processor, is_parked_mode, spins}
 use Rattle.gmp_seq.specs.State.{State}
 use Rattle.gmp_seq.specs.Step.{IsFree}
-use Rattle.gmp_seq.specs.Table.{IsCalling, IsRunning, RunsNothing, is_outstanding}
+use Rattle.gmp_seq.specs.Table.{IsCalling, IsRunning, RunsNothing, is_outstanding, is_startable}
 use Rattle.gmp_journal.specs.declared.handed.Handed.{Handed}
 use Rattle.gmp_journal.specs.Handed.{nothing_handed, ticket_handed, held_handed, held_and_proc_handed, called_handed, proc_handed}
 use Rattle.gmp_goroutines.specs.Choice.{IsChoice}
@@ -66,11 +67,12 @@ Grants m g p _ s = IsRunning s.table g m
 -- The code's choice
 
 -- Where the scheduler leaves a choice: an idle processor is the least, a ticket is that of the goroutine that is on the shelf for
--- longest, a parked machine that wakes is the least, and of a select's cases the word chooses.
+-- longest, a spawn starts the least that is dormant or dead, a parked machine that wakes is the least, and of a select's cases the word chooses.
 abbrev pub Chooses : Call → ℕ → Reply → State → List GNo → Type 0
 Chooses call.Acquire word (reply.Proc p) s shelf = position is_none s.machines.holders ≡ Some p.0
 Chooses (call.Leave number) word (reply.Runs p) s shelf = position is_none s.machines.holders ≡ Some p.0
 Chooses call.Take word (reply.Ticket r) s shelf = slice_get shelf 0 ≡ Some r.g
+Chooses call.Spawn word (reply.Ticket r) s shelf = position (λ (x : Goroutine). is_startable x.status) s.table.goroutines ≡ Some r.g.0
 Chooses call.Enter word (reply.Entered p (Some n)) s shelf = position is_parked_mode s.machines.modes ≡ Some n.0
 Chooses call.Poke word (reply.Wakes n) s shelf = position is_parked_mode s.machines.modes ≡ Some n.0
 Chooses (call.Select cases has_default until) word answer s shelf = IsChoice s cases word answer

@@ -1,9 +1,7 @@
--- The run that a journal's parts make. It starts at the state that was kept, or else at the opening.
-use Rattle.gmp_seq.specs.State.{opening}
+-- The run that a journal's parts make.
 use Rattle.gmp_journal.specs.declared.journal.Journal.TheInside.{Inside}
 use Rattle.gmp_journal.specs.Log.{Log}
 use Rattle.gmp_journal.specs.Scene.{scheduler_state}
-use Rattle.gmp_journal.specs.Segments.{kept_state}
 
 abbrev pub log_of : Inside → Log
 log_of l = record {
@@ -11,8 +9,8 @@ log_of l = record {
   limits = l.limits;
   bodies = l.bodies;
   capacities = l.capacities.items;
-  start = kept_state l.kept (opening l.limits l.bodies l.capacities.items);
   history = l.entries.list;
   state = scheduler_state l.scheduler;
   shelf = l.scheduler.goroutines.shelf;
+  stopped = l.stopped;
 }

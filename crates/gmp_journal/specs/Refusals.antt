@@ -1,5 +1,5 @@
 -- When a call is refused, and why.
-use Rattle.std.specs.Prelude.{◌≡◌, ◌⊎◌, ℕ, ◌==◌, ◌<◌, ◌≤◌, Bool, false, not, ◌||◌, if◌then◌else◌, nat_lt, nat_le, is_some, List, [], ◌∷◌, ◌++◌, slice_get, Option, Some, None, Result, Ok, Err}
+use Rattle.std.specs.Prelude.{◌≡◌, ◌⊎◌, ℕ, ◌==◌, ◌<◌, ◌≤◌, Bool, false, not, ◌||◌, if◌then◌else◌, nat_lt, nat_le, List, [], ◌∷◌, ◌++◌, length, slice_get, Option, Some, None, Result, Ok, Err}
 use Rattle.std.specs.Option.{option_map_or}
 use Rattle.gmp_base.specs.declared.number.GNo.{GNo}
 use Rattle.gmp_base.specs.declared.number.MNo.{MNo}
@@ -7,7 +7,7 @@ use Rattle.gmp_base.specs.declared.number.PNo.{PNo}
 use Rattle.gmp_base.specs.declared.number.Readiness.{Readiness}
 use Rattle.gmp_base.specs.declared.pass.Pass.{Pass}
 use Rattle.gmp_base.specs.declared.refusal.Refusal.{Refusal}
-use Rattle.gmp_base.specs.declared.refusal.Refusal.TheVariants.{Over, WrongRun, OutOfTurn, Behind, NotOutstanding, NoProcessor, Busy, NotHeld, OutOfMemory}
+use Rattle.gmp_base.specs.declared.refusal.Refusal.TheVariants.{Over, WrongRun, OutOfTurn, Behind, NotOutstanding, NoProcessor, Busy, NotHeld, OutOfMemory, Full}
 use Rattle.gmp_base.specs.declared.refusal.Refused.{Refused}
 use Rattle.gmp_seq.specs.declared.call.Call.{Call}
 use Rattle.gmp_seq.specs.declared.call.Call.TheVariants as call
@@ -16,7 +16,7 @@ use Rattle.gmp_seq.specs.State.{State}
 use Rattle.gmp_seq.specs.Table.{is_calling_on, is_outstanding, is_running_on, some_status, status_at}
 use Rattle.gmp_journal.specs.declared.handed.Handed.{Handed}
 use Rattle.gmp_journal.specs.Handed.{names_other}
-use Rattle.gmp_journal.specs.Log.{Log, calls_of, entries_made}
+use Rattle.gmp_journal.specs.Log.{Log, calls_of, entries_made, is_over}
 
 -- Tests of the lines
 
@@ -93,7 +93,7 @@ turn_lines log pass values =
     refusal_line (is_foreign log pass values) WrongRun
     ∷ refusal_line (not (pass.calls == calls_of log pass.m)) (OutOfTurn (calls_of log pass.m))
     ∷ refusal_line (nat_lt (entries_made log) pass.seen) (Behind (entries_made log) pass.seen)
-    ∷ refusal_line (is_some log.state.outcome) Over
+    ∷ refusal_line (is_over log) Over
     ∷ []
 
 -- when the state does not allow what the machine asks
@@ -105,9 +105,13 @@ need_lines s m asked values =
     ∷ refusal_line (is_anothers s m values) NotHeld
     ∷ []
 
--- Why a call with these values is refused, if it is: by the first line that holds.
+-- when the history has no room for another entry
+abbrev pub room_lines : Log → List Line
+room_lines log = refusal_line (nat_le log.limits.room (length log.history)) Full ∷ []
+
+-- Why a call with these values is refused, if it is: by the first line that holds. `Full` is told only where nothing else refuses it.
 abbrev pub refusal_of : Log → Pass → Call → Handed → Option Refusal
-refusal_of log pass asked values = first_refusal (turn_lines log pass values ++ need_lines log.state pass.m asked values)
+refusal_of log pass asked values = first_refusal (turn_lines log pass values ++ need_lines log.state pass.m asked values ++ room_lines log)
 
 -- What no line refuses
 
@@ -117,6 +121,7 @@ pub record IsCurrent (log : Log) (pass : Pass) : Type 0 where
   pub turn : pass.calls ≡ calls_of log pass.m
   pub seen : pass.seen ≤ entries_made log
   pub lasts : log.state.outcome ≡ None
+  pub goes_on : log.stopped ≡ false
 
 -- no line refuses the call
 pub record IsAllowed (log : Log) (pass : Pass) (asked : Call) (values : Handed) : Type 0 where
@@ -126,6 +131,7 @@ pub record IsAllowed (log : Log) (pass : Pass) (asked : Call) (values : Handed) 
   pub equipped : lacks_processor log.state pass.m asked ≡ false
   pub unspent : is_spent log.state values ≡ false
   pub own : is_anothers log.state pass.m values ≡ false
+  pub room : length log.history < log.limits.room
 
 -- Answers
 

@@ -1,10 +1,8 @@
 //! The run so far, and the call that goes on with it.
 //! One function makes all calls (`Journal::call`): refusal, effect, count and entry are stated and proved once, and not 29 times.
-ghost use Rattle.std.specs.Prelude.{◌≡◌, ◌<◌, ◌≤◌, ◌+◌, [], All, List, None, true, false, is_some, slice_get, sum, IfErr, IfNone, IfOk, OnErr, OnOk};
-ghost use Rattle.gmp_seq.specs.declared.call.Entry.{Entry};
-ghost use Rattle.gmp_seq.specs.Fits.{AreLimits, Fits};
+ghost use Rattle.std.specs.Prelude.{◌≡◌, ◌↔◌, ◌<◌, ◌≤◌, [], None, true, false, length, slice_get, IfNone, IfOk, IsTrue, OnErr, OnOk};
+ghost use Rattle.gmp_seq.specs.Fits.{AreLimits};
 ghost use Rattle.gmp_seq.specs.Machines.{is_parked_mode};
-ghost use Rattle.gmp_seq.specs.Run.{IsLegal, Run};
 ghost use Rattle.gmp_seq.specs.Table.{is_outstanding, is_shelved};
 ghost use Rattle.gmp_start.specs.Start.{state_of};
 ghost use Rattle.gmp_table.specs.Kept.{IsListing};
@@ -15,13 +13,12 @@ ghost use Rattle.gmp_journal.specs.Grants.{Chooses, Grants, NeedsMemory, Suits};
 ghost use Rattle.gmp_journal.specs.Handed.{goroutine_in, names_other, processor_in};
 ghost use Rattle.gmp_journal.specs.Known.{known_by};
 ghost use Rattle.gmp_seq.specs.Laws.{IsInOrder};
-ghost use Rattle.gmp_journal.specs.Log.{Records, entries_made, opening_log};
+ghost use Rattle.gmp_journal.specs.Log.{Records, entries_made, is_over, opening_log};
 ghost use Rattle.gmp_journal.specs.Refusals.{IsAllowed, IsCurrent, Says, first_refusal, is_foreign, refusal_in, refusal_of, turn_lines};
-ghost use Rattle.gmp_journal.specs.Segments.{IsSegment, WhyNoSegment};
+ghost use Rattle.gmp_journal.specs.Segments.{IsPart, MayGoOn};
 
 use crate::handed::Handed;
 use crate::scheduler::Scheduler;
-use crate::segment::{Kept, Segment};
 use gmp_base::{MNo, Pass, Readiness, Refusal, Woke};
 use gmp_history::History;
 use gmp_seq::{Call, Limits, Outcome, Reply};
@@ -32,8 +29,9 @@ use std::mem;
 
 /// A run of the scheduler. A contract sees what it was opened with, its history, and its present state.
 ///
-/// The history is a run from a state of a legal run to the present state, whatever is called. That is the opening, or the state at which
-/// the last segment was taken. Only the opening, a make and a segment take memory.
+/// The history is a run to the present state, whatever is called: from the opening, or from the state at which entries were last handed out.
+/// It holds so many at a time (`limits.room`); where it is full no call is accepted until they are handed out. Only the opening, a make and
+/// a start take memory.
 #[derive(Drop)]
 pub struct Journal {
     /// Which run this is. Values and passes name it, so that none of another run is taken.
@@ -43,11 +41,11 @@ pub struct Journal {
     /// Of the channels that the opening made, in order.
     capacities: Vec<u32>,
     scheduler: Scheduler,
-    /// The entries since the last segment. Room for all that the limit allows is taken at the opening and left untouched: its first write
-    /// costs as much later, and a run that ends early never pays.
+    /// The entries that were not handed out. Room for as many as there may be at a time is taken at the opening and left untouched: its first
+    /// write costs as much later, and a run that ends early never pays.
     entries: History,
-    /// None until a segment is taken: then the start is the opening.
-    kept: Option<Kept>,
+    /// No call is accepted any more, whether or not the run has an outcome.
+    stopped: bool,
 }
 
 impl Model for Journal {
@@ -59,11 +57,11 @@ impl Model for Journal {
 
     ghost view = { log_of };
 
-    ghost invariant = { λ l. IsJournal (log_of l) l.entries.room × IsSized l.limits l.scheduler };
+    ghost invariant = { λ l. IsJournal (log_of l) l.entries.room l.entries.lasting × IsSized l.limits l.scheduler };
 }
 
 impl Journal {
-    /// A run that has made no call yet. All memory is taken here, but that of channels that are made later and of segments; where it is
+    /// A run that has made no call yet. All memory is taken here, but that of channels that are made later and of starts; where it is
     /// refused nothing is left behind.
     pub fn open(
         alloc: Global,
@@ -76,7 +74,7 @@ impl Journal {
         ensures { IfOk result (λ l. l ≡ opening_log run limits bodies capacities.items) }
     {
         let scheduler = Scheduler::open(alloc, limits, bodies, &capacities)?;
-        let entries = History::with_room(alloc, limits.entries)?;
+        let entries = History::with_room(alloc, limits.room)?;
         Ok(Journal {
             run,
             limits,
@@ -84,7 +82,7 @@ impl Journal {
             capacities,
             scheduler,
             entries,
-            kept: None,
+            stopped: false,
         })
     }
 
@@ -105,14 +103,25 @@ impl Journal {
         self.scheduler.outcome
     }
 
-    /// Every accepted call since the last segment, with its reply, in order: a run from the start.
+    /// Whether no call is accepted any more: the run has come to its outcome, or was stopped.
+    #[inline(always)]
+    pub fn is_over(&self) -> bool
+        ensures { result ≡ is_over self.now }
+    {
+        self.scheduler.outcome.is_some() || self.stopped
+    }
+
+    /// Stops the run where it stands: no call is accepted any more, as after an outcome.
+    pub fn stop(&mut self)
+        ensures { self.new ≡ record self.old { stopped = true } }
+    {
+        self.stopped = true;
+    }
+
+    /// Every accepted call that was not handed out, with its reply, in order.
     pub fn history(&self) -> &History
         ensures entries { result.now.list ≡ self.now.history }
-        ensures legal { Run self.now.limits self.now.start self.now.history self.now.state }
-        // A legal run leads to the start.
-        ensures before { (h : List Entry) × IsLegal self.now.limits self.now.bodies self.now.capacities h self.now.start }
-        ensures fits { All Fits self.now.history }
-        ensures within { AreLimits self.now.limits self.now.bodies self.now.capacities }
+        ensures part { IsPart self.now }
         // The shelf has each goroutine on it once, and no other.
         ensures listing { IsListing is_shelved self.now.state.table.goroutines self.now.shelf }
     {
@@ -148,7 +157,8 @@ impl Journal {
         }
     }
 
-    /// Why a call with these values is refused, if it is: first by the pass and the values' runs, and then by the state.
+    /// Why a call with these values is refused, if it is: first by the pass and the values' runs, then by the state, and last for want of
+    /// room in the history.
     #[inline(always)]
     fn refusal(&self, pass: &Pass, call: &Call, values: &Handed) -> Option<Refusal>
         ensures why { result ≡ refusal_of self.now pass.now call.now values.now }
@@ -157,7 +167,13 @@ impl Journal {
         if let Some(why) = self.turn_refusal(pass, values) {
             return Some(why);
         }
-        self.scheduler.need_refusal(pass.m, call, values)
+        if let Some(why) = self.scheduler.need_refusal(pass.m, call, values) {
+            return Some(why);
+        }
+        if self.is_full() {
+            return Some(Refusal::Full);
+        }
+        None
     }
 
     /// Why the pass or the values' runs forbid the call, if they do: is the pass the machine's latest, of this run, and does the run last?
@@ -179,7 +195,7 @@ impl Journal {
         if pass.seen > made {
             return Some(Refusal::Behind(made, pass.seen));
         }
-        if self.scheduler.outcome.is_some() {
+        if self.is_over() {
             return Some(Refusal::Over);
         }
         None
@@ -262,81 +278,43 @@ impl Journal {
             .map_err(|_| Refusal::OutOfMemory)
     }
 
-    /// Whether a segment was taken since the outcome: the last one is out.
-    fn is_over(&self) -> bool
-        ensures { result ≡ is_some self.now.start.outcome }
+    /// Whether as many entries as the history holds at a time wait to be handed out: then no call is accepted.
+    #[inline(always)]
+    pub fn is_full(&self) -> bool
+        ensures { IsTrue result ↔ (length self.now.history ≡ self.now.limits.room) }
     {
-        match &self.kept {
-            Some(kept) => kept.outcome.is_some(),
-            None => false,
-        }
+        self.entries.len() >= self.limits.room as usize
     }
 
-    /// The start once more, for the segment that begins there.
-    fn start(&self, alloc: Global) -> Result<Start, AllocError>
-        requires { self.now.start.outcome ≡ None }
-        ensures { IfOk result (λ s. state_of s ≡ self.now.start) }
+    /// Hands out the entries since the last time, and takes the spare in their place. It takes no pass, makes no entry and takes no memory,
+    /// and may be called whenever one likes, after the outcome too. Emptied, what was handed out is a spare again.
+    pub fn hand_out(&mut self, spare: &mut History)
+        requires empty { spare.old.list ≡ [] }
+        requires room { self.old.limits.room ≤ spare.old.room }
+        requires lasting { self.old.limits.room ≤ spare.old.lasting }
+        ensures out { spare.new.list ≡ self.old.history }
+        ensures lasting { self.old.limits.room ≤ spare.new.lasting }
+        ensures rest { self.new ≡ record self.old { history = [] } }
     {
-        match &self.kept {
-            Some(kept) => kept.start.copied(alloc),
-            None => Start::opening(alloc, self.limits, self.bodies, &self.capacities),
-        }
+        mem::swap(&mut self.entries, spare);
     }
 
-    /// No entry, and room for as many as may still be made.
-    fn room(&self, alloc: Global) -> Result<History, AllocError>
-        ensures list { IfOk result (λ h. h.list ≡ []) }
-        ensures room { IfOk result (λ h. self.now.limits.entries ≤ h.room + entries_made self.now) }
+    /// The present state, copied but for its outcome. A start takes memory for each of its lists.
+    pub fn start(&self, alloc: Global) -> Result<Start, AllocError>
+        ensures state { IfOk result (λ s. state_of s ≡ record self.now.state { outcome = None }) }
+        // While the run lasts one may go on from it.
+        ensures together { IfOk result (λ s. self.now.state.outcome ≡ None → MayGoOn self.now (state_of s)) }
     {
-        let left = u64::from(self.limits.entries).saturating_sub(self.scheduler.counts.all());
-        History::with_room(alloc, left as u32)
+        self.scheduler.copied(alloc)
     }
 
-    /// Hands out the entries since the last segment, with the state before the first of them. It takes no pass and makes no entry, and the
-    /// start is the present state from then on. All memory is taken first; no later call but a make or a segment takes any.
-    pub fn segment(&mut self, alloc: Global) -> Result<Segment, Refusal>
-        ensures taken { IfOk result (λ x. IsSegment self.old x self.new) }
-        ensures few { IfOk result (λ x. sum x.start.counts.items ≤ 1000000) }
-        ensures why { IfErr result (WhyNoSegment self.old) }
-        ensures err { OnErr result (self.new ≡ self.old) }
-    {
-        if self.is_over() {
-            return Err(Refusal::Over);
-        }
-        // Each of the three may want memory, and until all are there nothing is changed.
-        let Ok(start) = self.start(alloc) else {
-            return Err(Refusal::OutOfMemory);
-        };
-        let Ok(next) = self.scheduler.copied(alloc) else {
-            return Err(Refusal::OutOfMemory);
-        };
-        let Ok(room) = self.room(alloc) else {
-            return Err(Refusal::OutOfMemory);
-        };
-        let end = self.scheduler.outcome;
-        self.kept = Some(Kept {
-            start: next,
-            outcome: end,
-        });
-        let entries = mem::replace(&mut self.entries, room);
-        Ok(Segment {
-            start,
-            entries,
-            end,
-        })
-    }
-
-    /// The limits, what the channels of the opening could hold, and the entries since the last segment. The run ends here, whatever its
+    /// The limits, what the channels of the opening could hold, and the entries that were not handed out. The run ends here, whatever its
     /// outcome.
     pub fn into_parts(self) -> (Limits, Vec<u32>, History)
         ensures limits { result.0 ≡ self.limits }
         ensures capacities { result.1.items ≡ self.capacities }
         ensures history { result.2.list ≡ self.history }
-        ensures legal { Run self.limits self.start self.history self.state }
-        // A legal run leads to the start.
-        ensures before { (h : List Entry) × IsLegal self.limits self.bodies self.capacities h self.start }
-        ensures fits { All Fits self.history }
-        ensures within { AreLimits self.limits self.bodies self.capacities }
+        ensures part { IsPart self }
     {
         let Journal {
             run: _,
@@ -345,7 +323,7 @@ impl Journal {
             capacities,
             scheduler: _,
             entries,
-            kept: _,
+            stopped: _,
         } = self;
         (limits, capacities, entries)
     }

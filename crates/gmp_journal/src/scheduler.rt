@@ -169,6 +169,7 @@ impl Scheduler {
                 Reply::Shelf
             }
             Call::Go(body) => self.goroutines.go(*body),
+            Call::Spawn => self.goroutines.spawn(),
             Call::Exit => self.exit(m, g),
             // A make has memory, by `NeedsMemory`.
             Call::Make(capacity) => self.goroutines.make(memory.unwrap(), *capacity)?,
@@ -309,7 +310,7 @@ impl Scheduler {
         ensures made { sum self.new.counts ≡ sum self.old.counts + 1 }
     {
         self.counts.add_one(m);
-        let is_full = self.counts.all() >= u64::from(limits.entries);
+        let is_full = self.counts.all() >= limits.entries;
         self.outcome = match reply {
             Reply::MainEnded => Some(Outcome::MainEnded),
             Reply::AllAsleep => Some(Outcome::AllAsleep),

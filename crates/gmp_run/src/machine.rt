@@ -6,8 +6,8 @@ ghost use Rattle.gmp_worker.specs.AtQueue.{IsQueueAct};
 ghost use Rattle.gmp_worker.specs.Local.{IsOfBodyOrClock};
 ghost use Rattle.gmp_run.specs.Counts.{calls_in};
 
-use crate::desk::RunLedger;
-use crate::outside::Clock;
+use crate::desk::{RunLedger, SinkLedger};
+use crate::outside::{Clock, Sink};
 use crate::shared::Shared;
 use crossbeam_utils::Backoff;
 use crossbeam_utils::sync::Parker;
@@ -124,7 +124,10 @@ impl<T: Drop, L: RunLedger> Machine<T, L> {
     /// A push ends it, or the last hold of the lock, by its hint; if neither comes, the looks are over after the last rest, and it steals
     /// from whom it may, or goes on to its park. Not without a wait: a thief would take what the owner is about to run, and the goroutine
     /// change its machine.
-    pub fn lie_in_wait<C: Clock>(&self, clock: &C, shared: &Shared<T, L>) {
+    pub fn lie_in_wait<C: Clock, S: Sink>(&self, clock: &C, shared: &Shared<T, L, S>)
+    where
+        L: SinkLedger<S>,
+    {
         let pause = Backoff::new();
         for _ in 0..MOST_SPINS {
             if self.some_keeps() || shared.calls_hunters() {

@@ -1,18 +1,20 @@
 //! Runs the machines of a run: opens book and queues, seats the machines, starts the threads, and gathers what they leave.
 //! A machine lies in a seat, a mutex of its own, from which its thread takes it and to which it brings it back. Not moved into the thread's
 //! closure: where that can't be started it is dropped with the machine, and its share of the calls would be lost.
-ghost use Rattle.std.specs.Prelude.{◌≡◌, ◌≤◌, [], All, length, vec_capacity, IfErr, IfOk};
+ghost use Rattle.std.specs.Prelude.{◌≡◌, ◌≤◌, [], All, IsSome, length, vec_capacity, IfErr, IfOk, OnErr};
 ghost use Rattle.gmp_run.specs.Counts.{all_calls};
-ghost use Rattle.gmp_run.specs.Reports.{AreLogs, IsRunReport, WhyUnrun};
+ghost use Rattle.gmp_seq.specs.Fits.{AreLimits};
+ghost use Rattle.gmp_turn.specs.Whole.{IsWholeRun};
+ghost use Rattle.gmp_run.specs.Reports.{AreLogs, IsPiecesReport, IsRunReport, WhyUnrun};
 ghost use Rattle.gmp_run.specs.Seats.{IsUnused};
 
-use crate::desk::{Bench, Desk, RunLedger};
+use crate::desk::{Bench, Desk, RunLedger, SinkLedger};
 use crate::ending::{Report, Unrun, finish, hang};
 use crate::machine::{Machine, Runs};
-use crate::outside::{Clock, Gate};
+use crate::outside::{Clock, Gate, Sink, Whole};
 use crate::room::Room;
 use crate::shared::Shared;
-use crate::working::{Seat, worker};
+use crate::working::{Floor, Seat, Works};
 use crossbeam_utils::sync::{Parker, Unparker};
 use gmp_base::{MNo, Pass, Refusal};
 use gmp_book::{Book, Unopened};
@@ -29,7 +31,7 @@ use std::thread;
 use std::thread::Threads;
 
 /// Runs the bodies, of which the first is main, by so many machines: the first on this thread, each other on a thread of its own. It comes
-/// back once the run is over and each thread has ended.
+/// back once the run is over and each thread has ended. The history is kept whole: there has to be as much room as entries.
 ///
 /// Machine m draws its words from a generator that is seeded by `random + m`, wrapping. A thread that can't be started leaves its machine
 /// out, and the report counts those started. The clock is read by machines that mind a deadline, and every 16 claims. Refused, it hands the
@@ -47,11 +49,45 @@ pub fn run<R: Threads + Wait + Sync, C: Clock + Sync, G: Gate + Sync>(
     gate: &G,
     random: u64,
 ) -> Result<Report<Boxed>, Unrun<Boxed>>
-    ensures report { IfOk result (IsRunReport limits capacities.now (length bodies.items)) }
-    ensures why { IfErr result (λ u. WhyUnrun limits (length bodies.items) capacities.now u.why) }
+    ensures report { IfOk result (IsRunReport limits capacities.now (length bodies.items) []) }
+    ensures ended { IfOk result (λ r. IsSome r.outcome) }
+    ensures why { IfErr result (λ u. WhyUnrun (IsWholeRun limits (length bodies.items) capacities.now) u.why) }
     ensures back { IfErr result (λ u. u.bodies.items ≡ bodies.items) }
 {
-    run_as::<Brand, R, C, G>(
+    if u64::from(limits.room) != limits.entries {
+        let why = Refusal::BadLimits;
+        return Err(Unrun { why, bodies });
+    }
+    let (ran, _) = run_into(
+        rt, alloc, run, limits, capacities, bodies, clock, gate, random, Whole,
+    );
+    ran
+}
+
+/// Runs the bodies as `run` does, and hands the history to the sink piece by piece, so that a run may go on for as long as there are
+/// entries. Each time that there is no room for another entry the sink takes all that are there; what is left at the end is the report's. A
+/// sink that doesn't take them stops the run, which has no outcome then: what it left is the report's.
+/// The sink comes back, also where the run was not begun.
+///
+/// After the start only a make, a push whose queue grows, and the sink take memory.
+pub fn run_into<R: Threads + Wait + Sync, C: Clock + Sync, G: Gate + Sync, S: Sink + Send>(
+    rt: &R,
+    alloc: Global,
+    run: u64,
+    limits: Limits,
+    capacities: &[u32],
+    bodies: Vec<Boxed>,
+    clock: &C,
+    gate: &G,
+    random: u64,
+    sink: S,
+) -> (Result<Report<Boxed>, Unrun<Boxed>>, S)
+    ensures report { IfOk result.0 (λ r. IsPiecesReport S.takes limits capacities.now (length bodies.items) sink r result.1) }
+    ensures why { IfErr result.0 (λ u. WhyUnrun (AreLimits limits (length bodies.items) capacities.now) u.why) }
+    ensures back { IfErr result.0 (λ u. u.bodies.items ≡ bodies.items) }
+    ensures unused { OnErr result.0 (result.1 ≡ sink) }
+{
+    run_as::<Brand, R, C, G, S>(
         rt,
         alloc,
         Blank::new(u64::from(limits.machines)),
@@ -62,11 +98,18 @@ pub fn run<R: Threads + Wait + Sync, C: Clock + Sync, G: Gate + Sync>(
         clock,
         gate,
         random,
+        sink,
     )
 }
 
 /// The same by a ledger of this run. All memory but the book's is taken before it, so that the bodies come back whole.
-fn run_as<L: RunLedger + Send + Sync, R: Threads + Wait + Sync, C: Clock + Sync, G: Gate + Sync>(
+fn run_as<
+    L: SinkLedger<S> + Sync,
+    R: Threads + Wait + Sync,
+    C: Clock + Sync,
+    G: Gate + Sync,
+    S: Sink + Send,
+>(
     rt: &R,
     alloc: Global,
     blank: Blank,
@@ -77,22 +120,26 @@ fn run_as<L: RunLedger + Send + Sync, R: Threads + Wait + Sync, C: Clock + Sync,
     clock: &C,
     gate: &G,
     random: u64,
-) -> Result<Report<Boxed>, Unrun<Boxed>>
+    sink: S,
+) -> (Result<Report<Boxed>, Unrun<Boxed>>, S)
     requires name { blank.name ≡ L.name }
     requires parts { (blank.parts ≡ L.parts) × (blank.parts ≡ limits.machines) }
     requires run { run ≡ L.run }
-    ensures report { IfOk result (IsRunReport limits capacities.now (length bodies.items)) }
-    ensures why { IfErr result (λ u. WhyUnrun limits (length bodies.items) capacities.now u.why) }
-    ensures back { IfErr result (λ u. u.bodies.items ≡ bodies.items) }
+    requires first { (s : S) → L.first s → s ≡ sink }
+    requires begins { L.first sink }
+    ensures report { IfOk result.0 (λ r. IsPiecesReport S.takes limits capacities.now (length bodies.items) sink r result.1) }
+    ensures why { IfErr result.0 (λ u. WhyUnrun (AreLimits limits (length bodies.items) capacities.now) u.why) }
+    ensures back { IfErr result.0 (λ u. u.bodies.items ≡ bodies.items) }
+    ensures unused { OnErr result.0 (result.1 ≡ sink) }
 {
     let count = bodies.len();
     if !limits.allow(count, capacities) {
         let why = Refusal::BadLimits;
-        return Err(Unrun { why, bodies });
+        return (Err(Unrun { why, bodies }), sink);
     }
     let Ok(room) = Room::<Boxed, L>::of(alloc, run, limits, count) else {
         let why = Refusal::OutOfMemory;
-        return Err(Unrun { why, bodies });
+        return (Err(Unrun { why, bodies }), sink);
     };
     let Room {
         owners,
@@ -102,13 +149,14 @@ fn run_as<L: RunLedger + Send + Sync, R: Threads + Wait + Sync, C: Clock + Sync,
         seats,
         logs,
         watch,
+        spare,
     } = room;
     let (book, passes) = match Book::open(alloc, run, limits, capacities, bodies, owners) {
         Ok(opened) => opened,
         Err(unopened) => {
             let Unopened { why, bodies, .. } = unopened;
             seats.destroy_empty();
-            return Err(Unrun { why, bodies });
+            return (Err(Unrun { why, bodies }), sink);
         }
     };
     // A part for each machine, and none left over: once the parts are together again no machine is still counting.
@@ -122,13 +170,19 @@ fn run_as<L: RunLedger + Send + Sync, R: Threads + Wait + Sync, C: Clock + Sync,
         limits.procs,
         random,
     );
-    let desk = Desk { book, tally };
+    let desk = Desk::new(book, tally, sink, spare);
     let shared = Shared::new(Bench { desk, watch });
-    let unparkers = unparkers.as_slice();
-    let started = in_threads(rt, alloc, &shared, unparkers, clock, gate, seats.as_slice());
+    let floor = Floor {
+        shared: &shared,
+        unparkers: unparkers.as_slice(),
+        clock,
+        gate,
+    };
+    let started = on_floor(rt, alloc, &floor, seats.as_slice());
     let logs = gather(rt, &mut all, logs, seats, limits.machines);
     let Bench { desk, .. } = shared.into_inner();
-    Ok(finish(rt, desk, all, logs, started, limits, capacities, count))
+    let (report, sink) = finish(rt, desk, all, logs, started, limits, capacities, count);
+    (Ok(report), sink)
 }
 
 /// A seat for each pass, the last first, in room that is there.
@@ -172,31 +226,22 @@ fn seat_all<L: RunLedger>(
 /// Whether the gate lets the machine in the seat in.
 /// A gate that leaves machines out stands in for a system that refuses threads: that a closure of a caller's may start threads can't be
 /// shown.
-fn is_admitted<T: Runs, L: RunLedger, R: Wait, G: Gate>(
+fn is_admitted<T: Runs, L: RunLedger, R: Wait, W: Works<T, L>>(
     rt: &R,
-    gate: &G,
+    floor: &W,
     seat: &Seat<T, L>,
 ) -> bool {
     let m = seat.lock(rt).as_ref().map(|machine| machine.m);
-    m.is_some_and(|m| gate.admits(m))
+    m.is_some_and(|m| floor.admits(m))
 }
 
 /// Runs the machines in the seats, and says how many were started. One that isn't let in, or whose thread can't be started, is left in its
 /// seat.
 /// It waits for each thread that it started; each of them ends once the run is over.
-fn in_threads<
-    T: Runs + Send,
-    L: RunLedger + Send + Sync,
-    R: Threads + Wait + Sync,
-    C: Clock + Sync,
-    G: Gate + Sync,
->(
+fn in_threads<T: Runs + Send, L: RunLedger + Sync, R: Threads + Wait + Sync, W: Works<T, L> + Sync>(
     rt: &R,
     alloc: Global,
-    shared: &Shared<T, L>,
-    unparkers: &[Unparker],
-    clock: &C,
-    gate: &G,
+    floor: &W,
     seats: &[Seat<T, L>],
 ) -> u8 {
     let [others @ .., first] = seats else {
@@ -205,18 +250,29 @@ fn in_threads<
     thread::scope(thread::scope_env(), rt, |scope| {
         let mut started = 1u8;
         for seat in others {
-            if is_admitted(rt, gate, seat)
-                && scope
-                    .spawn(move || worker(rt, alloc, shared, unparkers, clock, gate, seat))
-                    .is_ok()
+            if is_admitted(rt, floor, seat)
+                && scope.spawn(move || floor.works(rt, alloc, seat)).is_ok()
             {
                 started = started.saturating_add(1);
             }
         }
         // Machine 0 needs no thread, so a run goes on wherever none can be started.
-        worker(rt, alloc, shared, unparkers, clock, gate, first);
+        floor.works(rt, alloc, first);
         started
     })
+}
+
+/// The same on this floor.
+// Apart from `run_as`, where bodies are boxes: that a floor may be shared the check finds of a parameter.
+fn on_floor<
+    T: Runs + Send,
+    L: SinkLedger<S> + Sync,
+    R: Threads + Wait + Sync,
+    C: Clock + Sync,
+    G: Gate + Sync,
+    S: Sink + Send,
+>(rt: &R, alloc: Global, floor: &Floor<'_, T, C, G, L, S>, seats: &[Seat<T, L>]) -> u8 {
+    in_threads(rt, alloc, floor, seats)
 }
 
 /// Takes the machines from their seats, in order: a log of each, in room that is there, and their shares.

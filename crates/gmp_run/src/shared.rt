@@ -1,7 +1,8 @@
 //! The lock, and how a thread waits for it.
 //! Not by the mutex alone: a thread that misses it sleeps and is handed it some 50 µs later, while an act takes less than one.
 
-use crate::desk::{Bench, RunLedger};
+use crate::desk::{Bench, SinkLedger};
+use crate::outside::Sink;
 use crossbeam_utils::CachePadded;
 use std::hint::spin_loop;
 use std::sync::atomic::{AtomicU8, Ordering};
@@ -24,8 +25,8 @@ const CALLS: u8 = 2;
 
 /// The bench under the lock, away from the lock's own word, which threads that wait read and write.
 #[derive(Drop)]
-pub(crate) struct Shared<T, L: RunLedger> {
-    bench: Mutex<CachePadded<Bench<T, L>>>,
+pub(crate) struct Shared<T, L: SinkLedger<S>, S: Sink> {
+    bench: Mutex<CachePadded<Bench<T, L, S>>>,
     /// What those who wait and those who hunt look at, apart from the lock's own word: `HELD` and `CALLS`, each where it is so. No more
     /// than a hint; whoever has the lock writes it.
     hints: CachePadded<AtomicU8>,
@@ -38,8 +39,8 @@ fn pause(count: u32) {
     }
 }
 
-impl<T: Drop, L: RunLedger> Shared<T, L> {
-    pub fn new(bench: Bench<T, L>) -> Self {
+impl<T: Drop, L: SinkLedger<S>, S: Sink> Shared<T, L, S> {
+    pub fn new(bench: Bench<T, L, S>) -> Self {
         Shared {
             bench: Mutex::new(CachePadded::new(bench)),
             hints: CachePadded::new(AtomicU8::new(CALLS)),
@@ -47,13 +48,13 @@ impl<T: Drop, L: RunLedger> Shared<T, L> {
     }
 
     /// What lay under the lock, once all threads have ended.
-    pub fn into_inner(self) -> Bench<T, L> {
+    pub fn into_inner(self) -> Bench<T, L, S> {
         self.bench.into_inner().into_inner()
     }
 
     /// Takes the lock. Who waits for it looks whether it stays free for a moment, so that a machine that let it go for a body alone has it
     /// back. At last it sleeps.
-    pub fn take<R: Wait>(&self, rt: &R) -> MutexGuard<'_, CachePadded<Bench<T, L>>> {
+    pub fn take<R: Wait>(&self, rt: &R) -> MutexGuard<'_, CachePadded<Bench<T, L, S>>> {
         let bench = match self.bench.try_lock() {
             Some(bench) => bench,
             None => self.awaited(rt),
@@ -65,7 +66,7 @@ impl<T: Drop, L: RunLedger> Shared<T, L> {
 
     /// Lets the lock go, and says to those who look outside that it is free, and whether hunters are called. The hint is written while the
     /// lock is still held, so the holders write in the order of their holds.
-    pub fn let_go(&self, bench: MutexGuard<'_, CachePadded<Bench<T, L>>>) {
+    pub fn let_go(&self, bench: MutexGuard<'_, CachePadded<Bench<T, L, S>>>) {
         let hints = if bench.watch.calls_hunters() {
             CALLS
         } else {
@@ -92,7 +93,7 @@ impl<T: Drop, L: RunLedger> Shared<T, L> {
 
     /// Waits for the lock: at first it looks at the hint, and tries where that says free; after so many looks it sleeps on the mutex. Each
     /// wait ends by the holder's `let_go`, and a holder waits for nothing: under the lock no body runs and nobody parks.
-    fn awaited<R: Wait>(&self, rt: &R) -> MutexGuard<'_, CachePadded<Bench<T, L>>> {
+    fn awaited<R: Wait>(&self, rt: &R) -> MutexGuard<'_, CachePadded<Bench<T, L, S>>> {
         for _ in 0..MOST_LOOKS {
             if self.is_free() {
                 pause(STAYS_FREE);

@@ -225,6 +225,11 @@ impl Watch {
         self.least = least;
     }
 
+    /// The history was handed out: the next entry is its first.
+    pub fn begin_anew(&mut self) {
+        self.noted = 0;
+    }
+
     /// Notes the last entry, unless it is noted.
     #[inline(always)]
     pub fn note_last(&mut self, history: &History) {

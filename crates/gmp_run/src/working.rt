@@ -1,4 +1,4 @@
-//! What the thread of a machine does: a loop of acts (`worker`), each made in the way that it needs (`Floor`). A thread waits in four
+//! What the thread of a machine does: a loop of acts (`Works`), each made in the way that it needs (`Floor`). A thread waits in four
 //! places: for the lock (`Shared::take`; its holder ends that), at Rest (`make`; whoever pokes the machine, or the run's end), at Mind
 //! (`mind`; a call, the watched deadline, or the run's end), and in a hunt (`lie_in_wait`; a push, a call, or so many looks).
 
@@ -7,13 +7,14 @@ ghost use Rattle.gmp_driver.specs.Table.{next_act};
 ghost use Rattle.gmp_turn.specs.Turns.{HasMemory};
 ghost use Rattle.gmp_worker.specs.Turn.{IsAtBook};
 
-use crate::desk::RunLedger;
+use crate::desk::{RunLedger, SinkLedger};
 use crate::machine::{Machine, Runs};
-use crate::outside::{Clock, Gate};
+use crate::outside::{Clock, Gate, Sink};
 use crate::set::Set;
 use crate::shared::Shared;
 use crate::watch::Stay;
 use crossbeam_utils::sync::Unparker;
+use gmp_base::MNo;
 use gmp_driver::{Act, Frequent};
 use gmp_journal::memory_for;
 use gmp_seq::Call;
@@ -28,8 +29,8 @@ pub(crate) type Seat<T, L> = Mutex<Option<Machine<T, L>>>;
 
 /// What the threads of a run share.
 #[derive(Drop)]
-pub(crate) struct Floor<'a, T, C, G, L: RunLedger> {
-    pub shared: &'a Shared<T, L>,
+pub(crate) struct Floor<'a, T, C, G, L: SinkLedger<S>, S: Sink> {
+    pub shared: &'a Shared<T, L, S>,
     /// Machine m's at place m.
     pub unparkers: &'a [Unparker],
     /// Read and waited on by all threads.
@@ -38,7 +39,7 @@ pub(crate) struct Floor<'a, T, C, G, L: RunLedger> {
     pub gate: &'a G,
 }
 
-impl<'a, T: Drop, C: Clock, G: Gate, L: RunLedger> Floor<'a, T, C, G, L> {
+impl<'a, T: Drop, C: Clock, G: Gate, L: SinkLedger<S>, S: Sink> Floor<'a, T, C, G, L, S> {
     /// Wakes these machines. With no lock held: who is woken wants it at once.
     fn wake(&self, machines: Set) {
         let mut left = machines;
@@ -114,7 +115,7 @@ impl<'a, T: Drop, C: Clock, G: Gate, L: RunLedger> Floor<'a, T, C, G, L> {
     }
 }
 
-impl<'a, T: Runs, C: Clock, G: Gate, L: RunLedger> Floor<'a, T, C, G, L> {
+impl<'a, T: Runs, C: Clock, G: Gate, L: SinkLedger<S>, S: Sink> Floor<'a, T, C, G, L, S> {
     /// Makes the act that comes next, if it is one of those that come most often, and tells whether it is. No wide act is made for it.
     #[inline(always)]
     fn make_frequent<R: Wait>(&self, rt: &R, alloc: Global, machine: &mut Machine<T, L>) -> bool {
@@ -162,46 +163,47 @@ impl<'a, T: Runs, C: Clock, G: Gate, L: RunLedger> Floor<'a, T, C, G, L> {
     }
 }
 
-/// Makes the acts of the machine in the seat, one after another, until nothing is left to do.
-pub(crate) fn worker<T: Runs, R: Wait, C: Clock, G: Gate, L: RunLedger>(
-    rt: &R,
-    alloc: Global,
-    shared: &Shared<T, L>,
-    unparkers: &[Unparker],
-    clock: &C,
-    gate: &G,
-    seat: &Seat<T, L>,
-) {
-    let floor = Floor {
-        shared,
-        unparkers,
-        clock,
-        gate,
-    };
-    let Some(mut machine) = seat.lock(rt).take() else {
-        return;
-    };
-    let mut over = false;
-    // It ends with the run: then the table names surrenders, as many as the machine holds values, and Nothing.
-    for _ in rt.forever() {
-        // Where the gate is open it need not be told.
-        if floor.gate.is_open() && floor.make_frequent(rt, alloc, &mut machine) {
-            continue;
-        }
-        let act = machine.driver.next();
-        // Where the run is over, surrenders come next, and then nothing.
-        if !over && matches!(act, Act::Surrender(_) | Act::Nothing) {
-            over = true;
-            floor.wake(Set::all());
-        }
-        floor.gate.before(machine.m, &act);
-        if matches!(act, Act::Nothing) {
-            break;
-        }
-        floor.make(rt, alloc, &mut machine, act);
+/// Where the machines of a run work. The threads' code has it as a parameter: of whatever it is made, it is one that threads may share.
+pub(crate) trait Works<T, L: RunLedger> {
+    /// Whether the machine is let in.
+    fn admits(&self, m: MNo) -> bool;
+
+    /// Makes the acts of the machine in the seat, one after another, until nothing is left to do.
+    fn works<R: Wait>(&self, rt: &R, alloc: Global, seat: &Seat<T, L>);
+}
+
+impl<'a, T: Runs, C: Clock, G: Gate, L: SinkLedger<S>, S: Sink> Works<T, L>
+    for Floor<'a, T, C, G, L, S> {
+    fn admits(&self, m: MNo) -> bool {
+        self.gate.admits(m)
     }
-    // The seat is empty, since this thread emptied it; were it not, its machine's values had to be spent.
-    if let Some(other) = seat.lock(rt).replace(machine) {
-        other.into_log();
+
+    fn works<R: Wait>(&self, rt: &R, alloc: Global, seat: &Seat<T, L>) {
+        let Some(mut machine) = seat.lock(rt).take() else {
+            return;
+        };
+        let mut over = false;
+        // It ends with the run: then the table names surrenders, as many as the machine holds values, and Nothing.
+        for _ in rt.forever() {
+            // Where the gate is open it need not be told.
+            if self.gate.is_open() && self.make_frequent(rt, alloc, &mut machine) {
+                continue;
+            }
+            let act = machine.driver.next();
+            // Where the run is over, surrenders come next, and then nothing.
+            if !over && matches!(act, Act::Surrender(_) | Act::Nothing) {
+                over = true;
+                self.wake(Set::all());
+            }
+            self.gate.before(machine.m, &act);
+            if matches!(act, Act::Nothing) {
+                break;
+            }
+            self.make(rt, alloc, &mut machine, act);
+        }
+        // The seat is empty, since this thread emptied it; were it not, its machine's values had to be spent.
+        if let Some(other) = seat.lock(rt).replace(machine) {
+            other.into_log();
+        }
     }
 }

@@ -1,5 +1,6 @@
 -- What is written of a run that was reported, and what is said of one that was not begun.
-use Rattle.std.proofs.Common.{◌≡◌, ◌≢◌, ◌⊎◌, ◌<◌, ℕ, List, Option, Some, Result, Ok, Err, IfOk, IfErr, inl, inr, length, sym, ap, ◌∙◌, refl, subst, arith}
+use Rattle.std.proofs.Common.{◌≡◌, ◌≢◌, ◌⊎◌, ◌<◌, ℕ, List, [], Option, None, Some, IsSome, Result, Ok, Err, IfOk, IfErr, inl, inr, length, sym, ap, ◌∙◌, refl, subst, arith}
+use Rattle.std.proofs.lemmas.Bool.{false≢true}
 use Rattle.gmp_base.specs.declared.refusal.Refusal.{Refusal}
 use Rattle.gmp_base.specs.declared.refusal.Refusal.TheVariants as refusal
 use Rattle.gmp_seq.specs.declared.call.Limits.{Limits}
@@ -12,7 +13,9 @@ use Rattle.gmp_trace.specs.Text.{end_of}
 use Rattle.gmp_trace.proofs.Numbered.{legal_text}
 use Rattle.gmp_run.specs.declared.ending.Report.{Report}
 use Rattle.gmp_run.specs.declared.ending.Unrun.{Unrun}
+use Rattle.gmp_turn.specs.Whole.{IsWholeRun}
 use Rattle.gmp_run.specs.Reports.{IsRunReport, WhyUnrun}
+use Rattle.gmp_words.proofs.Whole.{kept_whole}
 use Rattle.gmp_words.specs.declared.options.Settings.{Settings}
 use Rattle.gmp_words.specs.declared.said.Said.{Said}
 use Rattle.gmp_words.specs.declared.said.Said.TheVariants.{BadLimits, Nothing, OutOfMemory, OutputFailed}
@@ -21,27 +24,28 @@ use Rattle.gmp_run_cli.specs.Runs.{WritesTraceOrSummary}
 use Rattle.gmp_run_cli.specs.Told.{TellsEnd, said_of_unrun, trace_of}
 
 -- a run that has an outcome has ended
-over : (o : Outcome) → end_of (Some o) ≢ Running
-over outcome.MainEnded = λ e. cc
-over outcome.AllAsleep = λ e. cc
-over outcome.BookFull = λ e. cc
+over : (o : Option Outcome) → IsSome o → end_of o ≢ Running
+over (Some outcome.MainEnded) some = λ e. cc
+over (Some outcome.AllAsleep) some = λ e. cc
+over (Some outcome.BookFull) some = λ e. cc
+over None some = absurd (false≢true some)
 
 -- there are two reasons why a run is not begun
-two_ways : (limits : Limits) (bodies : ℕ) (capacities : List ℕ) (why : Refusal) → WhyUnrun limits bodies capacities why
-    → (why ≡ refusal.BadLimits) ⊎ (why ≡ refusal.OutOfMemory)
-two_ways limits bodies capacities refusal.BadLimits h = inl refl
-two_ways limits bodies capacities refusal.OutOfMemory h = inr refl
-two_ways limits bodies capacities refusal.Over h = absurd h
-two_ways limits bodies capacities refusal.WrongRun h = absurd h
-two_ways limits bodies capacities (refusal.OutOfTurn n) h = absurd h
-two_ways limits bodies capacities (refusal.Behind n k) h = absurd h
-two_ways limits bodies capacities refusal.NotOutstanding h = absurd h
-two_ways limits bodies capacities refusal.NoProcessor h = absurd h
-two_ways limits bodies capacities refusal.Busy h = absurd h
-two_ways limits bodies capacities refusal.NotHeld h = absurd h
-two_ways limits bodies capacities refusal.NotOver h = absurd h
+two_ways : (may : Type 0) (why : Refusal) → WhyUnrun may why → (why ≡ refusal.BadLimits) ⊎ (why ≡ refusal.OutOfMemory)
+two_ways may refusal.BadLimits h = inl refl
+two_ways may refusal.OutOfMemory h = inr refl
+two_ways may refusal.Over h = absurd h
+two_ways may refusal.WrongRun h = absurd h
+two_ways may (refusal.OutOfTurn n) h = absurd h
+two_ways may (refusal.Behind n k) h = absurd h
+two_ways may refusal.NotOutstanding h = absurd h
+two_ways may refusal.NoProcessor h = absurd h
+two_ways may refusal.Busy h = absurd h
+two_ways may refusal.NotHeld h = absurd h
+two_ways may refusal.NotOver h = absurd h
+two_ways may refusal.Full h = absurd h
 
-module _ {T : Type 0} (s : Settings) (capacities : List ℕ) (bodies : ℕ) (r : Report T) (report : IsRunReport (limits_of s) capacities bodies r) where
+module _ {T : Type 0} (s : Settings) (capacities : List ℕ) (bodies : ℕ) (r : Report T) (report : IsRunReport (limits_of s) capacities bodies [] r) where
   is_trace : IsTraceOf (limits_of s) capacities (trace_of capacities r)
   is_trace = record {
     opened = report.opened;
@@ -54,14 +58,14 @@ module _ {T : Type 0} (s : Settings) (capacities : List ℕ) (bodies : ℕ) (r :
 
   has_text : HasText (trace_of capacities r)
   unfolding is_trace
-  has_text = legal_text (trace_of capacities r) capacities report.last refl is_trace.within is_trace.legal report.fits
+  has_text = legal_text (trace_of capacities r) capacities report.last refl is_trace.within (kept_whole r.limits s report.opened) is_trace.legal report.fits
 
-  writes : (status : ℕ) (old new : Option (List ℕ)) → TellsEnd s.trace capacities r status old new → WritesTraceOrSummary s capacities bodies status old new
-  writes status old new t = record {
+  writes : IsSome r.outcome → (status : ℕ) (old new : Option (List ℕ)) → TellsEnd s.trace capacities r status old new → WritesTraceOrSummary s capacities bodies status old new
+  writes some status old new t = record {
     trace = trace_of capacities r;
     legal = is_trace;
     stock = report.stock;
-    over = over r.outcome;
+    over = over r.outcome some;
     has_text = has_text;
     written = t.1.written;
     told = t.2 ∙ ap status_of t.1.ended;
@@ -71,10 +75,9 @@ not_nothing : (why : Refusal) → (why ≡ refusal.BadLimits) ⊎ (why ≡ refus
 not_nothing why (inl e) n = let told : BadLimits ≡ Nothing = ap said_of_unrun (sym e) ∙ n in cc
 not_nothing why (inr e) n = let told : OutOfMemory ≡ Nothing = ap said_of_unrun (sym e) ∙ n in cc
 
-not_within : (limits : Limits) (bodies : ℕ) (capacities : List ℕ) (why : Refusal) → WhyUnrun limits bodies capacities why
-    → (why ≡ refusal.BadLimits) ⊎ (why ≡ refusal.OutOfMemory) → said_of_unrun why ≡ BadLimits → AreLimits limits bodies capacities → ⊥
-not_within limits bodies capacities why h (inl e) n are = subst (WhyUnrun limits bodies capacities) e h are
-not_within limits bodies capacities why h (inr e) n are = let told : OutOfMemory ≡ BadLimits = ap said_of_unrun (sym e) ∙ n in cc
+not_within : (may : Type 0) (why : Refusal) → WhyUnrun may why → (why ≡ refusal.BadLimits) ⊎ (why ≡ refusal.OutOfMemory) → said_of_unrun why ≡ BadLimits → may → ⊥
+not_within may why h (inl e) n are = subst (WhyUnrun may) e h are
+not_within may why h (inr e) n are = let told : OutOfMemory ≡ BadLimits = ap said_of_unrun (sym e) ∙ n in cc
 
 not_failed : (why : Refusal) → (why ≡ refusal.BadLimits) ⊎ (why ≡ refusal.OutOfMemory) → said_of_unrun why ≡ OutputFailed → ⊥
 not_failed why (inl e) n = let told : BadLimits ≡ OutputFailed = ap said_of_unrun (sym e) ∙ n in cc
@@ -82,24 +85,24 @@ not_failed why (inr e) n = let told : OutOfMemory ≡ OutputFailed = ap said_of_
 
 -- where the output failed, the run was begun, within the limits
 pub tried_last : {T : Type 0} (s : Settings) (capacities : List ℕ) (boxes bodies : ℕ) (said : Said) (ran : Result (Report T) (Unrun T)) → boxes ≡ bodies
-    → IfOk ran (IsRunReport (limits_of s) capacities boxes) → IfErr ran (λ (u : Unrun T). WhyUnrun (limits_of s) boxes capacities u.why)
+    → IfOk ran (IsRunReport (limits_of s) capacities boxes []) → IfErr ran (λ (u : Unrun T). WhyUnrun (IsWholeRun (limits_of s) boxes capacities) u.why)
     → IfErr ran (λ (u : Unrun T). said ≡ said_of_unrun u.why) → said ≡ OutputFailed → AreLimits (limits_of s) bodies capacities
 tried_last s capacities boxes bodies said (Ok r) counted report why unrun failed = subst (λ (n : ℕ). AreLimits (limits_of s) n capacities) counted report.within
 tried_last s capacities boxes bodies said (Err u) counted report why unrun failed =
-    absurd (not_failed u.why (two_ways (limits_of s) boxes capacities u.why why) (sym unrun ∙ failed))
+    absurd (not_failed u.why (two_ways (IsWholeRun (limits_of s) boxes capacities) u.why why) (sym unrun ∙ failed))
 
 pub wrote : {T : Type 0} (s : Settings) (capacities : List ℕ) (boxes bodies : ℕ) (said : Said) (ran : Result (Report T) (Unrun T)) → boxes ≡ bodies
-    → IfOk ran (IsRunReport (limits_of s) capacities boxes) → IfErr ran (λ (u : Unrun T). WhyUnrun (limits_of s) boxes capacities u.why)
-    → IfErr ran (λ (u : Unrun T). said ≡ said_of_unrun u.why)
+    → IfOk ran (IsRunReport (limits_of s) capacities boxes []) → IfErr ran (λ (u : Unrun T). WhyUnrun (IsWholeRun (limits_of s) boxes capacities) u.why)
+    → IfErr ran (λ (u : Unrun T). said ≡ said_of_unrun u.why) → IfOk ran (λ (r : Report T). IsSome r.outcome)
     → (status : ℕ) (old new : Option (List ℕ)) → IfOk ran (λ (r : Report T). said ≡ Nothing → TellsEnd s.trace capacities r status old new) → said ≡ Nothing
     → WritesTraceOrSummary s capacities bodies status old new
-wrote s capacities boxes bodies said (Ok r) counted report why unrun status old new printed nothing =
-    writes s capacities bodies r (subst (λ (n : ℕ). IsRunReport (limits_of s) capacities n r) counted report) status old new (printed nothing)
-wrote s capacities boxes bodies said (Err u) counted report why unrun status old new printed nothing =
-    absurd (not_nothing u.why (two_ways (limits_of s) boxes capacities u.why why) (sym unrun ∙ nothing))
+wrote s capacities boxes bodies said (Ok r) counted report why unrun some status old new printed nothing =
+    writes s capacities bodies r (subst (λ (n : ℕ). IsRunReport (limits_of s) capacities n [] r) counted report) some status old new (printed nothing)
+wrote s capacities boxes bodies said (Err u) counted report why unrun some status old new printed nothing =
+    absurd (not_nothing u.why (two_ways (IsWholeRun (limits_of s) boxes capacities) u.why why) (sym unrun ∙ nothing))
 
 pub out : {T : Type 0} (s : Settings) (capacities : List ℕ) (boxes bodies : ℕ) (said : Said) (ran : Result (Report T) (Unrun T)) → boxes ≡ bodies
-    → IfOk ran (IsRunReport (limits_of s) capacities boxes) → IfErr ran (λ (u : Unrun T). WhyUnrun (limits_of s) boxes capacities u.why)
+    → IfOk ran (IsRunReport (limits_of s) capacities boxes []) → IfErr ran (λ (u : Unrun T). WhyUnrun (IsWholeRun (limits_of s) boxes capacities) u.why)
     → IfErr ran (λ (u : Unrun T). said ≡ said_of_unrun u.why)
     → IfOk ran (λ (r : Report T). said ≡ BadLimits → 65535 < length r.bodies.items) → said ≡ BadLimits → AreLimits (limits_of s) bodies capacities → ⊥
 out s capacities boxes bodies said (Ok r) counted report why unrun many bad are =
@@ -108,5 +111,5 @@ out s capacities boxes bodies said (Ok r) counted report why unrun many bad are 
     let more = many bad in
     omega (arith, stock, few, more)
 out s capacities boxes bodies said (Err u) counted report why unrun many bad are =
-    not_within (limits_of s) boxes capacities u.why why (two_ways (limits_of s) boxes capacities u.why why) (sym unrun ∙ bad)
-    (subst (λ (n : ℕ). AreLimits (limits_of s) n capacities) (sym counted) are)
+    not_within (IsWholeRun (limits_of s) boxes capacities) u.why why (two_ways (IsWholeRun (limits_of s) boxes capacities) u.why why) (sym unrun ∙ bad)
+    (subst (λ (n : ℕ). AreLimits (limits_of s) n capacities) (sym counted) are, refl)

@@ -1,5 +1,5 @@
 -- What is printed of a run in threads, and what its audit says.
-use Rattle.std.specs.Prelude.{◌≡◌, ◌<◌, ◌^◌, ℕ, Bool, true, false, List, Option, Some, length}
+use Rattle.std.specs.Prelude.{◌≡◌, ◌<◌, ◌^◌, ℕ, Bool, true, false, List, Option, length}
 use Rattle.std.specs.Io.KnownBytes.{Appends}
 use Rattle.gmp_base.specs.declared.number.MNo.{MNo}
 use Rattle.gmp_base.specs.declared.refusal.Refusal.{Refusal}
@@ -18,7 +18,7 @@ use Rattle.gmp_words.specs.Runs.{status_of}
 -- the trace of a report, of a run that was opened with these capacities
 abbrev pub trace_of : {T : Type 0} → List ℕ → Report T → Content
 trace_of capacities r =
-    record { limits = r.limits; bodies = length r.bodies.items; begins = AtOpening capacities; entries = r.history.list; end = end_of (Some r.outcome) }
+    record { limits = r.limits; bodies = length r.bodies.items; begins = AtOpening capacities; entries = r.history.list; end = end_of r.outcome }
 
 -- the trace's text went out where it is asked for, and else its summary
 abbrev pub IsPrinted : Bool → Content → Option (List ℕ) → Option (List ℕ) → Type 0
@@ -37,7 +37,7 @@ IsLeast r m = (e : Mismatch) × IsMismatch r.history.list r.logs.items e × e.m 
 pub record Prints {T : Type 0} (shows_trace : Bool) (capacities : List ℕ) (r : Report T) (end : End) (old new : Option (List ℕ)) : Type 0 where
   pub agree : AllAgree r
   pub written : IsPrinted shows_trace (trace_of capacities r) old new
-  pub ended : end ≡ end_of (Some r.outcome)
+  pub ended : end ≡ end_of r.outcome
 
 -- the same, and the status tells the end
 abbrev pub TellsEnd : {T : Type 0} → Bool → List ℕ → Report T → ℕ → Option (List ℕ) → Option (List ℕ) → Type 0

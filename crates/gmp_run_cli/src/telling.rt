@@ -49,7 +49,7 @@ fn trace_of<T: Drop>(
         bodies,
         beginning: Beginning::Opening(copied),
         entries: history,
-        end: End::of(Some(outcome)),
+        end: End::of(outcome),
     })
 }
 

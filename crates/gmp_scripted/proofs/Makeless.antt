@@ -46,6 +46,7 @@ go_on bodies i before after h at same j b n capacity is make =
 -- a call is asked for by a body, or leaves all
 asked_or : (m : MNo) (c : Call) (t : Table) (x y : List Commands) → LeadsBodies m c t x y → AsksFor m c t x y ⊎ (y ≡ x)
 asked_or m (call.Go g) t x y h = inl h
+asked_or m call.Spawn t x y h = inl h
 asked_or m call.Yield t x y h = inl h
 asked_or m call.Exit t x y h = inl h
 asked_or m (call.Make n) t x y h = inl h

@@ -1,5 +1,5 @@
 -- Each entry of a legal run fits its types, where its call does.
-use Rattle.std.proofs.Common.{◌≡◌, ◌≤◌, ◌<◌, inl, lit<, ℕ, zero, suc, ◌+◌, Bool, true, false, cond, Option, None, Some, List, [], ◌∷◌, ◌++◌, length, refl, sym, ap, subst, arith}
+use Rattle.std.proofs.Common.{◌^◌, ◌≡◌, ◌≤◌, ◌<◌, inl, lit<, ℕ, zero, suc, ◌+◌, Bool, true, false, cond, Option, None, Some, List, [], ◌∷◌, ◌++◌, length, refl, sym, ap, subst, arith}
 use Rattle.std.proofs.lemmas.List.Elements.{All-head, All-tail, All-cons, All-nil}
 use Rattle.std.proofs.lemmas.List.Sums.{count_by-le-length, sum_by-cons}
 use Rattle.std.proofs.lemmas.Option.{slice_get_within}
@@ -44,14 +44,14 @@ use Rattle.gmp_seq.specs.Machines
 use Rattle.gmp_seq.specs.Run.{Run, IsStep, IsLegal}
 use Rattle.gmp_seq.specs.State.{State, opening}
 use Rattle.gmp_seq.specs.Step
-use Rattle.gmp_seq.specs.Table.{Table, IsReady, status_at, epoch_at, next_of, is_parked, least_deadline, some_status, due_answer, is_ready_or_running}
+use Rattle.gmp_seq.specs.Table.{Table, IsReady, status_at, epoch_at, next_of, is_parked, is_startable, least_deadline, some_status, due_answer, is_ready_or_running}
 use Rattle.gmp_seq.specs.Waits as wait
 
 -- how large a state is, and that its values are words
 record IsSmall (limits : Limits) (s : State) : Type 0 where
   wordy : IsWordy s
   goroutines : length s.table.goroutines ≤ 4096
-  epochs : (g : GNo) → epoch_at s.table g ≤ 1000001
+  epochs : (g : GNo) → epoch_at s.table g ≤ 2 ^ 63
   holders : length s.machines.holders ≤ 32
   modes : length s.machines.modes ≤ 64
   active : s.machines.active ≤ 32
@@ -70,16 +70,16 @@ in_stock t g P none h = by_row (slice_get t.goroutines g.0) refl h where
 does_in_stock : (t : Table) (g : GNo) (s : Status) → status_at t g ≡ Some s → g.0 < length t.goroutines
 does_in_stock t g s h = in_stock t g (λ (o : Option Status). o ≡ Some s) (λ e. absurd cc) h
 
-module _ (t : Table) (few : length t.goroutines ≤ 4096) (epochs : (g : GNo) → epoch_at t g ≤ 1000001) where
+module _ (t : Table) (few : length t.goroutines ≤ 4096) (epochs : (g : GNo) → epoch_at t g ≤ 2 ^ 63) where
   ready_fits : (r : Readiness) (place : TicketPlace) (answer : Woke) → IsReady t r place answer → FitsReadiness r
   ready_fits r place answer ready =
       let within : r.g.0 < length t.goroutines = slice_get_within t.goroutines r.g.0 _ ready in
       let epoch : epoch_at t r.g ≡ r.epoch = ap epoch_of ready in
-      let low : epoch_at t r.g ≤ 1000001 = epochs r.g in
+      let low : epoch_at t r.g ≤ 2 ^ 63 = epochs r.g in
       (omega arith, omega arith)
 
   next_fits : (g : GNo) → g.0 < length t.goroutines → FitsReadiness (next_of t g)
-  next_fits g within = let low : epoch_at t g ≤ 1000001 = epochs g in (omega arith, omega arith)
+  next_fits g within = let low : epoch_at t g ≤ 2 ^ 63 = epochs g in (omega arith, omega arith)
 
   next_is_fit : (g : GNo) (r : Readiness) → g.0 < length t.goroutines → r ≡ next_of t g → FitsReadiness r
   next_is_fit g r within is = subst FitsReadiness (sym is) (next_fits g within)
@@ -98,6 +98,12 @@ module _ (t : Table) (few : length t.goroutines ≤ 4096) (epochs : (g : GNo) �
   starts k (reply.Fault fault.NoSuchBody) new h = tt
   starts k (reply.Fault fault.AlreadyStarted) new h = tt
   starts k _ new h = absurd h
+
+  spawns : (answer : Reply) (new : Table) → Step.Spawns answer t new → FitsReply answer
+  spawns (reply.Ticket r) new (startable, next, is) =
+      next_is_fit r.g r (in_stock t r.g (λ (o : Option Status). option_map is_startable o ≡ Some true) (λ e. absurd cc) startable) next
+  spawns (reply.Fault fault.NoSuchBody) new h = tt
+  spawns _ new h = absurd h
 
   yields : (m : MNo) (g : GNo) (answer : Reply) (new : Table) → status_at t g ≡ Some (status.Running m) → Step.Yields g answer t new → FitsReply answer
   yields m g (reply.Shelved r) new running (next, is) = next_is_fit g r (does_in_stock t g _ running) next
@@ -278,6 +284,7 @@ module _ (limits : Limits) (old new : State) (small : IsSmall limits old) where
   effect_fits m (call.Put r) answer fits (awake, (h, rest, more)) = puts r answer old.table new.table h
   effect_fits m (call.Claim r) answer fits (free, holds, (h, rest, more)) = claims m r answer old.table new.table h
   effect_fits m (call.Go k) answer fits (g, running, (h, rest, more)) = starts old.table small.goroutines small.epochs k answer new.table h
+  effect_fits m call.Spawn answer fits (g, running, (h, rest, more)) = spawns old.table small.goroutines small.epochs answer new.table h
   effect_fits m call.Yield answer fits (g, running, (h, rest, more)) = yields old.table small.goroutines small.epochs m g answer new.table running h
   effect_fits m call.Exit answer fits (g, running, (h, rest, more)) = exits g answer old.table new.table h
   effect_fits m (call.Make capacity) answer fits (g, running, (h, is, rest)) = makes limits capacity answer old.channels new.channels small.stock h
@@ -319,7 +326,7 @@ module _ (limits : Limits) (bodies : ℕ) (capacities : List ℕ) (are : AreLimi
       let sizes = legal_sizes limits bodies capacities h s are run in
       let sound = legal_sound limits bodies capacities h s run in
       let most : sum s.counts ≤ limits.entries = order.together.entries in
-      let entries : limits.entries ≤ 1000000 = are.entries.1 in
+      let entries : limits.entries < 2 ^ 63 = are.entries.1 in
       let procs : limits.procs ≤ 32 = are.procs.1 in
       let machines : limits.machines ≤ 64 = are.machines.1 in
       let stock : bodies ≤ 4096 = are.stock.1 in
@@ -343,7 +350,7 @@ module _ (limits : Limits) (bodies : ℕ) (capacities : List ℕ) (are : AreLimi
       let order = legal_in_order limits bodies capacities h old are run in
       let sizes = legal_sizes limits bodies capacities h old are run in
       let most : sum old.counts ≤ limits.entries = order.together.entries in
-      let entries : limits.entries ≤ 1000000 = are.entries.1 in
+      let entries : limits.entries < 2 ^ 63 = are.entries.1 in
       let machines : limits.machines ≤ 64 = are.machines.1 in
       let rows : length old.counts ≡ limits.machines = sizes.counts in
       let within : e.m.0 < length old.counts = slice_get_within old.counts e.m.0 e.k number in

@@ -38,7 +38,7 @@ use Rattle.gmp_seq.specs.Fits.{FitsCall}
 use Rattle.gmp_seq.specs.State.{State}
 use Rattle.gmp_seq.specs.Step
 use Rattle.gmp_seq.specs.Laws.{is_ready}
-use Rattle.gmp_seq.specs.Table.{Table, IsReady, status_at, is_parked, set_status, made_ready, made_wait, all_woken, woken_with, due_answer}
+use Rattle.gmp_seq.specs.Table.{Table, IsReady, status_at, is_parked, is_startable, set_status, made_ready, made_wait, all_woken, woken_with, due_answer}
 use Rattle.gmp_seq.specs.Waits.{offers_from, offers_of, close_answer}
 
 -- an offered value is a word
@@ -98,6 +98,10 @@ unready_keeps o status.Dead a e unready = subst (λ (x : Option Status). KeepsWo
 parked_keeps : (o : Option Status) (a : Woke) → option_map is_parked o ≡ Some true → KeepsWoke o a
 parked_keeps (Some (status.Ready place b)) a e = absurd cc
 parked_keeps _ a e = tt
+
+startable_keeps : (o : Option Status) (a : Woke) → option_map is_startable o ≡ Some true → KeepsWoke o a
+startable_keeps (Some (status.Ready place b)) a e = absurd cc
+startable_keeps _ a e = tt
 
 due_keeps : (now : ℕ) (before : Status) (a : Woke) → due_answer now before ≡ Some a → KeepsWoke (Some before) a
 due_keeps now (status.Ready place b) a e = absurd cc
@@ -162,6 +166,11 @@ starts c k (reply.Ticket r) old new (dormant, next, is) = readied c (reply.Ticke
 starts c k (reply.Fault fault.NoSuchBody) old new (none, is) = stays c (reply.Fault fault.NoSuchBody) old new is
 starts c k (reply.Fault fault.AlreadyStarted) old new (started, is) = stays c (reply.Fault fault.AlreadyStarted) old new is
 starts c k _ old new h = absurd h
+
+spawns : (c : Call) (answer : Reply) (old new : Table) → Step.Spawns answer old new → Moves c answer old new
+spawns c (reply.Ticket r) old new (startable, next, is) = readied c (reply.Ticket r) old new r.g _ _ is (startable_keeps (status_at old r.g) _ startable)
+spawns c (reply.Fault fault.NoSuchBody) old new (none, is) = stays c (reply.Fault fault.NoSuchBody) old new is
+spawns c _ old new h = absurd h
 
 yields : (c : Call) (m : MNo) (g : GNo) (answer : Reply) (old new : Table) → status_at old g ≡ Some (status.Running m) → Step.Yields g answer old new → Moves c answer old new
 yields c m g (reply.Shelved r) old new running (next, is) = readied c (reply.Shelved r) old new g _ _ is (unready_keeps _ (status.Running m) _ running refl)
@@ -258,6 +267,7 @@ effect_lands limits m call.Take answer old new (awake, (h, rest, more)) = takes 
 effect_lands limits m (call.Put r) answer old new (awake, (h, rest, more)) = puts (call.Put r) r answer _ _ h
 effect_lands limits m (call.Claim r) answer old new (free, holds, (h, rest, more)) = claims (call.Claim r) m r answer _ _ h
 effect_lands limits m (call.Go k) answer old new (g, running, (h, rest, more)) = starts (call.Go k) k answer _ _ h
+effect_lands limits m call.Spawn answer old new (g, running, (h, rest, more)) = spawns call.Spawn answer _ _ h
 effect_lands limits m call.Yield answer old new (g, running, (h, rest, more)) = yields call.Yield m g answer _ _ running h
 effect_lands limits m call.Exit answer old new (g, running, (h, rest, more)) = exits call.Exit g answer _ _ h
 effect_lands limits m (call.Make capacity) answer old new (g, running, (h, is, rest)) = stays (call.Make capacity) answer old.table new.table is

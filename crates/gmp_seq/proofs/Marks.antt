@@ -140,6 +140,7 @@ effect_marks limits m call.Take answer old new marks (awake, (h, rest, same)) = 
 effect_marks limits m (call.Put r) answer old new marks (awake, (h, rest, same)) = stay old new same marks
 effect_marks limits m (call.Claim r) answer old new marks (free, holds, (h, rest, same)) = stay old new same marks
 effect_marks limits m (call.Go k) answer old new marks (g, running, (h, rest, same)) = stay old new same marks
+effect_marks limits m call.Spawn answer old new marks (g, running, (h, rest, same)) = stay old new same marks
 effect_marks limits m call.Yield answer old new marks (g, running, (h, rest, same)) = stay old new same marks
 effect_marks limits m call.Exit answer old new marks (g, running, (h, rest, same)) = stay old new same marks
 effect_marks limits m (call.Make capacity) answer old new marks (g, running, (h, is, same)) = stay old new same marks

@@ -128,6 +128,7 @@ effect_room limits m call.Take answer old new room (awake, (h, is, machines)) = 
 effect_room limits m (call.Put r) answer old new room (awake, (h, is, machines)) = same old new room is
 effect_room limits m (call.Claim r) answer old new room (free, holds, (h, is, machines)) = same old new room is
 effect_room limits m (call.Go k) answer old new room (g, running, (h, is, machines)) = same old new room is
+effect_room limits m call.Spawn answer old new room (g, running, (h, is, machines)) = same old new room is
 effect_room limits m call.Yield answer old new room (g, running, (h, is, machines)) = same old new room is
 effect_room limits m call.Exit answer old new room (g, running, (h, is, machines)) = same old new room is
 effect_room limits m (call.Make capacity) answer old new room (g, running, (h, table, machines)) = makes limits capacity answer old new room h

@@ -196,6 +196,7 @@ effect_rows limits m call.Take answer old new wordy fits (awake, (h, same, more)
 effect_rows limits m (call.Put r) answer old new wordy fits (awake, (h, same, more)) = stay old new wordy.rows same
 effect_rows limits m (call.Claim r) answer old new wordy fits (free, holds, (h, same, more)) = stay old new wordy.rows same
 effect_rows limits m (call.Go k) answer old new wordy fits (g, running, (h, same, more)) = stay old new wordy.rows same
+effect_rows limits m call.Spawn answer old new wordy fits (g, running, (h, same, more)) = stay old new wordy.rows same
 effect_rows limits m call.Yield answer old new wordy fits (g, running, (h, same, more)) = stay old new wordy.rows same
 effect_rows limits m call.Exit answer old new wordy fits (g, running, (h, same, more)) = stay old new wordy.rows same
 effect_rows limits m (call.Make capacity) answer old new wordy fits (g, running, (h, is, more)) = makes limits capacity answer old.channels new.channels wordy.rows h
@@ -236,4 +237,4 @@ new_words (x ∷ xs) fit (suc i) = new_words xs (All-tail (λ (capacity : ℕ). 
 
 pub opening_wordy : (limits : Limits) (bodies : ℕ) (capacities : List ℕ) → AreLimits limits bodies capacities → IsWordy (opening limits bodies capacities)
 opening_wordy limits bodies capacities are =
-    record { waits = λ i x e. absurd (nobody_waits (bodies - 1) i x e); rows = new_words capacities are.room }
+    record { waits = λ i x e. absurd (nobody_waits (bodies - 1) i x e); rows = new_words capacities are.buffers }

@@ -20,11 +20,14 @@ pub const MOST_CHANNELS: u16 = 1024;
 /// The most values that a channel's buffer may hold. Its room is taken at once, so it has a bound.
 pub const MOST_CAPACITY: u32 = 4096;
 
-/// The fewest entries that a history may be limited to.
-pub const LEAST_ENTRIES: u32 = 16;
+/// The fewest entries that a history may have room for, and so the fewest that a run may be limited to.
+pub const LEAST_ROOM: u32 = 16;
 
-/// The most entries of a history. Their room is taken at the opening, 240 bytes of address space each.
-pub const MOST_ENTRIES: u32 = 1_000_000;
+/// The most entries that a history may have room for. It is taken at the opening, 240 bytes of address space an entry.
+pub const MOST_ROOM: u32 = 1_000_000;
+
+/// The most entries of a run, all its segments together. With so many no count overflows.
+pub const MOST_ENTRIES: u64 = (1 << 63) - 1;
 
 fn fit_all(capacities: &[u32]) -> bool
     ensures { IsTrue result ↔ All (λ capacity. capacity ≤ 4096) capacities.now }
@@ -41,7 +44,7 @@ fn is_between(low: usize, n: usize, high: usize) -> bool
 
 impl Limits {
     /// Whether a run may have these limits, so many bodies, and channels of these capacities at its opening. Machines are as many as
-    /// processors or more, since one in a blocking call holds none.
+    /// processors or more, since one in a blocking call holds none, and the room for entries is no more than they are.
     pub fn allow(self, bodies: usize, capacities: &[u32]) -> bool
         ensures { IsTrue result ↔ AreLimits self bodies capacities.now }
     {
@@ -52,10 +55,8 @@ impl Limits {
             & is_between(1, bodies, MOST_BODIES)
             & is_between(capacities.len(), channels, MOST_CHANNELS as usize)
             & fit_all(capacities)
-            & is_between(
-                LEAST_ENTRIES as usize,
-                self.entries as usize,
-                MOST_ENTRIES as usize,
-            )
+            & is_between(LEAST_ROOM as usize, self.room as usize, MOST_ROOM as usize)
+            & (u64::from(self.room) <= self.entries)
+            & (self.entries <= MOST_ENTRIES)
     }
 }

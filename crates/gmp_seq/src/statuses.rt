@@ -1,6 +1,6 @@
 //! Questions on one goroutine's status, shared by the book and the plain scheduler. Each is proved equal to a word of the definitions.
 ghost use Rattle.std.specs.Prelude.{◌≡◌};
-ghost use Rattle.gmp_seq.specs.Table.{answer_of_ready, deadline_of, is_astir, is_calling, is_calling_on, is_dormant, is_parked, is_ready_or_running, is_running_on, is_shelved};
+ghost use Rattle.gmp_seq.specs.Table.{answer_of_ready, deadline_of, is_astir, is_calling, is_calling_on, is_dormant, is_parked, is_ready_or_running, is_running_on, is_shelved, is_startable};
 
 use crate::status::{Kind, Status, TicketPlace};
 use gmp_base::{MNo, Woke};
@@ -11,6 +11,13 @@ impl Status {
         ensures { result ≡ is_dormant self.now }
     {
         matches!(self, Status::Dormant)
+    }
+
+    /// Whether it was not started, or has ended.
+    pub fn is_startable(&self) -> bool
+        ensures { result ≡ is_startable self.now }
+    {
+        matches!(self, Status::Dormant | Status::Dead)
     }
 
     /// Whether its ticket is on the shelf, and not given out.

@@ -90,6 +90,11 @@ module _ (n : ℕ) (old new : Table) where
   starts k (reply.Fault fault.AlreadyStarted) (started, is) = stays n old new is
   starts k _ h = absurd h
 
+  spawns : (answer : Reply) → Step.Spawns answer old new → Keeps n old new
+  spawns (reply.Ticket r) (startable, next, is) = readied n old new r.g _ _ is (λ formed. tt)
+  spawns (reply.Fault fault.NoSuchBody) (none, is) = stays n old new is
+  spawns _ h = absurd h
+
   yields : (g : GNo) (answer : Reply) → Step.Yields g answer old new → Keeps n old new
   yields g (reply.Shelved r) (next, is) = readied n old new g _ _ is (λ formed. tt)
   yields g _ h = absurd h
@@ -268,6 +273,7 @@ module _ (limits : Limits) (old new : State) where
   effect_keeps m (call.Put r) answer fits (awake, (h, rest, more)) = on_table (puts n old.table new.table r answer h) rest
   effect_keeps m (call.Claim r) answer fits (free, holds, (h, rest, more)) = on_table (claims n old.table new.table m r answer h) rest
   effect_keeps m (call.Go k) answer fits (g, running, (h, rest, more)) = on_table (starts n old.table new.table k answer h) rest
+  effect_keeps m call.Spawn answer fits (g, running, (h, rest, more)) = on_table (spawns n old.table new.table answer h) rest
   effect_keeps m call.Yield answer fits (g, running, (h, rest, more)) = on_table (yields n old.table new.table g answer h) rest
   effect_keeps m call.Exit answer fits (g, running, (h, rest, more)) = on_table (exits n old.table new.table g answer h) rest
   effect_keeps m (call.Make capacity) answer fits (g, running, (h, is, rest)) = on_channels (makes limits capacity answer old.channels new.channels h) is
@@ -317,7 +323,7 @@ opening_forms limits bodies capacities are =
     record {
       rows = λ g does e. formed_more 0 (length (map wait.new_channel capacities)) (omega arith) does (opening_formed (bodies - 1) g.0 does e);
       few_channels = let all : length (map wait.new_channel capacities) ≡ length capacities = length-map capacities wait.new_channel in let few = are.channels.0 in omega arith;
-      channels = new_formed capacities are.room;
+      channels = new_formed capacities are.buffers;
       clock = lit< tt;
     }
 

@@ -3,7 +3,7 @@
 //! `callers_fit`, `spinners_fit` and `marked_fit` the lists of machines.
 //!
 //! Pairs are compared one by one: a start is read once in a run, and no list of who was seen is needed.
-ghost use Rattle.std.specs.Prelude.{◌≡◌, ◌↔◌, ◌&&◌, ◌<◌, ◌≤◌, ◌^◌, length, sum, IsTrue, MatchOption};
+ghost use Rattle.std.specs.Prelude.{◌≡◌, ◌↔◌, ◌&&◌, ◌+◌, ◌<◌, ◌≤◌, ◌^◌, length, sum, IsTrue, MatchOption};
 ghost use Rattle.std.specs.List.{list_all, list_any};
 ghost use Rattle.gmp_seq.specs.Laws.{HasSizes};
 ghost use Rattle.gmp_seq.specs.Machines.{has_processor, is_held_by};
@@ -43,7 +43,7 @@ fn wait_fits(arrivals: u64, status: &Status) -> bool
 /// One that was never started was never ready; any other was at least once. Each entry makes a goroutine ready once at most, and main was
 /// before the first, so the epoch is at most one more than the entries.
 fn epoch_fits(made: u64, row: &Goroutine) -> bool
-    requires { made < 2 ^ 63 }
+    requires { made + 1 < 2 ^ 64 }
     ensures { result ≡ epoch_fits made row.now }
 {
     if row.epoch > made + 1 {
@@ -208,7 +208,7 @@ impl Start {
 
     /// One row by itself: its epoch, its wait, its machine.
     fn row_fits(&self, made: u64, row: &Goroutine) -> bool
-        requires { made < 2 ^ 63 }
+        requires { made + 1 < 2 ^ 64 }
         ensures { result ≡ row_fits made self.now.arrivals (machines_of self.now) row.now }
     {
         epoch_fits(made, row)
@@ -217,7 +217,7 @@ impl Start {
     }
 
     fn rows_fit(&self, made: u64) -> bool
-        requires { made < 2 ^ 63 }
+        requires { made + 1 < 2 ^ 64 }
         ensures { result ≡ list_all (row_fits made self.now.arrivals (machines_of self.now)) self.now.goroutines.items }
     {
         self.goroutines.iter().all(|row| self.row_fits(made, row))
@@ -225,7 +225,7 @@ impl Start {
 
     /// No more waits began than entries were made.
     fn table_fits(&self, made: u64) -> bool
-        requires { made < 2 ^ 63 }
+        requires { made + 1 < 2 ^ 64 }
         ensures { result ≡ table_fits made (machines_of self.now) (table_of self.now) }
     {
         self.arrivals <= made && self.rows_fit(made) && are_apart(&self.goroutines)
@@ -334,7 +334,7 @@ impl Start {
 
     /// All that is asked beside the number of entries, which the others are compared with.
     fn parts_fit(&self, made: u64) -> bool
-        requires few { made < 2 ^ 63 }
+        requires few { made + 1 < 2 ^ 64 }
         requires modes { length self.now.modes.items ≤ 256 }
         requires spinning { length self.now.spinning.items ≤ 256 }
         requires marked { length self.now.marked.items ≤ 256 }
@@ -366,7 +366,7 @@ impl Start {
         ensures { result ≡ fits limits (state_of self.now) }
     {
         // As many entries as the limit allows, or more, would have an outcome: no run goes on from there.
-        match total(&self.counts, u64::from(limits.entries)) {
+        match total(&self.counts, limits.entries) {
             Some(made) => self.parts_fit(made),
             None => false,
         }

@@ -1,11 +1,12 @@
 -- The deadlines of those who wait, as they are kept.
-use Rattle.std.specs.Prelude.{◌≡◌, ℕ, ◌<◌, ◌≤◌, ◌^◌, ◌&&◌, ◌||◌, nat_lt, not, true, Bool, Option, None, List, length, AllPairs, Contains, slice_get, ◌↔◌, Some}
+use Rattle.std.specs.Prelude.{◌≡◌, ℕ, ◌<◌, ◌≤◌, ◌^◌, ◌&&◌, ◌||◌, nat_lt, not, true, false, Bool, Option, None, List, length, AllPairs, Contains, slice_get, ◌↔◌, Some}
 use Rattle.std.specs.Option.{option_map, option_map_or}
 use Rattle.gmp_base.specs.declared.number.GNo.{GNo}
 use Rattle.gmp_seq.specs.declared.status.Goroutine.{Goroutine}
 use Rattle.gmp_seq.specs.declared.status.Status.{Status}
 use Rattle.gmp_seq.specs.declared.status.Status.TheVariants.{Waiting}
-use Rattle.gmp_table.specs.Kept.{IsCounted}
+use Rattle.gmp_seq.specs.Table.{is_startable}
+use Rattle.gmp_table.specs.Kept.{IsCounted, passes_at}
 use Rattle.gmp_table.specs.Waking.{is_before}
 use Rattle.gmp_table.specs.declared.deadlines.Deadline.{Deadline}
 
@@ -36,9 +37,14 @@ pub record DueContents : Type 0 where
   pub list : List Deadline
   pub room : ℕ
 
--- the rows are few and counted, and their deadlines stand in the list, which has room for one of each
-pub record IsTimed (rows : List Goroutine) (bodies going calling : ℕ) (due : DueContents) : Type 0 where
+-- no goroutine below this number is dormant or dead
+abbrev pub NoneStartableBelow : ℕ → List Goroutine → Type 0
+NoneStartableBelow low rows = (i : ℕ) → i < low → passes_at is_startable rows i ≡ false
+
+-- the rows are few and counted, their deadlines stand in the list, which has room for one of each, and who may be started isn't below low
+pub record IsTimed (rows : List Goroutine) (bodies going calling : ℕ) (due : DueContents) (low : ℕ) : Type 0 where
   pub counted : IsCounted rows bodies going calling (length due.list)
   pub each : AreDue rows due.list
   pub room : bodies ≤ due.room
   pub few : bodies < 2 ^ 16
+  pub startable : NoneStartableBelow low rows

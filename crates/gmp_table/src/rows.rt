@@ -1,9 +1,13 @@
 //! The rows of the table, with counts and the deadlines in order, so that a question about all of them needs no scan. A park asks who goes
 //! on, and a park must not look at all goroutines.
-ghost use Rattle.std.specs.Prelude.{◌≡◌, ◌+◌, ◌<◌, ◌^◌, replicate, length, slice_get, slice_set, option_copied, nat_lt, IfOk};
+ghost use Rattle.std.specs.Prelude.{◌≡◌, ◌+◌, ◌<◌, ◌≤◌, ◌^◌, true, position, replicate, length, slice_get, slice_set, option_copied, nat_lt, IfOk};
+ghost use Rattle.gmp_base.specs.declared.number.GNo.{GNo};
+ghost use Rattle.gmp_seq.specs.declared.status.Goroutine.{Goroutine};
 ghost use Rattle.gmp_seq.specs.State.{dormant};
-ghost use Rattle.gmp_seq.specs.Table.{is_calling, is_ready_or_running, least_of};
+ghost use Rattle.std.specs.Option.{option_map};
+ghost use Rattle.gmp_seq.specs.Table.{is_calling, is_ready_or_running, is_startable, least_of};
 ghost use Rattle.gmp_table.specs.Contents.{epoch_in, answer_in, turned, risen, has_deadline};
+ghost use Rattle.gmp_table.specs.Due.{NoneStartableBelow};
 ghost use Rattle.gmp_table.specs.Kept.{count_status};
 ghost use Rattle.gmp_table.specs.declared.wake.Wake.{Wake};
 ghost use Rattle.gmp_table.specs.Waking.{IsFirst};
@@ -28,6 +32,8 @@ pub(crate) struct Rows {
     calling: usize,
     /// Those of all who wait with one.
     deadlines: Deadlines,
+    /// Nobody below this number is dormant or dead, so that who is looked for is found by few looks.
+    low: u16,
 }
 
 impl Model for Rows {
@@ -39,8 +45,36 @@ impl Model for Rows {
 
     ghost view = { λ r. r.list.items };
 
-    // The counts are those of the rows, the deadlines are those of all who wait with one, and there is room for one each.
-    ghost invariant = { λ r. IsTimed r.list.items r.bodies r.going r.calling r.deadlines };
+    // The counts are those of the rows, the deadlines are those of all who wait with one, there is room for one each, and who may be started
+    // isn't below `low`.
+    ghost invariant = { λ r. IsTimed r.list.items r.bodies r.going r.calling r.deadlines r.low };
+}
+
+/// The number below which nobody may be started, once g has this status.
+#[inline(always)]
+fn lowered(low: u16, g: GNo, status: &Status) -> u16
+    ensures below { result ≤ low }
+    ensures at { is_startable status.now ≡ true → result ≤ g.0 }
+{
+    if status.is_startable() {
+        low.min(g.0)
+    } else {
+        low
+    }
+}
+
+/// The least number, of those from here on, of a goroutine that is dormant or dead.
+fn first_startable(rows: &[Goroutine], from: u16, bodies: u16) -> Option<u16>
+    requires below { NoneStartableBelow from rows.now }
+    requires size { length rows.now ≡ bodies }
+    ensures { result ≡ position (λ (x : Goroutine). is_startable x.status) rows.now }
+{
+    for i in from..bodies {
+        if rows[i as usize].status.is_startable() {
+            return Some(i);
+        }
+    }
+    None
 }
 
 impl Rows {
@@ -62,6 +96,7 @@ impl Rows {
             going: 0,
             calling: 0,
             deadlines,
+            low: 0,
         })
     }
 
@@ -120,6 +155,7 @@ impl Rows {
         self.deadlines.add(Deadline::of(g, &row.status));
         self.going = self.going - going as usize + row.status.is_ready_or_running() as usize;
         self.calling = self.calling - calling as usize + row.status.is_calling() as usize;
+        self.low = lowered(self.low, g, &row.status);
         self.list[i] = row;
     }
 
@@ -150,6 +186,17 @@ impl Rows {
             },
         );
         epoch
+    }
+
+    /// The least number of those that are dormant or dead. It looks at those between the one that it found before and this one, and at those
+    /// that ended since.
+    pub(crate) fn least_startable(&mut self) -> Option<GNo>
+        ensures least { option_map (λ (g : GNo). g.0) result ≡ position (λ (x : Goroutine). is_startable x.status) self.old }
+        ensures same { self.new ≡ self.old }
+    {
+        let found = first_startable(&self.list, self.low, self.bodies);
+        self.low = found.unwrap_or(self.bodies);
+        found.map(GNo)
     }
 
     /// Whether anybody is ready or running.

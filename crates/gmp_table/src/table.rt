@@ -1,14 +1,17 @@
 //! The status table: rows and shelf, and how many waits began and what the clock shows.
 //!
-//! A goroutine's way: dormant, ready (`start`, or the opening for main), running (`claim`), and then waiting (`wait`) or in a blocking call
-//! (`enter`), from which it comes back ready or running (`ready`, `requeue`, `leave`), until it is dead (`dead`). While it is ready its
+//! A goroutine's way: dormant, ready (`start`, `spawn`, or the opening for main), running (`claim`), and then waiting (`wait`) or in a blocking call
+//! (`enter`), from which it comes back ready or running (`ready`, `requeue`, `leave`), until it is dead (`dead`), from which `spawn` may start it anew. While it is ready its
 //! ticket is on the shelf or out (`shelve`, `unshelve`), and its epoch is the number of times that it was made ready.
-ghost use Rattle.std.specs.Prelude.{◌≡◌, ◌<◌, ◌^◌, true, false, Some, [], ◌∷◌, ◌++◌, max, slice_get, option_copied, length, IfOk, IfSome, IfNone};
+ghost use Rattle.std.specs.Prelude.{◌≡◌, ◌<◌, ◌^◌, true, false, Some, [], ◌∷◌, ◌++◌, max, position, slice_get, option_copied, length, IfOk, IfSome, IfNone};
 ghost use Rattle.std.specs.Option.{option_map_or};
 ghost use Rattle.gmp_base.specs.declared.ask.Woke.{Woke};
 ghost use Rattle.gmp_seq.specs.declared.call.Reply.{Reply};
-ghost use Rattle.gmp_seq.specs.Step.{Takes, Puts, Claims, Starts};
-ghost use Rattle.gmp_seq.specs.Table.{IsReady, IsOffShelf, status_at, epoch_at, next_of, some_status, is_running_on, is_shelved, is_astir, is_ready_or_running, is_outstanding, least_deadline, set_status, made_ready, made_wait};
+ghost use Rattle.gmp_base.specs.declared.ask.Fault.{Fault};
+ghost use Rattle.gmp_base.specs.declared.number.GNo.{GNo};
+ghost use Rattle.gmp_seq.specs.declared.status.Goroutine.{Goroutine};
+ghost use Rattle.gmp_seq.specs.Step.{Takes, Puts, Claims, Spawns, Starts};
+ghost use Rattle.gmp_seq.specs.Table.{IsReady, IsOffShelf, status_at, epoch_at, next_of, some_status, is_running_on, is_shelved, is_astir, is_ready_or_running, is_outstanding, is_startable, least_deadline, set_status, made_ready, made_wait};
 ghost use Rattle.gmp_table.specs.Kept.{IsListing};
 ghost use Rattle.gmp_table.specs.Contents.{TableContents, opening_contents};
 ghost use Rattle.gmp_table.specs.declared.wake.Wake.{Wake};
@@ -223,6 +226,19 @@ impl StatusTable {
         self.ready(g, Woke::First)
     }
 
+    /// Starts the least goroutine that is dormant or dead, if there is one: it is ready, and its ticket is given out. The definitions let it be
+    /// any.
+    pub fn spawn(&mut self) -> Option<Readiness>
+        requires young { (g : GNo) → epoch_at self.old.table g < 2 ^ 63 }
+        ensures none { IfNone result (Spawns (Reply.Fault Fault.NoSuchBody) self.old.table self.new.table) }
+        ensures spawns { IfSome result (λ r. Spawns (Reply.Ticket r) self.old.table self.new.table) }
+        ensures least { IfSome result (λ r. position (λ (x : Goroutine). is_startable x.status) self.old.table.goroutines ≡ Some r.g.0) }
+        ensures shelf { self.new.shelf ≡ self.old.shelf }
+    {
+        let g = self.rows.least_startable()?;
+        Some(self.ready(g, Woke::First))
+    }
+
     /// Makes a goroutine ready, its ticket given out to the machine that makes the call: one that starts, or stops waiting since it was
     /// served or readied.
     pub fn ready(&mut self, g: GNo, woke: Woke) -> Readiness
@@ -250,7 +266,7 @@ impl StatusTable {
         Readiness { g, epoch }
     }
 
-    /// Ends a goroutine that is off the shelf. Nobody starts it again.
+    /// Ends a goroutine that is off the shelf. A spawn may start it again.
     pub fn dead(&mut self, g: GNo)
         requires { IsOffShelf self.old.table g }
         ensures table { self.new.table ≡ set_status self.old.table g Status.Dead }

@@ -4,8 +4,8 @@
 
 use anyhow::Result;
 use gmp_host::{
-    Act, Ask, Channel, Ended, GNo, Gate, Goroutine, Host, MNo, Nonsense, Note, Settings, Short,
-    Since, Woke,
+    Act, Ask, Channel, Ended, GNo, Gate, Goroutine, History, Host, MNo, Nonsense, Note, Settings,
+    Short, Since, Sink, Stop, Woke,
 };
 use std::alloc::Global;
 use std::sync::Wait;
@@ -83,6 +83,28 @@ impl Gate for Counts {
     }
 }
 
+/// Takes two pieces, and stops the run at the third.
+#[derive(Drop)]
+struct Two {
+    pieces: u8,
+}
+
+impl Sink for Two {
+    ghost use Rattle.std.specs.Prelude.{List};
+    ghost use Rattle.gmp_seq.specs.declared.call.Entry.{Entry};
+
+    ghost takes = { λ before entries after. Unit {0} };
+
+    fn take(&mut self, history: &mut History) -> Result<(), Stop> {
+        if self.pieces == 2 {
+            return Err(Stop);
+        }
+        self.pieces = self.pieces.saturating_add(1);
+        history.clear();
+        Ok(())
+    }
+}
+
 /// How a host runs.
 #[derive(Clone, Copy, Drop)]
 enum Way<'a> {
@@ -121,6 +143,23 @@ fn yielding(alloc: Global, settings: Settings, is_pushed: bool) -> Result<Ended,
     host.step()
 }
 
+/// How many pieces the sink took of a run of one who yields, and how that falls short.
+fn stopped<R: Threads + Wait + Clock + Sync>(
+    rt: &R,
+    alloc: Global,
+) -> Result<(Result<Ended, Short>, u8), Short> {
+    let settings = Settings {
+        entries: 1 << 40,
+        room: 16,
+        ..Settings::default()
+    };
+    let mut host = Host::new(alloc, settings)?;
+    let yielder = host.boxed(Yielder)?;
+    host.push(yielder)?;
+    let (ended, sink) = host.run_into(rt, Two { pieces: 0 });
+    Ok((ended, sink.pieces))
+}
+
 fn main(rt: HostRuntime) -> Result<()> {
     let alloc = rt.alloc();
     println!(rt; "step: {}", lossy(&rt, alloc, Way::Step)?)?;
@@ -149,6 +188,10 @@ fn main(rt: HostRuntime) -> Result<()> {
             Ok(ended) => println!(rt; "{ended}, {} entries", ended.entries)?,
             Err(short) => println!(rt; "{short}")?,
         }
+    }
+    match stopped(&rt, alloc)? {
+        (Ok(ended), _) => println!(rt; "{ended}")?,
+        (Err(short), pieces) => println!(rt; "{short}, pieces: {pieces}")?,
     }
     Ok(())
 }

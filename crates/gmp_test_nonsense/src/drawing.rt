@@ -205,6 +205,7 @@ impl Draw {
             4..=5 => Ask::Cap(self.channel()),
             6 => Ask::Procs(self.active()),
             7..=16 => Ask::Ready(self.goroutine()),
+            17..=20 => Ask::Spawn,
             _ => Ask::Go(self.goroutine()),
         }
     }

@@ -13,6 +13,7 @@ pub const LIMITS: Limits = Limits {
     machines: MACHINES as u8,
     channels: CHANNELS,
     entries: 5_000,
+    room: 5_000,
 };
 
 /// The processors and machines of runs in threads.

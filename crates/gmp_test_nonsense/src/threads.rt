@@ -70,7 +70,9 @@ fn judged(alloc: Global, limits: Limits, report: &Report<Boxed>) -> Result<Ended
     if let Err(mismatch) = audit(&report.history, &report.logs) {
         return Err(RunError::OtherLog(mismatch.m.0));
     }
-    let outcome = report.outcome;
+    let Some(outcome) = report.outcome else {
+        return Err(RunError::Endless);
+    };
     let entries = report.history.len();
     replay(alloc, limits, &report.history, outcome)?;
     Ok(Ended { outcome, entries })

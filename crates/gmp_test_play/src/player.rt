@@ -104,7 +104,7 @@ impl Player {
                 Ok(())
             }
             "other" => self.other(number(rest)?),
-            "segment" => self.segment(book, rest, line),
+            "segment" => self.segment(book, line),
             "held" | "called" | "proc" | "pass" => self.forged(word, rest),
             _ => self.numbered(book, line),
         }

@@ -1,5 +1,5 @@
 //! One run: a script in threads under the gate, and what is judged of its report. `Counting` is the clock, by which every deadline comes
-//! soon.
+//! soon, and `Joined` the sink of the run's history.
 
 ghost use Rattle.std.specs.Prelude.{◌≡◌, All, IfOk};
 
@@ -9,7 +9,8 @@ use crate::gate::Turnstile;
 use crate::scripts::Row;
 use gmp_check::outcome_of;
 use gmp_follow::follows;
-use gmp_run::{Clock, Report, run};
+use gmp_history::History;
+use gmp_run::{Clock, Report, Sink, Stop, run_into};
 use gmp_script::{Script, ScriptBody};
 use gmp_seq::{Limits, Outcome};
 use gmp_worker::{Boxed, audit};
@@ -33,6 +34,50 @@ impl Clock for Counting {
     fn rest(&self, _most: u64) {}
 }
 
+/// The pieces of a history, joined.
+#[derive(Drop)]
+struct Joined {
+    entries: History,
+    /// No memory was left for some entry.
+    is_short: bool,
+    /// How many pieces it takes before it stops the run.
+    pieces: u64,
+    /// It has stopped the run.
+    has_stopped: bool,
+}
+
+impl Joined {
+    /// Adds these entries behind those that are there.
+    fn add(&mut self, entries: &History) {
+        for entry in entries.iter() {
+            if self.entries.make_room().is_err() {
+                self.is_short = true;
+                return;
+            }
+            self.entries
+                .push(entry.m, entry.k, &entry.call, &entry.reply);
+        }
+    }
+}
+
+impl Sink for Joined {
+    ghost use Rattle.std.specs.Prelude.{List};
+    ghost use Rattle.gmp_seq.specs.declared.call.Entry.{Entry};
+
+    ghost takes = { λ before entries after. Unit {0} };
+
+    fn take(&mut self, history: &mut History) -> Result<(), Stop> {
+        if self.pieces == 0 {
+            self.has_stopped = true;
+            return Err(Stop);
+        }
+        self.pieces = self.pieces.saturating_sub(1);
+        self.add(history);
+        history.clear();
+        Ok(())
+    }
+}
+
 /// The script of lines that are parted by `/`.
 fn script(alloc: Global, text: &[u8]) -> Result<Script, RaceError>
     ensures { IfOk result (λ s. All (λ b. b.next ≡ 0) s.bodies.items) }
@@ -46,32 +91,33 @@ fn script(alloc: Global, text: &[u8]) -> Result<Script, RaceError>
     Ok(script)
 }
 
-/// Judges a run's report: how it ended, that the history is legal, follows the script and leaves no work asleep, and that the logs agree
-/// with it.
+/// Judges a run's report and its whole history: how it ended, that the history is legal, follows the script and leaves no work asleep, and
+/// that the logs agree with it. One that its sink stopped has no end, and may leave work that nobody was woken for.
 fn judge(
     alloc: Global,
     limits: Limits,
     bodies: &[ScriptBody],
     capacities: &[u32],
     report: &Report<Boxed>,
-    ends: Outcome,
+    history: &History,
+    ends: Option<Outcome>,
 ) -> Result<(), RaceError>
     requires { All (λ b. b.next ≡ 0) bodies.now }
 {
-    if audit(&report.history, &report.logs).is_err() {
+    if audit(history, &report.logs).is_err() {
         return Err(RaceError::Mismatch);
     }
-    if leaves_work_asleep(alloc, limits.machines, &report.history)? {
+    if ends.is_some() && leaves_work_asleep(alloc, limits.machines, history)? {
         return Err(RaceError::Asleep);
     }
     let Ok(count) = u16::try_from(bodies.len()) else {
         return Err(RaceError::NotLegal);
     };
-    match outcome_of(alloc, limits, count, capacities, &report.history) {
-        Ok(Some(outcome)) if outcome == report.outcome => {}
+    match outcome_of(alloc, limits, count, capacities, history) {
+        Ok(outcome) if outcome == report.outcome => {}
         _ => return Err(RaceError::NotLegal),
     }
-    match follows(alloc, limits, bodies, capacities, &report.history) {
+    match follows(alloc, limits, bodies, capacities, history) {
         Ok(true) => {}
         _ => return Err(RaceError::OtherAsk),
     }
@@ -113,12 +159,38 @@ fn raced<R: Threads + Wait + Sync>(
         0
     };
     let gate = Turnstile::new(seed, others);
-    match run(
-        rt, alloc, seed, limits, capacities, boxes, &clock, &gate, seed,
-    ) {
-        Ok(report) => judge(alloc, limits, same, capacities, &report, row.ends),
-        Err(_) => Err(RaceError::NotBegun),
+    let none = Joined {
+        entries: History::new(alloc),
+        is_short: false,
+        // Some runs are stopped at their second piece.
+        pieces: if seed % 8 == 1 { 1 } else { u64::MAX },
+        has_stopped: false,
+    };
+    let (ran, joined) = run_into(
+        rt, alloc, seed, limits, capacities, boxes, &clock, &gate, seed, none,
+    );
+    let Ok(report) = ran else {
+        return Err(RaceError::NotBegun);
+    };
+    let mut whole = joined;
+    whole.add(&report.history);
+    if whole.is_short {
+        return Err(RaceError::OutOfMemory);
     }
+    let ends = if whole.has_stopped {
+        None
+    } else {
+        Some(row.ends)
+    };
+    judge(
+        alloc,
+        limits,
+        same,
+        capacities,
+        &report,
+        &whole.entries,
+        ends,
+    )
 }
 
 /// Runs the row's script by so many processors and machines, under a gate of this seed, and judges it.
@@ -135,11 +207,14 @@ pub fn played<R: Threads + Wait + Sync>(
         ..
     } = script(alloc, row.script)?;
     let same = script(alloc, row.script)?.bodies;
+    // Every other history goes to the sink in the smallest pieces.
+    let room = if seed % 2 == 0 { 10_000 } else { 16 };
     let limits = Limits {
         procs: size.0,
         machines: size.1,
         channels: 16,
         entries: 10_000,
+        room,
     };
     raced(rt, alloc, limits, &capacities, bodies, &same, row, seed)
 }

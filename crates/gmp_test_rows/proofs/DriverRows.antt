@@ -168,6 +168,12 @@ mind_tick_8_woke_0 = (refl, refl, refl)
 go_1_ticket : Leads usual (place.Do (ask.Go (goroutine 1))) (told.Replied (reply.Ticket ready)) (act.Call (call.Go (goroutine 1))) place.Store false
 go_1_ticket = (refl, refl, refl)
 
+spawn_ticket : Leads usual (place.Do ask.Spawn) (told.Replied (reply.Ticket ready)) (act.Call call.Spawn) place.Store false
+spawn_ticket = (refl, refl, refl)
+
+spawn_fault_no_such_body : Leads usual (place.Do ask.Spawn) (told.Replied (reply.Fault fault.NoSuchBody)) (act.Call call.Spawn) place.Run false
+spawn_fault_no_such_body = (refl, refl, refl)
+
 recv_none_got_5_true_none : Leads usual (place.Do (ask.Recv None)) (told.Replied (reply.Got 5 true None)) (act.Call (call.Recv None)) place.Run false
 recv_none_got_5_true_none = (refl, refl, refl)
 

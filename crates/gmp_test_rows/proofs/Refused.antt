@@ -6,6 +6,7 @@ use Rattle.gmp_base.specs.declared.ask.Fault.TheVariants as fault
 use Rattle.gmp_base.specs.declared.ask.Woke.TheVariants as woke
 use Rattle.gmp_base.specs.declared.cases.Case.TheVariants as case
 use Rattle.gmp_base.specs.declared.number.MNo.{MNo}
+use Rattle.gmp_base.specs.declared.number.Readiness.{Readiness}
 use Rattle.gmp_test_rows.proofs.Traces.{goroutine, machine, processor, channel, ticket, entry, does, limits}
 use Rattle.gmp_test_rows.proofs.Rows.{yielding_after_1, buffering_after_2, buffering_after_3}
 use Rattle.gmp_test_rows.proofs.MachineRows.{changing_after_1, handing_off_after_1, handing_off_after_2, handing_off_after_3, handing_off_after_4}
@@ -233,11 +234,29 @@ pub acquired_twice : (s : State)
     (state (does (status.Ready Shelf woke.First) 1 ∷ []) [] (Some (machine 0) ∷ None ∷ []) (mode.Awake ∷ mode.Awake ∷ []) (false ∷ false ∷ []) (0 ∷ 0 ∷ [])) s → ⊥
 acquired_twice s (k, (ongoing, ((awake, bare, idle, is), table, channels), counts, ended)) = let no_ : true ≡ false = bare in cc
 
--- who is dead isn't started again
+-- no go starts who is dead
 pub started_again : (s : State)
     → IsStep (limits 1 1 16 10000) (entry 0 0 (call.Go (goroutine 1)) (reply.Ticket (ticket 1 2)))
     (state (does (status.Running (machine 0)) 1 ∷ does status.Dead 1 ∷ []) [] (Some (machine 0) ∷ []) (mode.Awake ∷ []) (false ∷ []) (0 ∷ [])) s → ⊥
 started_again s (k, (ongoing, (g, running, ((dormant, next, is), channels, machines)), counts, ended)) = let no_ : Some status.Dead ≡ Some status.Dormant = dormant in cc
+
+-- no spawn starts who runs
+pub spawned_running : (s : State)
+    → IsStep (limits 1 1 16 10000) (entry 0 0 call.Spawn (reply.Ticket (ticket 0 2)))
+    (state (does (status.Running (machine 0)) 1 ∷ does status.Dead 1 ∷ []) [] (Some (machine 0) ∷ []) (mode.Awake ∷ []) (false ∷ []) (0 ∷ [])) s → ⊥
+spawned_running s (k, (ongoing, (g, running, ((startable, next, is), channels, machines)), counts, ended)) = let no_ : Some false ≡ Some true = startable in cc
+
+-- nor who is dead by the epoch that it had
+pub spawned_by_old_epoch : (s : State)
+    → IsStep (limits 1 1 16 10000) (entry 0 0 call.Spawn (reply.Ticket (ticket 1 1)))
+    (state (does (status.Running (machine 0)) 1 ∷ does status.Dead 1 ∷ []) [] (Some (machine 0) ∷ []) (mode.Awake ∷ []) (false ∷ []) (0 ∷ [])) s → ⊥
+spawned_by_old_epoch s (k, (ongoing, (g, running, ((startable, next, is), channels, machines)), counts, ended)) = let no_ : ◌≡◌ {A = ℕ} 1 2 = ap (λ (r : Readiness). r.epoch) next in cc
+
+-- a spawn finds nobody only where nobody is dormant or dead
+pub spawned_none : (s : State)
+    → IsStep (limits 1 1 16 10000) (entry 0 0 call.Spawn (reply.Fault fault.NoSuchBody))
+    (state (does (status.Running (machine 0)) 1 ∷ does status.Dead 1 ∷ []) [] (Some (machine 0) ∷ []) (mode.Awake ∷ []) (false ∷ []) (0 ∷ [])) s → ⊥
+spawned_none s (k, (ongoing, (g, running, ((none, is), channels, machines)), counts, ended)) = let no_ : true ≡ false = none in cc
 
 -- The number of active processors
 

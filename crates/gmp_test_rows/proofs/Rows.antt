@@ -247,6 +247,54 @@ starting_twice_is_legal = (
   ),
 )
 
+-- the one that ended is started again, by its next epoch, and then there is none to start
+abbrev pub spawning : List Entry
+spawning =
+    entry 0 8 call.Take (reply.Ticket (ticket 0 2)) ∷
+    entry 0 9 (call.Claim (ticket 0 2)) reply.Held ∷
+    entry 0 10 call.Spawn (reply.Ticket (ticket 1 2)) ∷
+    entry 0 11 call.Spawn (reply.Fault fault.NoSuchBody) ∷
+    entry 0 12 call.Exit reply.MainEnded ∷
+    []
+
+abbrev pub spawning_end : State
+spawning_end =
+    record {
+      table = record { goroutines = does status.Dead 2 ∷ does (status.Ready Out woke.First) 2 ∷ []; arrivals = 0; clock = 0 };
+      channels = [];
+      machines = record { holders = Some (machine 0) ∷ []; modes = mode.Awake ∷ []; spinning = false ∷ []; marked = false ∷ []; active = 1 };
+      counts = 13 ∷ [];
+      outcome = Some outcome.MainEnded;
+    }
+
+spawning_goes : Run (limits 1 1 16 10000) starting_after_1 spawning spawning_end
+spawning_goes = (
+  _,
+  (refl, (refl, (refl, ((_, refl, refl), refl, refl)), refl, refl)),
+  (
+    _,
+    (refl, (refl, ((refl, refl, refl), refl, ((_, refl, refl), refl, refl)), refl, refl)),
+    (
+      _,
+      (refl, (refl, (goroutine 0, refl, ((refl, refl, refl), refl, refl)), refl, refl)),
+      (
+        _,
+        (refl, (refl, (goroutine 0, refl, ((refl, refl), refl, refl)), refl, refl)),
+        (
+          _,
+          (refl, (refl, (goroutine 0, refl, ((refl, refl), refl, refl)), refl, refl)),
+          refl,
+        ),
+      ),
+    ),
+  ),
+)
+
+pub spawning_is_legal : Run (limits 1 1 16 10000) (opening (limits 1 1 16 10000) 2 ([])) (starting_1 ++ spawning) spawning_end
+spawning_is_legal =
+    run_join (limits 1 1 16 10000) (opening (limits 1 1 16 10000) 2 ([])) starting_after_1 spawning_end starting_1 (spawning) starting_1_goes
+    (spawning_goes)
+
 -- main receives and nobody sends
 abbrev pub receiving_alone : List Entry
 receiving_alone =

@@ -37,7 +37,7 @@ abbrev pub does : Status → ℕ → Goroutine
 does status epoch = record { status = status; epoch = epoch }
 
 abbrev pub limits : ℕ → ℕ → ℕ → ℕ → Limits
-limits procs machines channels entries = record { procs = procs; machines = machines; channels = channels; entries = entries }
+limits procs machines channels entries = record { procs = procs; machines = machines; channels = channels; entries = entries; room = entries }
 
 -- a number that is below another by the test
 pub under : {p n : ℕ} → nat_lt p n ≡ true → p < n

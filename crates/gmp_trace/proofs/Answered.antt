@@ -46,6 +46,11 @@ go g (reply.Fault fault.NoSuchBody) old new h = refl
 go g (reply.Fault fault.AlreadyStarted) old new h = refl
 go g _ old new h = absurd h
 
+spawn : (answer : Reply) (old new : Table) → Step.Spawns answer old new → IsTrue (answers call.Spawn answer)
+spawn (reply.Ticket r) old new h = refl
+spawn (reply.Fault fault.NoSuchBody) old new h = refl
+spawn _ old new h = absurd h
+
 yield : (g : GNo) (answer : Reply) (old new : Table) → Step.Yields g answer old new → IsTrue (answers call.Yield answer)
 yield g (reply.Shelved r) old new h = refl
 yield g _ old new h = absurd h
@@ -208,6 +213,7 @@ effect_answers limits m call.Take answer old new (awake, (h, channels, machines)
 effect_answers limits m (call.Put r) answer old new (awake, (h, channels, machines)) = put r answer _ _ h
 effect_answers limits m (call.Claim r) answer old new (free, holds, (h, channels, machines)) = claim m r answer _ _ h
 effect_answers limits m (call.Go k) answer old new (g, running, (h, channels, machines)) = go k answer _ _ h
+effect_answers limits m call.Spawn answer old new (g, running, (h, channels, machines)) = spawn answer _ _ h
 effect_answers limits m call.Yield answer old new (g, running, (h, channels, machines)) = yield g answer _ _ h
 effect_answers limits m call.Exit answer old new (g, running, (h, channels, machines)) = exit g answer _ _ h
 effect_answers limits m (call.Make capacity) answer old new (g, running, (h, table, machines)) = make limits capacity answer _ _ h

@@ -28,14 +28,14 @@ machines_more counts es e size h there m lt =
     ]
 
 -- the name at a place is that of no other place
-is_one_of : (j : ℕ) → j < 29 → agree_below (λ i. bytes_eq (get_or names i []) (get_or names j [])) (λ i. i == j) 29 ≡ true
+is_one_of : (j : ℕ) → j < 30 → agree_below (λ i. bytes_eq (get_or names i []) (get_or names j [])) (λ i. i == j) 30 ≡ true
 unfolding names
-is_one_of j lt = agree_below_at (λ j. agree_below (λ i. bytes_eq (get_or names i []) (get_or names j [])) (λ i. i == j) 29) (λ j. true) 29 j refl lt
+is_one_of j lt = agree_below_at (λ j. agree_below (λ i. bytes_eq (get_or names i []) (get_or names j [])) (λ i. i == j) 30) (λ j. true) 30 j refl lt
 
-is_one : (i j : ℕ) → i < 29 → j < 29 → bytes_eq (get_or names i []) (get_or names j []) ≡ (i == j)
-is_one i j h k = agree_below_at (λ i. bytes_eq (get_or names i []) (get_or names j [])) (λ i. i == j) 29 i (is_one_of j k) h
+is_one : (i j : ℕ) → i < 30 → j < 30 → bytes_eq (get_or names i []) (get_or names j []) ≡ (i == j)
+is_one i j h k = agree_below_at (λ i. bytes_eq (get_or names i []) (get_or names j [])) (λ i. i == j) 30 i (is_one_of j k) h
 
-pub calls_counted : (counts : List ℕ) (es : List Entry) (e : Entry) (place : ℕ) → length counts ≡ 29 → CountsCalls counts es → place < 29
+pub calls_counted : (counts : List ℕ) (es : List Entry) (e : Entry) (place : ℕ) → length counts ≡ 30 → CountsCalls counts es → place < 30
     → get_or names place [] ≡ call_name e.call → CountsCalls (set counts place (get_or counts place 0 + 1)) (es ++ e ∷ [])
 calls_counted counts es e place size h there is i lt =
     let name = get_or names i [] in
@@ -59,15 +59,15 @@ machine_lines_none m n es same = let none : n - m ≡ 0 = omega arith in rw none
 pub machines_none : (zeros : List ℕ) (es : List Entry) → zeros ≡ replicate 256 0 → es ≡ [] → CountsMachines zeros es
 machines_none zeros es is none m lt = rw (is, none) (get_or-replicate 256 m 0 0 lt)
 
-pub calls_none : (zeros : List ℕ) (es : List Entry) → zeros ≡ replicate 29 0 → es ≡ [] → CountsCalls zeros es
-calls_none zeros es is none i lt = rw (is, none) (get_or-replicate 29 i 0 0 lt)
+pub calls_none : (zeros : List ℕ) (es : List Entry) → zeros ≡ replicate 30 0 → es ≡ [] → CountsCalls zeros es
+calls_none zeros es is none i lt = rw (is, none) (get_or-replicate 30 i 0 0 lt)
 
-names_all : length names ≡ 29
+names_all : length names ≡ 30
 unfolding names
 names_all = refl
 
 -- a call more has a line
-pub call_lines_next : (place : ℕ) (es : List Entry) (out : List ℕ) → place < 29
+pub call_lines_next : (place : ℕ) (es : List Entry) (out : List ℕ) → place < 30
     → out ++ call_lines (drop place names) es
     ≡ (out ++ call_line (get_or names place []) (calls_named (get_or names place []) es)) ++ call_lines (drop (place + 1) names) es
 call_lines_next place es out lt =
@@ -75,7 +75,7 @@ call_lines_next place es out lt =
     let parts : drop place names ≡ name ∷ drop (place + 1) names = rw add-one (drop-cons names place [] (omega (arith, names_all))) in
     ap (λ (ns : List (List ℕ)). out ++ call_lines ns es) parts ∙ sym (append_assoc out (call_line name (calls_named name es)) (call_lines (drop (place + 1) names) es))
 
-pub call_lines_none : (place : ℕ) (es : List Entry) → 29 ≤ place → call_lines (drop place names) es ≡ []
+pub call_lines_none : (place : ℕ) (es : List Entry) → 30 ≤ place → call_lines (drop place names) es ≡ []
 call_lines_none place es past = ap (λ (ns : List (List ℕ)). call_lines ns es) (drop_all place names (omega (arith, names_all)))
 
 -- a space more

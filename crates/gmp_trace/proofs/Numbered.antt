@@ -1,5 +1,5 @@
 -- The entries of a legal run are numbered.
-use Rattle.std.proofs.Common.{◌≡◌, ℕ, zero, suc, ◌<◌, ◌==◌, Some, List, [], ◌∷◌, ◌++◌, length, sum, refl, sym, subst, ◌∙◌, IsTrue, All, arith}
+use Rattle.std.proofs.Common.{◌≡◌, ℕ, zero, suc, ◌<◌, ◌==◌, true, Some, List, [], ◌∷◌, ◌++◌, length, sum, refl, sym, subst, ◌∙◌, IsTrue, All, arith}
 use Rattle.std.proofs.lemmas.List.{length-map, length-replicate}
 use Rattle.std.proofs.lemmas.List.Sums.{length-filter}
 use Rattle.std.specs.List.{AllByRecursion, slice_get}
@@ -13,6 +13,7 @@ use Rattle.gmp_seq.specs.Run.{Run, IsLegal, made}
 use Rattle.gmp_seq.specs.State.{State, opening}
 use Rattle.gmp_trace.proofs.Answered.{effect_answers}
 use Rattle.gmp_trace.proofs.StartBack.{sizes_back}
+use Rattle.gmp_trace.specs.Pieces.{is_whole}
 use Rattle.gmp_trace.specs.HasText.{HasText, AreNumbered, IsBeginning, Origin, answers, origin, turns}
 use Rattle.gmp_trace.specs.StartWhole.{IsStart}
 use Rattle.gmp_trace.specs.Text.Begins.{AtOpening, AtState}
@@ -60,12 +61,12 @@ from_state : (limits : Limits) (s : State) → length s.counts ≡ limits.machin
 from_state limits s size = record { machines = sym size; made = λ m k at. sym (index_from_get s.counts m.0 k at) }
 
 pub legal_text : (x : Content) (capacities : List ℕ) (s : State) → x.begins ≡ AtOpening capacities → AreLimits x.limits x.bodies capacities
-    → IsLegal x.limits x.bodies capacities x.entries s → All Fits x.entries → HasText x
-legal_text x capacities s begun are legal fits =
+    → is_whole x.limits ≡ true → IsLegal x.limits x.bodies capacities x.entries s → All Fits x.entries → HasText x
+legal_text x capacities s begun are whole legal fits =
     let start = opening x.limits x.bodies capacities in
     let numbered = run_numbered x.limits start (origin x.limits.machines (AtOpening capacities)) (from_opening x.limits x.bodies capacities) [] x.entries start s refl legal in
     record {
-      beginning = subst (λ (b : Begins). IsBeginning x.limits x.bodies b) (sym begun) are;
+      beginning = subst (λ (b : Begins). IsBeginning x.limits x.bodies b) (sym begun) (are, whole);
       fits = fits;
       numbered = subst (λ (b : Begins). AreNumbered (origin x.limits.machines b) [] x.entries) (sym begun) numbered;
       answered = run_answered x.limits start s x.entries legal;

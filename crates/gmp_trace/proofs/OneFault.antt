@@ -1,5 +1,5 @@
 -- At most one line and one word fit a text, and none fits the text of a trace.
-use Rattle.std.proofs.Common.{◌≡◌, ◌≢◌, ℕ, ◌+◌, ◌<◌, ◌≤◌, ◌^◌, List, [], ◌∷◌, ◌++◌, length, map, take, drop, refl, sym, ap, subst, ◌∙◌, append_assoc, arith, length-append, All}
+use Rattle.std.proofs.Common.{◌≡◌, ◌≢◌, ℕ, ◌+◌, ◌<◌, ◌≤◌, ◌^◌, true, List, [], ◌∷◌, ◌++◌, length, map, take, drop, refl, sym, ap, subst, ◌∙◌, append_assoc, arith, length-append, All}
 use Rattle.std.proofs.lemmas.List.{append-nil}
 use Rattle.gmp_seq.specs.declared.call.Entry.{Entry}
 use Rattle.gmp_seq.specs.declared.call.Limits.{Limits}
@@ -13,14 +13,14 @@ use Rattle.gmp_trace.specs.Reading.{AreEntries, FitLimits, HasLimits, IsBadStart
 use Rattle.gmp_trace.specs.StartWhole.{IsStart, IsStartFault}
 use Rattle.gmp_seq.specs.State.{State}
 use Rattle.gmp_trace.specs.Pieces.{capacities_text, end_text, entries_text, entry_text, limits_text}
-use Rattle.gmp_trace.specs.Text.{Begins, Content, beginning_text, begins_text, first_number, header, text, version_of}
+use Rattle.gmp_trace.specs.Text.{Begins, Content, beginning_text, begins_text, first_number, header, start_version, suits, text, version_of}
 use Rattle.gmp_trace.specs.Text.Begins.{AtOpening, AtState}
 use Rattle.gmp_trace.specs.declared.trace.Version.{Version}
-use Rattle.gmp_trace.specs.declared.trace.Version.TheVariants.{One, Two}
+use Rattle.gmp_trace.specs.declared.trace.Version.TheVariants.{One}
 use Rattle.gmp_trace.proofs.Body.{end_is_some, entry_is_no_end, first_of_left, shorter}
 use Rattle.gmp_trace.proofs.Lines.{guessed_end, guessed_entry, same_rest}
 use Rattle.gmp_trace.proofs.Opening.{are_of_types, guessed_capacities, guessed_limits}
-use Rattle.gmp_trace.proofs.Parts.{behind_beginning, beginning_parts, body_of, few_capacities, one_version, range_of, same_limits, small_capacities}
+use Rattle.gmp_trace.proofs.Parts.{behind_beginning, beginning_parts, body_of, few_capacities, no_start_version, one_version, range_of, same_limits, small_capacities, suits_beginning, suits_moved}
 use Rattle.gmp_trace.proofs.StartFault.{no_start_fault, one_start_fault, start_once}
 
 -- ---- a line fixes what it says and what is behind it
@@ -223,16 +223,20 @@ of_trace x h = record {
 range : (bytes : List ℕ) (o : Opens bytes) → AreLimits o.limits o.bodies []
 range bytes o = range_of o.limits o.bodies o.begins o.beginning
 
-lines : (bytes : List ℕ) (o : Opens bytes) → bytes ≡ header (version_of o.begins) ++ (limits_text o.limits o.bodies ++ (begins_text o.begins ++ o.rest))
+suited : (bytes : List ℕ) (o : Opens bytes) → suits (version_of o.limits o.begins) o.limits ≡ true
+suited bytes o = suits_beginning o.limits o.bodies o.begins o.beginning
+
+lines : (bytes : List ℕ) (o : Opens bytes) → bytes ≡ header (version_of o.limits o.begins) ++ (limits_text o.limits o.bodies ++ (begins_text o.begins ++ o.rest))
 lines bytes o = o.whole ∙ beginning_parts o.limits o.bodies o.begins o.rest
 
 right_header : (bytes : List ℕ) → Opens bytes → IsHeaderFault bytes → ⊥
-right_header bytes o none = none (version_of o.begins) (limits_text o.limits o.bodies ++ (begins_text o.begins ++ o.rest)) (lines bytes o)
+right_header bytes o none = none (version_of o.limits o.begins) (limits_text o.limits o.bodies ++ (begins_text o.begins ++ o.rest)) (lines bytes o)
 
 right_limits : (bytes : List ℕ) → Opens bytes → IsLimitsFault bytes → ⊥
 right_limits bytes o f =
     let behind : List ℕ = begins_text o.begins ++ o.rest in
-    f.none o.limits o.bodies behind (range bytes o) (one_version f.version (version_of o.begins) f.rest (limits_text o.limits o.bodies ++ behind) (sym f.whole ∙ lines bytes o)).1
+    let one = one_version f.version (version_of o.limits o.begins) f.rest (limits_text o.limits o.bodies ++ behind) (sym f.whole ∙ lines bytes o) in
+    f.none o.limits o.bodies behind (range bytes o) (suits_moved f.version (version_of o.limits o.begins) o.limits one.0 (suited bytes o)) one.1
 
 -- lines 1 and 2 fix what they say and what is behind them
 has_limits_once : (bytes : List ℕ) (v w : Version) (l m : Limits) (bodies stock : ℕ) (rest other : List ℕ) → HasLimits bytes v l bodies rest → HasLimits bytes w m stock other
@@ -242,43 +246,40 @@ has_limits_once bytes v w l m bodies stock rest other a b =
     let same = limits_once l m bodies stock rest other (are_of_types l bodies [] a.range) (are_of_types m stock [] b.range) one.1 in
     (one.0, same.0, same.1, same.2)
 
-abbrev has_limits : (bytes : List ℕ) (o : Opens bytes) → HasLimits bytes (version_of o.begins) o.limits o.bodies (begins_text o.begins ++ o.rest)
-has_limits bytes o = record { range = range bytes o; whole = lines bytes o }
+abbrev has_limits : (bytes : List ℕ) (o : Opens bytes) → HasLimits bytes (version_of o.limits o.begins) o.limits o.bodies (begins_text o.begins ++ o.rest)
+has_limits bytes o = record { range = range bytes o; of_version = suited bytes o; whole = lines bytes o }
 
-never : One ≡ Two → ⊥
-never e = cc
-
-no_caps : (l : Limits) (bodies stock : ℕ) (m : Limits) (b : Begins) (more rest : List ℕ) → One ≡ version_of b → l ≡ m → bodies ≡ stock → IsBeginning m stock b
+no_caps : (l : Limits) (bodies stock : ℕ) (m : Limits) (b : Begins) (more rest : List ℕ) → One ≡ version_of m b → l ≡ m → bodies ≡ stock → IsBeginning m stock b
     → rest ≡ begins_text b ++ more → ((capacities more : List ℕ) → AreLimits l bodies capacities → rest ≢ capacities_text capacities ++ more) → ⊥
-no_caps l bodies stock m (AtOpening capacities) more rest v p q h is none = none capacities more (same_limits l m bodies stock capacities p q h) is
-no_caps l bodies stock m (AtState s) more rest v p q h is none = never v
+no_caps l bodies stock m (AtOpening capacities) more rest v p q h is none = none capacities more (same_limits l m bodies stock capacities p q h.0) is
+no_caps l bodies stock m (AtState s) more rest v p q h is none = no_start_version m v
 
 right_caps : (bytes : List ℕ) → Opens bytes → IsCapsFault bytes → ⊥
 right_caps bytes o f =
-    let same = has_limits_once bytes One (version_of o.begins) f.limits o.limits f.bodies o.bodies f.rest (begins_text o.begins ++ o.rest) f.lines (has_limits bytes o) in
+    let same = has_limits_once bytes One (version_of o.limits o.begins) f.limits o.limits f.bodies o.bodies f.rest (begins_text o.begins ++ o.rest) f.lines (has_limits bytes o) in
     no_caps f.limits f.bodies o.bodies o.limits o.begins o.rest f.rest same.0 same.1 same.2 o.beginning same.3 f.none
 
-no_bad_start : (l : Limits) (bodies stock : ℕ) (m : Limits) (b : Begins) (more rest : List ℕ) (line : ℕ) → Two ≡ version_of b → l ≡ m → bodies ≡ stock → IsBeginning m stock b
+no_bad_start : (l : Limits) (bodies stock : ℕ) (m : Limits) (b : Begins) (more rest : List ℕ) (line : ℕ) → start_version l ≡ version_of m b → l ≡ m → bodies ≡ stock → IsBeginning m stock b
     → rest ≡ begins_text b ++ more → IsStartFault l bodies rest line → ⊥
-no_bad_start l bodies stock m (AtOpening capacities) more rest line v p q h is f = never (sym v)
+no_bad_start l bodies stock m (AtOpening capacities) more rest line v p q h is f = no_start_version l (sym v)
 no_bad_start l bodies stock m (AtState s) more rest line v p q h is f =
     no_start_fault m stock (begins_text (AtState s) ++ more) s more line h.0 (record { whole = refl; start = h.1 })
     (subst (λ (t : List ℕ). IsStartFault m stock t line) is (subst (λ (n : ℕ). IsStartFault m n rest line) q (subst (λ (k : Limits). IsStartFault k bodies rest line) p f)))
 
 right_begin : (bytes : List ℕ) (line : ℕ) → Opens bytes → IsBadStart bytes line → ⊥
 right_begin bytes line o f =
-    let same = has_limits_once bytes Two (version_of o.begins) f.limits o.limits f.bodies o.bodies f.rest (begins_text o.begins ++ o.rest) f.lines (has_limits bytes o) in
+    let same = has_limits_once bytes (start_version f.limits) (version_of o.limits o.begins) f.limits o.limits f.bodies o.bodies f.rest (begins_text o.begins ++ o.rest) f.lines (has_limits bytes o) in
     no_bad_start f.limits f.bodies o.bodies o.limits o.begins o.rest f.rest line same.0 same.1 same.2 o.beginning same.3 f.fault
 
 -- the beginning fixes where the entries begin, and the text from there
-begins_once : (l m : Limits) (bodies stock : ℕ) (b d : Begins) (rest other : List ℕ) → version_of b ≡ version_of d → l ≡ m → bodies ≡ stock → IsBeginning l bodies b → IsBeginning m stock d
+begins_once : (l m : Limits) (bodies stock : ℕ) (b d : Begins) (rest other : List ℕ) → version_of l b ≡ version_of m d → l ≡ m → bodies ≡ stock → IsBeginning l bodies b → IsBeginning m stock d
     → begins_text b ++ rest ≡ begins_text d ++ other → (origin l.machines b ≡ origin m.machines d) × (rest ≡ other)
 begins_once l m bodies stock (AtOpening cs) (AtOpening ds) rest other v p q h k is = (
   ap (λ (x : Limits). origin x.machines (AtOpening [])) p,
-  capacities_once cs ds rest other (small_capacities l bodies cs h) (small_capacities m stock ds k) (few_capacities l bodies cs h) (few_capacities m stock ds k) is,
+  capacities_once cs ds rest other (small_capacities l bodies cs h.0) (small_capacities m stock ds k.0) (few_capacities l bodies cs h.0) (few_capacities m stock ds k.0) is,
 )
-begins_once l m bodies stock (AtOpening cs) (AtState t) rest other v p q h k is = absurd (never v)
-begins_once l m bodies stock (AtState s) (AtOpening ds) rest other v p q h k is = absurd (never (sym v))
+begins_once l m bodies stock (AtOpening cs) (AtState t) rest other v p q h k is = absurd (no_start_version m v)
+begins_once l m bodies stock (AtState s) (AtOpening ds) rest other v p q h k is = absurd (no_start_version l (sym v))
 begins_once l m bodies stock (AtState s) (AtState t) rest other v p q h k is =
     let moved = subst (λ (n : ℕ). IsStart l n t) (sym q) (subst (λ (x : Limits). IsStart x stock t) (sym p) k.1) in
     let same = start_once l bodies (begins_text (AtState s) ++ rest) s t rest other h.0 (record { whole = refl; start = h.1 }) (record { whole = is; start = moved }) in
@@ -286,7 +287,7 @@ begins_once l m bodies stock (AtState s) (AtState t) rest other v p q h k is =
 
 opens_once : (bytes : List ℕ) (a b : Opens bytes) → (origin a.limits.machines a.begins ≡ origin b.limits.machines b.begins) × (a.rest ≡ b.rest)
 opens_once bytes a b =
-    let same = has_limits_once bytes (version_of a.begins) (version_of b.begins) a.limits b.limits a.bodies b.bodies (begins_text a.begins ++ a.rest) (begins_text b.begins ++ b.rest)
+    let same = has_limits_once bytes (version_of a.limits a.begins) (version_of b.limits b.begins) a.limits b.limits a.bodies b.bodies (begins_text a.begins ++ a.rest) (begins_text b.begins ++ b.rest)
     (has_limits bytes a) (has_limits bytes b) in
     begins_once a.limits b.limits a.bodies b.bodies a.begins b.begins a.rest b.rest same.0 same.1 same.2 a.beginning b.beginning same.3
 
@@ -320,20 +321,23 @@ trace_is_right x line what small h f =
 
 -- line 2 is right where line 3 is looked at
 not_both : (bytes : List ℕ) (v : Version) (l : Limits) (bodies : ℕ) (rest : List ℕ) → IsLimitsFault bytes → HasLimits bytes v l bodies rest → ⊥
-not_both bytes v l bodies rest a b = a.none l bodies rest b.range (one_version a.version v a.rest (limits_text l bodies ++ rest) (sym a.whole ∙ b.whole)).1
+not_both bytes v l bodies rest a b =
+    let one = one_version a.version v a.rest (limits_text l bodies ++ rest) (sym a.whole ∙ b.whole) in
+    a.none l bodies rest b.range (suits_moved a.version v l one.0 b.of_version) one.1
 
 no_header : (bytes : List ℕ) (v : Version) (l : Limits) (bodies : ℕ) (rest : List ℕ) → IsHeaderFault bytes → HasLimits bytes v l bodies rest → ⊥
 no_header bytes v l bodies rest a b = a v (limits_text l bodies ++ rest) b.whole
 
 bad_starts_once : (bytes : List ℕ) (m n : ℕ) → IsBadStart bytes m → IsBadStart bytes n → m ≡ n
 bad_starts_once bytes m n a b =
-    let same = has_limits_once bytes Two Two a.limits b.limits a.bodies b.bodies a.rest b.rest a.lines b.lines in
+    let same = has_limits_once bytes (start_version a.limits) (start_version b.limits) a.limits b.limits a.bodies b.bodies a.rest b.rest a.lines b.lines in
     one_start_fault a.limits a.bodies a.rest m n a.lines.range a.fault
     (subst (λ (t : List ℕ). IsStartFault a.limits a.bodies t n) (sym same.3)
     (subst (λ (k : ℕ). IsStartFault a.limits k b.rest n) (sym same.2) (subst (λ (x : Limits). IsStartFault x b.bodies b.rest n) (sym same.1) b.fault)))
 
 caps_or_start : (bytes : List ℕ) (n : ℕ) → IsCapsFault bytes → IsBadStart bytes n → ⊥
-caps_or_start bytes n a b = never (has_limits_once bytes One Two a.limits b.limits a.bodies b.bodies a.rest b.rest a.lines b.lines).0
+caps_or_start bytes n a b =
+    no_start_version b.limits (has_limits_once bytes One (start_version b.limits) a.limits b.limits a.bodies b.bodies a.rest b.rest a.lines b.lines).0
 
 pub one_fault : (bytes : List ℕ) (m n : ℕ) (v w : Why) → length bytes < 2 ^ 64 → IsFault bytes m v → IsFault bytes n w → v ≢ why.OutOfMemory → w ≢ why.OutOfMemory
     → (m ≡ n) × (v ≡ w)
@@ -347,12 +351,12 @@ one_fault bytes m n why.Header why.Limits small a b p q = absurd (a.1 b.1.versio
 one_fault bytes m n why.Limits why.Header small a b p q = absurd (b.1 a.1.version a.1.rest a.1.whole)
 one_fault bytes m n why.Header why.Caps small a b p q = absurd (no_header bytes One b.1.limits b.1.bodies b.1.rest a.1 b.1.lines)
 one_fault bytes m n why.Caps why.Header small a b p q = absurd (no_header bytes One a.1.limits a.1.bodies a.1.rest b.1 a.1.lines)
-one_fault bytes m n why.Header why.Start small a b p q = absurd (no_header bytes Two b.limits b.bodies b.rest a.1 b.lines)
-one_fault bytes m n why.Start why.Header small a b p q = absurd (no_header bytes Two a.limits a.bodies a.rest b.1 a.lines)
+one_fault bytes m n why.Header why.Start small a b p q = absurd (no_header bytes (start_version b.limits) b.limits b.bodies b.rest a.1 b.lines)
+one_fault bytes m n why.Start why.Header small a b p q = absurd (no_header bytes (start_version a.limits) a.limits a.bodies a.rest b.1 a.lines)
 one_fault bytes m n why.Limits why.Caps small a b p q = absurd (not_both bytes One b.1.limits b.1.bodies b.1.rest a.1 b.1.lines)
 one_fault bytes m n why.Caps why.Limits small a b p q = absurd (not_both bytes One a.1.limits a.1.bodies a.1.rest b.1 a.1.lines)
-one_fault bytes m n why.Limits why.Start small a b p q = absurd (not_both bytes Two b.limits b.bodies b.rest a.1 b.lines)
-one_fault bytes m n why.Start why.Limits small a b p q = absurd (not_both bytes Two a.limits a.bodies a.rest b.1 a.lines)
+one_fault bytes m n why.Limits why.Start small a b p q = absurd (not_both bytes (start_version b.limits) b.limits b.bodies b.rest a.1 b.lines)
+one_fault bytes m n why.Start why.Limits small a b p q = absurd (not_both bytes (start_version a.limits) a.limits a.bodies a.rest b.1 a.lines)
 one_fault bytes m n why.Caps why.Start small a b p q = absurd (caps_or_start bytes n a.1 b)
 one_fault bytes m n why.Start why.Caps small a b p q = absurd (caps_or_start bytes m b.1 a)
 one_fault bytes m n why.Header w small a b p q = absurd (right_header bytes (of_fault bytes n w b) a.1)

@@ -1,19 +1,17 @@
 -- The parts of a trace text.
-use Rattle.std.proofs.Common.{◌≡◌, ℕ, ◌<◌, ◌≤◌, ◌^◌, List, [], ◌++◌, length, slice_index, refl, sym, ap, ◌∙◌, append_assoc, arith, All}
+use Rattle.std.proofs.Common.{◌≡◌, ℕ, ◌<◌, ◌≤◌, ◌^◌, Bool, true, false, not, if◌then◌else◌, List, [], ◌++◌, length, slice_index, refl, sym, ap, subst, ◌∙◌, append_assoc, arith, All}
 use Rattle.std.proofs.lemmas.List.Elements.{All-nil, All-weaker}
 use Rattle.gmp_seq.specs.declared.call.Limits.{Limits}
 use Rattle.gmp_seq.specs.Fits.{AreLimits}
 use Rattle.gmp_trace.specs.declared.bad.Why.{Why}
 use Rattle.gmp_trace.specs.declared.bad.Why.TheVariants as why
-use Rattle.gmp_seq.specs.State.{State}
 use Rattle.gmp_trace.specs.Beginning.{BeginsSo}
 use Rattle.gmp_trace.specs.HasText.{HasText, IsBeginning, origin}
-use Rattle.gmp_trace.specs.StartWhole.{IsStart}
-use Rattle.gmp_trace.specs.Pieces.{capacities_text, end_text, entries_text, limits_text}
-use Rattle.gmp_trace.specs.Text.{Begins, Content, IsCounted, beginning_text, begins_text, first_number, header, text, version_of}
+use Rattle.gmp_trace.specs.Pieces.{end_text, entries_text, is_whole, limits_text}
+use Rattle.gmp_trace.specs.Text.{Begins, Content, IsCounted, beginning_text, begins_text, first_number, header, start_version, suits, text, version_of}
 use Rattle.gmp_trace.specs.Text.Begins.{AtOpening, AtState}
 use Rattle.gmp_trace.specs.declared.trace.Version.{Version}
-use Rattle.gmp_trace.specs.declared.trace.Version.TheVariants.{One, Two}
+use Rattle.gmp_trace.specs.declared.trace.Version.TheVariants.{One, Two, Three}
 use Rattle.gmp_trace.proofs.Lines.{same_rest}
 use Rattle.gmp_trace.specs.Reading.{AreEntries, HasLimits, IsBody, IsBodyFault, IsFault}
 
@@ -24,18 +22,19 @@ of_line_2 l bodies capacities h = record {
   machines = h.machines;
   stock = h.stock;
   channels = (omega arith, h.channels.1);
-  room = All-nil (λ (c : ℕ). c ≤ 4096);
+  buffers = All-nil (λ (c : ℕ). c ≤ 4096);
   entries = h.entries;
+  room = h.room;
 }
 
 pub small_capacities : (l : Limits) (bodies : ℕ) (capacities : List ℕ) → AreLimits l bodies capacities → All (λ (c : ℕ). c < 2 ^ 32) capacities
-small_capacities l bodies capacities h = All-weaker (λ (c : ℕ). c ≤ 4096) (λ (c : ℕ). c < 2 ^ 32) (λ c small. omega arith) capacities h.room
+small_capacities l bodies capacities h = All-weaker (λ (c : ℕ). c ≤ 4096) (λ (c : ℕ). c < 2 ^ 32) (λ c small. omega arith) capacities h.buffers
 
 pub few_capacities : (l : Limits) (bodies : ℕ) (capacities : List ℕ) → AreLimits l bodies capacities → length capacities < 1030
 few_capacities l bodies capacities h = omega (arith, h.channels)
 
 pub range_of : (l : Limits) (bodies : ℕ) (b : Begins) → IsBeginning l bodies b → AreLimits l bodies []
-range_of l bodies (AtOpening capacities) h = of_line_2 l bodies capacities h
+range_of l bodies (AtOpening capacities) h = of_line_2 l bodies capacities h.0
 range_of l bodies (AtState s) h = h.0
 
 regroup_whole : (h l b e f : List ℕ) → h ++ l ++ b ++ e ++ f ≡ h ++ (l ++ (b ++ (e ++ f)))
@@ -45,8 +44,8 @@ regroup_beginning : (h l b rest : List ℕ) → h ++ (l ++ (b ++ rest)) ≡ h ++
 regroup_beginning h l b rest = simp append_assoc
 
 pub beginning_parts : (l : Limits) (bodies : ℕ) (b : Begins) (rest : List ℕ)
-    → beginning_text l bodies b ++ rest ≡ header (version_of b) ++ (limits_text l bodies ++ (begins_text b ++ rest))
-beginning_parts l bodies b rest = sym (regroup_beginning (header (version_of b)) (limits_text l bodies) (begins_text b) rest)
+    → beginning_text l bodies b ++ rest ≡ header (version_of l b) ++ (limits_text l bodies ++ (begins_text b ++ rest))
+beginning_parts l bodies b rest = sym (regroup_beginning (header (version_of l b)) (limits_text l bodies) (begins_text b) rest)
 
 abbrev pub behind_beginning : Content → List ℕ
 behind_beginning x = entries_text (first_number x.begins) x.entries ++ end_text x.end
@@ -57,15 +56,15 @@ behind_limits x = begins_text x.begins ++ behind_beginning x
 abbrev pub behind_header : Content → List ℕ
 behind_header x = limits_text x.limits x.bodies ++ behind_limits x
 
-pub text_parts : (x : Content) → text x ≡ header (version_of x.begins) ++ behind_header x
+pub text_parts : (x : Content) → text x ≡ header (version_of x.limits x.begins) ++ behind_header x
 text_parts x =
-    regroup_whole (header (version_of x.begins)) (limits_text x.limits x.bodies) (begins_text x.begins) (entries_text (first_number x.begins) x.entries) (end_text x.end)
+    regroup_whole (header (version_of x.limits x.begins)) (limits_text x.limits x.bodies) (begins_text x.begins) (entries_text (first_number x.begins) x.entries) (end_text x.end)
 
 pub whole_from : (bytes : List ℕ) (l : Limits) (bodies : ℕ) (b : Begins) (rest one two : List ℕ)
-    → bytes ≡ header (version_of b) ++ one → one ≡ limits_text l bodies ++ two → two ≡ begins_text b ++ rest → bytes ≡ beginning_text l bodies b ++ rest
+    → bytes ≡ header (version_of l b) ++ one → one ≡ limits_text l bodies ++ two → two ≡ begins_text b ++ rest → bytes ≡ beginning_text l bodies b ++ rest
 whole_from bytes l bodies b rest one two p q r =
-    p ∙ ap (λ (t : List ℕ). header (version_of b) ++ t) (q ∙ ap (λ (t : List ℕ). limits_text l bodies ++ t) r)
-    ∙ regroup_beginning (header (version_of b)) (limits_text l bodies) (begins_text b) rest
+    p ∙ ap (λ (t : List ℕ). header (version_of l b) ++ t) (q ∙ ap (λ (t : List ℕ). limits_text l bodies ++ t) r)
+    ∙ regroup_beginning (header (version_of l b)) (limits_text l bodies) (begins_text b) rest
 
 pub text_from : (bytes : List ℕ) (x : Content) (rest : List ℕ) → bytes ≡ beginning_text x.limits x.bodies x.begins ++ rest → rest ≡ behind_beginning x → bytes ≡ text x
 text_from bytes x rest p q =
@@ -100,36 +99,58 @@ has_text x begun entries = record { beginning = begun; fits = entries.fits; numb
 pub one_version : (v w : Version) (a b : List ℕ) → header v ++ a ≡ header w ++ b → (v ≡ w) × (a ≡ b)
 one_version One One a b is = (refl, same_rest (header One ++ a) (header One) a b refl is)
 one_version Two Two a b is = (refl, same_rest (header Two ++ a) (header Two) a b refl is)
+one_version Three Three a b is = (refl, same_rest (header Three ++ a) (header Three) a b refl is)
 one_version One Two a b is = absurd (let last : 49 ≡ 50 = ap (λ (t : List ℕ). slice_index t 10) is in omega (arith, last))
 one_version Two One a b is = absurd (let last : 50 ≡ 49 = ap (λ (t : List ℕ). slice_index t 10) is in omega (arith, last))
+one_version One Three a b is = absurd (let last : 49 ≡ 51 = ap (λ (t : List ℕ). slice_index t 10) is in omega (arith, last))
+one_version Three One a b is = absurd (let last : 51 ≡ 49 = ap (λ (t : List ℕ). slice_index t 10) is in omega (arith, last))
+one_version Two Three a b is = absurd (let last : 50 ≡ 51 = ap (λ (t : List ℕ). slice_index t 10) is in omega (arith, last))
+one_version Three Two a b is = absurd (let last : 51 ≡ 50 = ap (λ (t : List ℕ). slice_index t 10) is in omega (arith, last))
 
--- version 1 has capacities behind the limits
-pub opening_of : (l : Limits) (bodies : ℕ) (text : List ℕ) (b : Begins) (rest : List ℕ) → BeginsSo One l bodies text b rest
-    → (capacities : List ℕ) × (b ≡ AtOpening capacities) × AreLimits l bodies capacities × (text ≡ capacities_text capacities ++ rest)
-opening_of l bodies text (AtOpening capacities) rest h = (capacities, refl, h.allowed, h.whole)
-opening_of l bodies text (AtState s) rest h = absurd (let e = h.of_version in cc)
+-- ---- versions
 
--- and version 2 has a start
-pub start_of : (l : Limits) (bodies : ℕ) (text : List ℕ) (b : Begins) (rest : List ℕ) → BeginsSo Two l bodies text b rest
-    → (s : State) × (b ≡ AtState s) × IsStart l bodies s × (text ≡ begins_text (AtState s) ++ rest)
-start_of l bodies text (AtOpening capacities) rest h = absurd (let e = h.of_version in cc)
-start_of l bodies text (AtState s) rest h = (s, refl, h.allowed.1, h.whole)
+abbrev of_whole : Bool → Version
+of_whole whole = if whole then Two else Three
+
+-- version 1 begins at no state
+never_of_whole : (whole : Bool) → One ≡ of_whole whole → ⊥
+never_of_whole true e = cc
+never_of_whole false e = cc
+
+pub no_start_version : (l : Limits) → One ≡ start_version l → ⊥
+no_start_version l e = never_of_whole (is_whole l) e
+
+suits_of_whole : (l : Limits) (whole : Bool) → is_whole l ≡ whole → suits (of_whole whole) l ≡ true
+suits_of_whole l true is = is
+suits_of_whole l false is = ap not is
+
+pub suits_moved : (v w : Version) (l : Limits) → v ≡ w → suits w l ≡ true → suits v l ≡ true
+suits_moved v w l same h = subst (λ (x : Version). suits x l ≡ true) (sym same) h
+
+-- what may begin so suits its version
+pub suits_beginning : (l : Limits) (bodies : ℕ) (b : Begins) → IsBeginning l bodies b → suits (version_of l b) l ≡ true
+suits_beginning l bodies (AtOpening capacities) h = h.1
+suits_beginning l bodies (AtState s) h = suits_of_whole l (is_whole l) refl
 
 -- ---- the parts of a trace's text
 
 pub beginning_whole : (bytes : List ℕ) (v : Version) (l : Limits) (bodies : ℕ) (text : List ℕ) (b : Begins) (rest : List ℕ) → HasLimits bytes v l bodies text
     → BeginsSo v l bodies text b rest → bytes ≡ beginning_text l bodies b ++ rest
 beginning_whole bytes v l bodies text b rest lines so =
-    let first : bytes ≡ header (version_of b) ++ (limits_text l bodies ++ text) = lines.whole ∙ ap (λ (w : Version). header w ++ (limits_text l bodies ++ text)) (sym so.of_version) in
+    let first : bytes ≡ header (version_of l b) ++ (limits_text l bodies ++ text) = lines.whole ∙ ap (λ (w : Version). header w ++ (limits_text l bodies ++ text)) (sym so.of_version) in
     whole_from bytes l bodies b rest (limits_text l bodies ++ text) text first refl so.whole
 
 pub has_limits_of : (x : Content) (bytes : List ℕ) → HasText x → bytes ≡ text x
-    → HasLimits bytes (version_of x.begins) x.limits x.bodies (begins_text x.begins ++ behind_beginning x)
-has_limits_of x bytes h is = record { range = range_of x.limits x.bodies x.begins h.beginning; whole = is ∙ text_parts x }
+    → HasLimits bytes (version_of x.limits x.begins) x.limits x.bodies (begins_text x.begins ++ behind_beginning x)
+has_limits_of x bytes h is = record {
+  range = range_of x.limits x.bodies x.begins h.beginning;
+  of_version = suits_beginning x.limits x.bodies x.begins h.beginning;
+  whole = is ∙ text_parts x;
+}
 
-pub begins_so : (x : Content) (v : Version) (l : Limits) (bodies : ℕ) (text : List ℕ) → HasText x → v ≡ version_of x.begins → l ≡ x.limits → bodies ≡ x.bodies
+pub begins_so : (x : Content) (v : Version) (l : Limits) (bodies : ℕ) (text : List ℕ) → HasText x → v ≡ version_of x.limits x.begins → l ≡ x.limits → bodies ≡ x.bodies
     → text ≡ begins_text x.begins ++ behind_beginning x → BeginsSo v l bodies text x.begins (behind_beginning x)
-begins_so x v l bodies text h p q r is = record { of_version = sym p; allowed = rw (q, r) h.beginning; whole = is }
+begins_so x v l bodies text h p q r is = record { of_version = ap (λ (m : Limits). version_of m x.begins) q ∙ sym p; allowed = rw (q, r) h.beginning; whole = is }
 
 pub body_so : (x : Content) (l : Limits) (b : Begins) (rest : List ℕ) → HasText x → l ≡ x.limits → b ≡ x.begins → rest ≡ behind_beginning x
     → IsBody (origin l.machines b) rest x.entries x.end

@@ -1,5 +1,5 @@
 -- A state that can be said has the forms and the sizes, and a run from it ends in one that can be said.
-use Rattle.std.proofs.Common.{◌≡◌, ◌≤◌, ℕ, zero, suc, ◌+◌, None, Some, List, [], ◌∷◌, ◌++◌, length, sum, refl, sym, subst, arith}
+use Rattle.std.proofs.Common.{◌≡◌, ◌≤◌, ◌<◌, ◌^◌, ℕ, zero, suc, ◌+◌, None, Some, List, [], ◌∷◌, ◌++◌, length, sum, refl, sym, subst, arith}
 use Rattle.std.proofs.lemmas.List.Elements.{All-cons, All-nil}
 use Rattle.std.specs.List.{slice_get, All}
 use Rattle.gmp_seq.proofs.InOrder.{legal_in_order, step_together}
@@ -67,7 +67,7 @@ run_together : (limits : Limits) (old new : State) (h : List Entry) → FitsToge
 run_together limits old new [] together same = subst (FitsTogether limits) (sym same) together
 run_together limits old new (e ∷ h) together (mid, step, rest) = run_together limits mid new h (step_together limits e old mid together step) rest
 
-pub run_lines : (limits : Limits) (bodies made : ℕ) (old new : State) (h : List Entry) → limits.entries ≤ 1000000
+pub run_lines : (limits : Limits) (bodies made : ℕ) (old new : State) (h : List Entry) → limits.entries < 2 ^ 63
     → HasLines limits bodies made old → FitsTogether limits old → All (λ (e : Entry). FitsCall e.call) h → Run limits old h new
     → HasLines limits bodies (sum new.counts) new
 run_lines limits bodies made old new h low has together fit run =
@@ -91,7 +91,7 @@ legal_lines limits bodies capacities h s are fit run =
     let most = order.active.1 in
     said limits bodies s are.entries.1 order.together sizes (legal_forms limits bodies capacities h s are fit run) order.active.0 (omega (arith, most, rows))
 
-pub run_start : (limits : Limits) (bodies : ℕ) (old new : State) (h : List Entry) → limits.entries ≤ 1000000 → IsStart limits bodies old
+pub run_start : (limits : Limits) (bodies : ℕ) (old new : State) (h : List Entry) → limits.entries < 2 ^ 63 → IsStart limits bodies old
     → All (λ (e : Entry). FitsCall e.call) h → Run limits old h new → new.outcome ≡ None → IsStart limits bodies new
 run_start limits bodies old new h low start fit run lasts =
     record {

@@ -1,5 +1,5 @@
 -- A state that has the forms can be said.
-use Rattle.std.proofs.Common.{◌≡◌, ◌≤◌, ◌<◌, ℕ, zero, suc, ◌+◌, Option, None, Some, List, [], ◌∷◌, ◌++◌, length, sum, refl, sym, ap, subst, arith, codes, append_assoc}
+use Rattle.std.proofs.Common.{◌≡◌, ◌≤◌, ◌<◌, ◌^◌, ℕ, zero, suc, ◌+◌, Option, None, Some, List, [], ◌∷◌, ◌++◌, length, sum, refl, sym, ap, subst, arith, codes, append_assoc}
 use Rattle.std.proofs.lemmas.Grind.{flat_map-append}
 use Rattle.std.proofs.lemmas.List.Elements.{All-head, All-tail, All-cons, All-nil}
 use Rattle.std.proofs.lemmas.List.Sums.{sum_by-cons}
@@ -49,7 +49,7 @@ pub all_from : {A : Type 0} (P : A → Type 0) (xs : List A) → ((i : ℕ) (x :
 all_from P [] h = All-nil P
 all_from P (x ∷ xs) h = All-cons P x xs (h 0 x refl) (all_from P xs (λ i. h (suc i)))
 
-low_all : (most : ℕ) (xs : List ℕ) → sum xs ≤ most → most ≤ 1000000 → All IsWord xs
+low_all : (most : ℕ) (xs : List ℕ) → sum xs ≤ most → most < 2 ^ 63 → All IsWord xs
 low_all most [] le few = All-nil IsWord
 low_all most (x ∷ xs) le few =
     let both = sum_by-cons (λ (n : ℕ). n) x xs in All-cons IsWord x xs (omega (arith, le, few, both)) (low_all most xs (omega (arith, le, both)) few)
@@ -92,8 +92,8 @@ module _ (limits : Limits) (bodies : ℕ) where
 
 -- A state
 
-module _ (limits : Limits) (bodies : ℕ) (s : State) (low : limits.entries ≤ 1000000) (together : FitsTogether limits s) (sizes : HasSizes limits bodies s) (forms : HasForms limits s) where
-  made_low : sum s.counts ≤ 1000000
+module _ (limits : Limits) (bodies : ℕ) (s : State) (low : limits.entries < 2 ^ 63) (together : FitsTogether limits s) (sizes : HasSizes limits bodies s) (forms : HasForms limits s) where
+  made_low : sum s.counts < 2 ^ 63
   made_low = let most = together.entries in omega arith
 
   machine_low : (m : MNo) (x : Mode) → slice_get s.machines.modes m.0 ≡ Some x → m.0 < limits.machines

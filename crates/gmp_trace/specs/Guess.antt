@@ -125,7 +125,7 @@ call_named first third words =
     else (if first == letter (codes "make") then call.Make (narrow 32 (number_at 1 words))
     else (if first == letter (codes "put") then (if third == byte_at 2 (codes "put") then call.Put (readiness_read (word_at 1 words)) else (if third == byte_at 2 (codes "poke") then call.Poke else (if third == byte_at 2 (codes "procs") then call.Procs (narrow 8 (number_at 1 words)) else call.Park)))
     else (if first == letter (codes "ready") then (if third == byte_at 2 (codes "ready") then call.Ready (record { 0 = narrow 16 (number_at 1 words) }) else call.Recv (channel_read (word_at 1 words)))
-    else (if first == letter (codes "send") then (if third == byte_at 2 (codes "send") then call.Send (channel_read (word_at 1 words)) (number_at 2 words) else (if third == byte_at 2 (codes "select") then select_read (drop 1 words) else (if third == byte_at 2 (codes "sleep") then call.Sleep (number_at 1 words) else call.Spin)))
+    else (if first == letter (codes "send") then (if third == byte_at 2 (codes "send") then call.Send (channel_read (word_at 1 words)) (number_at 2 words) else (if third == byte_at 2 (codes "select") then select_read (drop 1 words) else (if third == byte_at 2 (codes "sleep") then call.Sleep (number_at 1 words) else (if third == byte_at 2 (codes "spawn") then call.Spawn else call.Spin))))
     else (if first == letter (codes "take") then (if third == byte_at 2 (codes "take") then call.Take else call.Tick (number_at 1 words))
     else (if first == letter (codes "unspin") then call.Unspin
     else (if first == letter (codes "woken") then call.Woken
@@ -221,12 +221,17 @@ end_in words =
     else (if bytes_eq (word_at 1 words) (codes "book") then BookFull
     else Running))
 
+-- the number behind the word `room`, or else that of the entries
+abbrev pub room_at : List (List ℕ) → ℕ
+room_at words = if bytes_eq (word_at 11 words) (codes "room") then number_at 12 words else number_at 10 words
+
 unfoldable pub limits_read : List (List ℕ) → Limits
 limits_read words = record {
   procs = narrow 8 (number_at 2 words);
   machines = narrow 8 (number_at 4 words);
   channels = narrow 16 (number_at 8 words);
-  entries = narrow 32 (number_at 10 words);
+  entries = number_at 10 words;
+  room = narrow 32 (room_at words);
 }
 
 unfoldable pub bodies_of : List (List ℕ) → ℕ

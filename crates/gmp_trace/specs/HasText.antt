@@ -10,6 +10,7 @@ use Rattle.gmp_seq.specs.declared.call.Reply.{Reply}
 use Rattle.gmp_seq.specs.declared.call.Reply.TheVariants as reply
 use Rattle.gmp_seq.specs.Fits.{AreLimits, Fits}
 use Rattle.gmp_seq.specs.declared.call.Limits.{Limits}
+use Rattle.gmp_trace.specs.Pieces.{is_whole}
 use Rattle.gmp_trace.specs.StartWhole.{IsStart}
 use Rattle.gmp_trace.specs.Text.{Begins, Content, first_number}
 use Rattle.gmp_trace.specs.Text.Begins.{AtOpening, AtState}
@@ -25,6 +26,8 @@ answers (call.Claim r) reply.Held = true
 answers (call.Go g) (reply.Ticket r) = true
 answers (call.Go g) (reply.Fault fault.NoSuchBody) = true
 answers (call.Go g) (reply.Fault fault.AlreadyStarted) = true
+answers call.Spawn (reply.Ticket r) = true
+answers call.Spawn (reply.Fault fault.NoSuchBody) = true
 answers call.Yield (reply.Shelved r) = true
 answers call.Exit reply.Dead = true
 answers call.Exit reply.MainEnded = true
@@ -88,7 +91,7 @@ pub record Origin : Type 0 where
   pub lines : ℕ
   pub made : MNo → ℕ
 
--- lines 1 to 3 of version 1; of version 2 lines 1 and 2, six of the machines, a line for each channel and goroutine, and `begin`
+-- lines 1 to 3 of version 1; of versions 2 and 3 lines 1 and 2, six of the machines, a line for each channel and goroutine, and `begin`
 abbrev pub lines_before : Begins → ℕ
 lines_before (AtOpening capacities) = 3
 lines_before (AtState s) = 9 + length s.channels + length s.table.goroutines
@@ -101,9 +104,9 @@ made_before (AtState s) m = slice_index s.counts m.0
 abbrev pub origin : ℕ → Begins → Origin
 origin machines b = record { machines = machines; number = first_number b; lines = lines_before b; made = made_before b }
 
--- a run within these limits, by so many goroutines, may begin so
+-- a run within these limits, by so many goroutines, may begin so; at the opening only one whose history is kept whole
 abbrev pub IsBeginning : Limits → ℕ → Begins → Type 0
-IsBeginning limits bodies (AtOpening capacities) = AreLimits limits bodies capacities
+IsBeginning limits bodies (AtOpening capacities) = AreLimits limits bodies capacities × (is_whole limits ≡ true)
 IsBeginning limits bodies (AtState s) = AreLimits limits bodies [] × IsStart limits bodies s
 
 -- behind these entries, each is of one of the machines, and its number is how many entries its machine made before

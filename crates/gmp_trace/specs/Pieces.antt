@@ -1,5 +1,5 @@
 -- The words and lines of the text of a trace.
-use Rattle.std.specs.Prelude.{ℕ, ◌+◌, Bool, true, false, List, [], ◌∷◌, ◌++◌, map, codes, decimal, Option, None, Some}
+use Rattle.std.specs.Prelude.{ℕ, ◌+◌, ◌==◌, Bool, true, false, if◌then◌else◌, List, [], ◌∷◌, ◌++◌, map, codes, decimal, Option, None, Some}
 use Rattle.std.specs.List.{flat_map}
 use Rattle.gmp_base.specs.declared.ask.Fault.{Fault}
 use Rattle.gmp_base.specs.declared.ask.Fault.TheVariants as fault
@@ -88,6 +88,7 @@ call_pieces call.Take = Word (codes "take") ∷ []
 call_pieces (call.Put r) = Word (codes "put") ∷ readiness r ∷ []
 call_pieces (call.Claim r) = Word (codes "claim") ∷ readiness r ∷ []
 call_pieces (call.Go g) = Word (codes "go") ∷ goroutine g ∷ []
+call_pieces call.Spawn = Word (codes "spawn") ∷ []
 call_pieces call.Yield = Word (codes "yield") ∷ []
 call_pieces call.Exit = Word (codes "exit") ∷ []
 call_pieces (call.Make capacity) = Word (codes "make") ∷ Number 32 capacity ∷ []
@@ -197,10 +198,18 @@ entries_text n (e ∷ es) = entry_text n e ++ entries_text (n + 1) es
 unfoldable pub limit : List ℕ → ℕ → List ℕ
 limit name n = codes " " ++ name ++ codes " " ++ decimal n
 
+-- the history is kept whole: it has room for all entries
+abbrev pub is_whole : Limits → Bool
+is_whole l = l.entries == l.room
+
+-- of a history that is handed out in segments, how many entries it has room for
+unfoldable pub room_pieces : Limits → List Piece
+room_pieces l = if is_whole l then [] else Word (codes "room") ∷ Number 32 l.room ∷ []
+
 unfoldable pub limits_text : Limits → ℕ → List ℕ
 limits_text l bodies =
     codes "limits" ++ limit (codes "procs") l.procs ++ limit (codes "machines") l.machines ++ limit (codes "bodies") bodies
-    ++ limit (codes "channels") l.channels ++ limit (codes "entries") l.entries ++ codes "\n"
+    ++ limit (codes "channels") l.channels ++ limit (codes "entries") l.entries ++ fields (room_pieces l) ++ codes "\n"
 
 abbrev pub capacity_piece : ℕ → Piece
 capacity_piece capacity = Number 32 capacity

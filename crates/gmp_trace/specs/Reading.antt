@@ -1,5 +1,5 @@
 -- Which texts are traces, and what is wrong with the others.
-use Rattle.std.specs.Prelude.{ℕ, ◌+◌, ◌<◌, ◌^◌, ◌≡◌, ◌≢◌, List, [], ◌++◌, length, All, IsTrue}
+use Rattle.std.specs.Prelude.{ℕ, ◌+◌, ◌<◌, ◌^◌, ◌≡◌, ◌≢◌, List, [], ◌++◌, true, length, All, IsTrue}
 use Rattle.std.specs.List.{AllByRecursion}
 use Rattle.gmp_base.specs.Fits.{IsWord}
 use Rattle.gmp_seq.specs.declared.call.Entry.{Entry}
@@ -11,9 +11,9 @@ use Rattle.gmp_trace.specs.declared.trace.End.{End}
 use Rattle.gmp_trace.specs.HasText.{AreNumbered, IsBeginning, Origin, answers, origin, turns}
 use Rattle.gmp_trace.specs.StartWhole.{IsStartFault}
 use Rattle.gmp_trace.specs.Pieces.{capacities_text, end_text, entries_text, entry_text, limits_text}
-use Rattle.gmp_trace.specs.Text.{Begins, beginning_text, header}
+use Rattle.gmp_trace.specs.Text.{Begins, beginning_text, header, start_version, suits}
 use Rattle.gmp_trace.specs.declared.trace.Version.{Version}
-use Rattle.gmp_trace.specs.declared.trace.Version.TheVariants.{One, Two}
+use Rattle.gmp_trace.specs.declared.trace.Version.TheVariants.{One}
 
 -- Lines
 
@@ -23,7 +23,8 @@ pub record FitLimits (limits : Limits) (bodies : ℕ) : Type 0 where
   pub machines : limits.machines < 2 ^ 8
   pub stock : bodies < 2 ^ 16
   pub channels : limits.channels < 2 ^ 16
-  pub entries : limits.entries < 2 ^ 32
+  pub entries : limits.entries < 2 ^ 64
+  pub room : limits.room < 2 ^ 32
 
 -- an entry by the table, with its number
 pub record IsEntry (n : ℕ) (e : Entry) : Type 0 where
@@ -104,20 +105,21 @@ IsLastFault lines text line what = ⊥
 
 -- The text
 
--- line 1 is that of neither version
+-- line 1 is that of no version
 abbrev pub IsHeaderFault : List ℕ → Type 0
 IsHeaderFault text = (v : Version) (rest : List ℕ) → text ≢ header v ++ rest
 
--- line 2 is not of its form, or a number is out of range
+-- line 2 is not of its form, a number is out of range, or the limits are not of the version
 pub record IsLimitsFault (text : List ℕ) : Type 0 where
   pub version : Version
   pub rest : List ℕ
   pub whole : text ≡ header version ++ rest
-  pub none : (limits : Limits) (bodies : ℕ) (more : List ℕ) → AreLimits limits bodies [] → rest ≢ limits_text limits bodies ++ more
+  pub none : (limits : Limits) (bodies : ℕ) (more : List ℕ) → AreLimits limits bodies [] → suits version limits ≡ true → rest ≢ limits_text limits bodies ++ more
 
 -- the text has this version and these limits, and then the rest
 pub record HasLimits (text : List ℕ) (version : Version) (limits : Limits) (bodies : ℕ) (rest : List ℕ) : Type 0 where
   pub range : AreLimits limits bodies []
+  pub of_version : suits version limits ≡ true
   pub whole : text ≡ header version ++ (limits_text limits bodies ++ rest)
 
 -- line 3 of version 1 is not of its form, or breaks the limits of line 2
@@ -128,12 +130,12 @@ pub record IsCapsFault (text : List ℕ) : Type 0 where
   pub lines : HasLimits text One limits bodies rest
   pub none : (capacities more : List ℕ) → AreLimits limits bodies capacities → rest ≢ capacities_text capacities ++ more
 
--- in version 2 this is the first line of the start that is bad
+-- in versions 2 and 3 this is the first line of the start that is bad
 pub record IsBadStart (text : List ℕ) (line : ℕ) : Type 0 where
   pub limits : Limits
   pub bodies : ℕ
   pub rest : List ℕ
-  pub lines : HasLimits text Two limits bodies rest
+  pub lines : HasLimits text (start_version limits) limits bodies rest
   pub fault : IsStartFault limits bodies rest line
 
 -- the lines before the entries are right, and something is wrong behind them

@@ -44,7 +44,7 @@ unfoldable pub names : List (List ℕ)
 names =
     codes "acquire" ∷ codes "take" ∷ codes "put" ∷ codes "claim" ∷ codes "go" ∷ codes "yield" ∷ codes "exit" ∷ codes "make" ∷ codes "send" ∷ codes "recv"
     ∷ codes "close" ∷ codes "len" ∷ codes "cap" ∷ codes "procs" ∷ codes "select" ∷ codes "sleep" ∷ codes "gopark" ∷ codes "ready" ∷ codes "enter" ∷ codes "leave" ∷ codes "spin"
-    ∷ codes "woken" ∷ codes "keep" ∷ codes "unspin" ∷ codes "poke" ∷ codes "declare" ∷ codes "bare" ∷ codes "park" ∷ codes "tick" ∷ []
+    ∷ codes "woken" ∷ codes "keep" ∷ codes "unspin" ∷ codes "poke" ∷ codes "declare" ∷ codes "bare" ∷ codes "park" ∷ codes "tick" ∷ codes "spawn" ∷ []
 
 abbrev pub first_word : List Piece → List ℕ
 first_word [] = []
@@ -68,7 +68,7 @@ CountsMachines counts es = (m : ℕ) → m < 256 → slice_index counts m ≡ tu
 
 -- the counts of calls, in the table's order, are those of these entries
 abbrev pub CountsCalls : List ℕ → List Entry → Type 0
-CountsCalls counts es = (i : ℕ) → i < 29 → slice_index counts i ≡ calls_named (slice_index_or names i []) es
+CountsCalls counts es = (i : ℕ) → i < 30 → slice_index counts i ≡ calls_named (slice_index_or names i []) es
 
 -- the summary of a trace
 abbrev pub summary_text : Content → List ℕ

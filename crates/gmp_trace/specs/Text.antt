@@ -1,5 +1,5 @@
 -- The text of a trace.
-use Rattle.std.specs.Prelude.{ℕ, ◌≡◌, ◌<◌, ◌^◌, List, ◌++◌, codes, sum, Option, None, Some}
+use Rattle.std.specs.Prelude.{ℕ, ◌≡◌, ◌<◌, ◌^◌, Bool, not, if◌then◌else◌, List, ◌++◌, codes, sum, Option, None, Some}
 use Rattle.std.specs.Io.KnownBytes.{Appends}
 use Rattle.gmp_seq.specs.declared.call.Entry.{Entry}
 use Rattle.gmp_seq.specs.declared.call.Limits.{Limits}
@@ -16,8 +16,8 @@ use Rattle.gmp_trace.specs.declared.trace.End.TheVariants as end_
 use Rattle.gmp_trace.specs.declared.trace.Trace.{Trace}
 use Rattle.gmp_trace.specs.declared.trace.TraceView.{TraceView}
 use Rattle.gmp_trace.specs.declared.trace.Version.{Version}
-use Rattle.gmp_trace.specs.declared.trace.Version.TheVariants.{One, Two}
-use Rattle.gmp_trace.specs.Pieces.{capacities_text, end_text, entries_text, limits_text}
+use Rattle.gmp_trace.specs.declared.trace.Version.TheVariants.{One, Two, Three}
+use Rattle.gmp_trace.specs.Pieces.{capacities_text, end_text, entries_text, is_whole, limits_text}
 use Rattle.gmp_trace.specs.StartText.{start_text}
 
 -- the end of a run with this outcome
@@ -54,15 +54,25 @@ content x = record { limits = x.limits; bodies = x.bodies; begins = begins_at x.
 abbrev pub content_of : TraceView → Content
 content_of x = record { limits = x.limits; bodies = x.bodies; begins = begins_of x.beginning; entries = x.entries.now.list; end = x.end }
 
--- version 1 begins at the opening, and version 2 at a state
-abbrev pub version_of : Begins → Version
-version_of (AtOpening capacities) = One
-version_of (AtState s) = Two
+-- of what begins at a state: version 2 where the history is kept whole, and else version 3
+abbrev pub start_version : Limits → Version
+start_version limits = if is_whole limits then Two else Three
+
+-- version 1 begins at the opening, and versions 2 and 3 at a state
+abbrev pub version_of : Limits → Begins → Version
+version_of limits (AtOpening capacities) = One
+version_of limits (AtState s) = start_version limits
+
+-- a text of the version may have these limits
+abbrev pub suits : Version → Limits → Bool
+suits Three limits = not (is_whole limits)
+suits _ limits = is_whole limits
 
 -- line 1
 abbrev pub header : Version → List ℕ
 header One = codes "gmp-trace 1\n"
 header Two = codes "gmp-trace 2\n"
+header Three = codes "gmp-trace 3\n"
 
 -- the lines behind that of the limits, up to the entries
 abbrev pub begins_text : Begins → List ℕ
@@ -71,7 +81,7 @@ begins_text (AtState s) = start_text (sum s.counts) s
 
 -- the lines before the entries
 abbrev pub beginning_text : Limits → ℕ → Begins → List ℕ
-beginning_text limits bodies b = header (version_of b) ++ limits_text limits bodies ++ begins_text b
+beginning_text limits bodies b = header (version_of limits b) ++ limits_text limits bodies ++ begins_text b
 
 -- the number of the first entry: so many were made before
 abbrev pub first_number : Begins → ℕ

@@ -34,11 +34,18 @@ pub fn behind<'a>(text: &'a [u8], line: &[u8]) -> Option<&'a [u8]>
 fn guess_limits(words: &[&[u8]]) -> Limits
     ensures { result ≡ limits_read (map (λ w. w.now) words.now) }
 {
+    let entries = number(word(words, 10));
+    let room = if word(words, 11) == b"room".as_slice() {
+        number(word(words, 12))
+    } else {
+        entries
+    };
     Limits {
         procs: narrow8(number(word(words, 2))),
         machines: narrow8(number(word(words, 4))),
         channels: narrow16(number(word(words, 8))),
-        entries: narrow32(number(word(words, 10))),
+        entries,
+        room: narrow32(room),
     }
 }
 

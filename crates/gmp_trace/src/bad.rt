@@ -10,13 +10,13 @@ use std::fmt;
 /// What is wrong with a line. Its text, by `Display`, is its word.
 #[derive(Clone, Copy, Debug, PartialEq, Eq)]
 pub enum Why {
-    /// Line 1 is none of the two headers.
+    /// Line 1 is none of the three headers.
     Header,
-    /// Line 2 isn't spelled so, or its limits are out of range.
+    /// Line 2 isn't spelled so, or its limits are out of range or none of the version's.
     Limits,
     /// Line 3 of version 1 isn't spelled so, or has too many channels or too great a capacity.
     Caps,
-    /// A line of version 2's start is bad, or the state doesn't fit together.
+    /// A line of the start of version 2 or 3 is bad, or the state doesn't fit together.
     Start,
     /// A line is spelled as none of an entry and none of an end, or its call is never answered so.
     Grammar,

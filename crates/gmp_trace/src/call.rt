@@ -53,6 +53,7 @@ pub fn place_call(line: &mut [u8], at: usize, call: &Call) -> usize
         Call::Put(r) => place_named_readiness(line, at, b"put", *r),
         Call::Claim(r) => place_named_readiness(line, at, b"claim", *r),
         Call::Go(g) => place_named(line, at, b"go", u64::from(g.0)),
+        Call::Spawn => place_word(line, at, b"spawn"),
         Call::Yield => place_word(line, at, b"yield"),
         Call::Exit => place_word(line, at, b"exit"),
         Call::Make(capacity) => place_named(line, at, b"make", u64::from(*capacity)),

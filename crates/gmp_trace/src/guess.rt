@@ -91,7 +91,7 @@ fn select(words: &[&[u8]]) -> Call
     Call::Select(cases, has_default, until(words))
 }
 
-/// By the first and the third letter, which tell all 29 names apart.
+/// By the first and the third letter, which tell all 30 names apart.
 #[tactic(auto, unfolding(crate::specs::Guess::call_named))]
 fn named(first: u8, third: u8, words: &[&[u8]], call: &mut Call)
     ensures value { call.new ≡ call_named first third (map (λ w. w.now) words.now) }
@@ -122,6 +122,7 @@ fn named(first: u8, third: u8, words: &[&[u8]], call: &mut Call)
         (b's', b'n') => *call = Call::Send(channel(about), number(word(words, 2))),
         (b's', b'l') => *call = select(skip(words, 1)),
         (b's', b'e') => *call = Call::Sleep(number(about)),
+        (b's', b'a') => *call = Call::Spawn,
         (b's', _) => *call = Call::Spin,
         (b't', b'k') => *call = Call::Take,
         (b't', _) => *call = Call::Tick(number(about)),

@@ -1,6 +1,6 @@
 //! Laws of traces. Each is the contract of a function that does nothing.
 
-ghost use Rattle.std.specs.Prelude.{◌≡◌, ◌≢◌, ◌<◌, ◌≤◌, ◌^◌, ◌++◌, [], None, ℕ, List, length, sum, codes, All};
+ghost use Rattle.std.specs.Prelude.{◌≡◌, ◌≢◌, ◌<◌, ◌≤◌, ◌^◌, ◌++◌, [], true, None, ℕ, List, length, sum, codes, All};
 ghost use Rattle.gmp_seq.specs.declared.call.Entry.{Entry};
 ghost use Rattle.gmp_seq.specs.declared.call.Limits.{Limits};
 ghost use Rattle.gmp_seq.specs.Fits.{AreLimits, Fits, FitsCall};
@@ -11,6 +11,7 @@ ghost use Rattle.gmp_start.specs.Forms.{HasForms};
 ghost use Rattle.gmp_trace.specs.declared.bad.Why.{Why};
 ghost use Rattle.gmp_trace.specs.declared.bad.Why.TheVariants.{OutOfMemory};
 ghost use Rattle.gmp_trace.specs.HasText.{HasText};
+ghost use Rattle.gmp_trace.specs.Pieces.{is_whole};
 ghost use Rattle.gmp_trace.specs.Reading.{IsFault};
 ghost use Rattle.gmp_trace.specs.StartForms.{HasLines, lines_text, state_lines};
 ghost use Rattle.gmp_trace.specs.StartText.{start_text};
@@ -18,9 +19,9 @@ ghost use Rattle.gmp_trace.specs.StartWhole.{IsStart, IsStartFault, IsStartText}
 ghost use Rattle.gmp_trace.specs.Text.{Content, text};
 ghost use Rattle.gmp_trace.specs.Text.Begins.{AtOpening, AtState};
 
-/// A trace of a legal run has a text, where the numbers of its entries are within their types.
+/// A trace of a legal run whose history is kept whole has a text, where the numbers of its entries are within their types.
 pub fn legal_has_text()
-    ensures { (x : Content) (capacities : List ℕ) (s : State) → x.begins ≡ AtOpening capacities → AreLimits x.limits x.bodies capacities
+    ensures { (x : Content) (capacities : List ℕ) (s : State) → x.begins ≡ AtOpening capacities → AreLimits x.limits x.bodies capacities → is_whole x.limits ≡ true
         → IsLegal x.limits x.bodies capacities x.entries s → All Fits x.entries → HasText x }
 {}
 
@@ -45,7 +46,7 @@ pub fn lines_are_text()
 
 /// A state whose parts fit together and have their sizes can be said by the lines of a start exactly where it has the forms.
 pub fn lines_are_forms()
-    ensures said { (limits : Limits) (bodies : ℕ) (s : State) → limits.entries ≤ 1000000 → 1 ≤ s.machines.active → s.machines.active ≤ limits.procs
+    ensures said { (limits : Limits) (bodies : ℕ) (s : State) → limits.entries < 2 ^ 63 → 1 ≤ s.machines.active → s.machines.active ≤ limits.procs
         → FitsTogether limits s → HasSizes limits bodies s → HasForms limits s → HasLines limits bodies (sum s.counts) s }
     ensures forms { (limits : Limits) (bodies made : ℕ) (s : State) → HasLines limits bodies made s → HasForms limits s }
     ensures sizes { (limits : Limits) (bodies made : ℕ) (s : State) → HasLines limits bodies made s → HasSizes limits bodies s }
@@ -53,7 +54,7 @@ pub fn lines_are_forms()
 
 /// A run from an accepted start, or from the opening, whose calls fit, ends in a state that the lines of a start can say.
 pub fn runs_keep_lines()
-    ensures start { (limits : Limits) (bodies made : ℕ) (old new : State) (h : List Entry) → limits.entries ≤ 1000000 → HasLines limits bodies made old
+    ensures start { (limits : Limits) (bodies made : ℕ) (old new : State) (h : List Entry) → limits.entries < 2 ^ 63 → HasLines limits bodies made old
         → FitsTogether limits old → All (λ (e : Entry). FitsCall e.call) h → Run limits old h new → HasLines limits bodies (sum new.counts) new }
     ensures opening { (limits : Limits) (bodies : ℕ) (capacities : List ℕ) (h : List Entry) (s : State) → AreLimits limits bodies capacities
         → All (λ (e : Entry). FitsCall e.call) h → IsLegal limits bodies capacities h s → HasLines limits bodies (sum s.counts) s }
@@ -61,7 +62,7 @@ pub fn runs_keep_lines()
 
 /// So while it lasts a run from a start, or from the opening, leads to a start.
 pub fn runs_keep_starts()
-    ensures start { (limits : Limits) (bodies : ℕ) (old new : State) (h : List Entry) → limits.entries ≤ 1000000 → IsStart limits bodies old
+    ensures start { (limits : Limits) (bodies : ℕ) (old new : State) (h : List Entry) → limits.entries < 2 ^ 63 → IsStart limits bodies old
         → All (λ (e : Entry). FitsCall e.call) h → Run limits old h new → new.outcome ≡ None → IsStart limits bodies new }
     ensures opening { (limits : Limits) (bodies : ℕ) (capacities : List ℕ) (h : List Entry) (s : State) → AreLimits limits bodies capacities
         → All (λ (e : Entry). FitsCall e.call) h → IsLegal limits bodies capacities h s → s.outcome ≡ None → IsStart limits bodies s }

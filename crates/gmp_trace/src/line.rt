@@ -2,8 +2,8 @@
 //! An entry's line is placed in an array first and copied once. Pushed piece by piece, each piece would ask for room and could want memory.
 
 ghost use Rattle.std.specs.Prelude.{◌≡◌, ◌≤◌, ◌++◌, OnOk, length, take};
-ghost use Rattle.gmp_trace.specs.Pieces.{limit, limits_text, capacities_text, end_text, entry_text};
-ghost use Rattle.gmp_trace.specs.Text.{IsCounted, begins_of, beginning_text};
+ghost use Rattle.gmp_trace.specs.Pieces.{limit, limits_text, capacities_text, end_text, entry_text, fields, room_pieces};
+ghost use Rattle.gmp_trace.specs.Text.{IsCounted, begins_of, beginning_text, header, start_version};
 
 use crate::call::place_call;
 use crate::digits::place_digits;
@@ -11,7 +11,7 @@ use crate::place::{place_byte, place_pair, place_word};
 use crate::put::{put, put_named, put_number};
 use crate::reply::place_reply;
 use crate::start::put_start;
-use crate::trace::{BeginningView, End};
+use crate::trace::{BeginningView, End, is_whole};
 use gmp_seq::{Entry, Limits};
 use std::alloc::AllocError;
 
@@ -26,6 +26,17 @@ fn put_limit(out: &mut Vec<u8>, name: &[u8], n: u64) -> Result<(), AllocError>
     put_named(out, name, n)
 }
 
+/// Of a history that is handed out in segments, its room.
+#[tactic(auto, unfolding(crate::specs::Pieces::room_pieces))]
+fn put_room(out: &mut Vec<u8>, limits: &Limits) -> Result<(), AllocError>
+    ensures { OnOk result (out.new.items ≡ out.old.items ++ fields (room_pieces limits.now)) }
+{
+    if is_whole(limits) {
+        return Ok(());
+    }
+    put_named(out, b"room", u64::from(limits.room))
+}
+
 /// The second line.
 #[tactic(auto, unfolding(crate::specs::Pieces::limits_text))]
 pub fn put_limits(out: &mut Vec<u8>, limits: &Limits, bodies: u16) -> Result<(), AllocError>
@@ -36,7 +47,8 @@ pub fn put_limits(out: &mut Vec<u8>, limits: &Limits, bodies: u16) -> Result<(),
     put_limit(out, b"machines", u64::from(limits.machines))?;
     put_limit(out, b"bodies", u64::from(bodies))?;
     put_limit(out, b"channels", u64::from(limits.channels))?;
-    put_limit(out, b"entries", u64::from(limits.entries))?;
+    put_limit(out, b"entries", limits.entries)?;
+    put_room(out, limits)?;
     out.push(b'\n')?;
     Ok(())
 }
@@ -52,6 +64,17 @@ pub fn put_capacities(out: &mut Vec<u8>, capacities: &[u32]) -> Result<(), Alloc
     }
     out.push(b'\n')?;
     Ok(())
+}
+
+/// The first line of what begins at a state.
+fn start_header(limits: &Limits) -> &'static [u8]
+    ensures { result.now ≡ header (start_version limits.now) }
+{
+    if is_whole(limits) {
+        b"gmp-trace 2\n"
+    } else {
+        b"gmp-trace 3\n"
+    }
 }
 
 /// The lines before the entries. It takes no more memory than they have bytes.
@@ -71,7 +94,7 @@ pub fn put_beginning(
             put_capacities(out, capacities)
         }
         BeginningView::Start(start) => {
-            put(out, b"gmp-trace 2\n")?;
+            put(out, start_header(limits))?;
             put_limits(out, limits, bodies)?;
             put_start(out, start.made(), start)
         }

@@ -19,12 +19,12 @@ use std::alloc::{AllocError, Global};
 use std::io::Write;
 
 /// How many calls there are, and so how long a table of them is.
-pub const CALLS: usize = 29;
+pub const CALLS: usize = 30;
 
-/// The place of a call in a table of all, in the order of the definitions.
+/// The place of a call in a table of all, in the order of the definitions, but `spawn` last.
 #[tactic(auto, unfolding(crate::specs::Summary::names))]
 pub fn call_place(call: &Call) -> usize
-    ensures bound { result < 29 }
+    ensures bound { result < 30 }
     ensures name { slice_index_or names result [] ≡ call_name call.now }
 {
     match call {
@@ -57,13 +57,14 @@ pub fn call_place(call: &Call) -> usize
         Call::Bare => 26,
         Call::Park => 27,
         Call::Tick(_) => 28,
+        Call::Spawn => 29,
     }
 }
 
 /// The first word of the call at a place in the table.
 #[tactic(auto, unfolding(crate::specs::Summary::names))]
 pub fn call_name(place: usize) -> &'static [u8]
-    requires { place < 29 }
+    requires { place < 30 }
     ensures { result.now ≡ slice_index_or names place [] }
 {
     match place {
@@ -95,7 +96,8 @@ pub fn call_name(place: usize) -> &'static [u8]
         25 => b"declare",
         26 => b"bare",
         27 => b"park",
-        _ => b"tick",
+        28 => b"tick",
+        _ => b"spawn",
     }
 }
 

@@ -3,7 +3,8 @@
 //! not copied.
 
 ghost use Rattle.std.specs.Prelude.{◌≡◌};
-ghost use Rattle.gmp_trace.specs.Text.{IsCounted, begins_at, begins_of, content, content_of, end_of, first_number};
+ghost use Rattle.gmp_trace.specs.Pieces.{is_whole};
+ghost use Rattle.gmp_trace.specs.Text.{IsCounted, begins_at, begins_of, content, content_of, end_of, first_number, suits};
 
 use gmp_history::History;
 use gmp_seq::{Limits, Outcome};
@@ -40,6 +41,27 @@ pub enum Version {
     One,
     /// It begins at a state.
     Two,
+    /// So it does, and it is of a run whose history is handed out in segments.
+    Three,
+}
+
+/// Whether the history has room for all entries, and so is kept whole.
+pub fn is_whole(limits: &Limits) -> bool
+    ensures { result ≡ is_whole limits.now }
+{
+    limits.entries == u64::from(limits.room)
+}
+
+impl Version {
+    /// Whether a text of the version may have these limits.
+    pub fn suits(self, limits: &Limits) -> bool
+        ensures { result ≡ suits self limits.now }
+    {
+        match self {
+            Version::One | Version::Two => is_whole(limits),
+            Version::Three => !is_whole(limits),
+        }
+    }
 }
 
 /// How a run begins.

@@ -1,7 +1,7 @@
 //! Reads a whole trace, line by line, into a `Trace`; or says the first bad line.
 //! `First` is where entries begin, behind the lines of either version.
 
-ghost use Rattle.std.specs.Prelude.{◌≡◌, ◌≢◌, ◌↔◌, ◌+◌, ◌<◌, ◌≤◌, ◌++◌, ◌^◌, [], ℕ, List, IsTrue, IfOk, IfErr, IfSome, IsSomeAnd, MatchOption, MatchResult, slice_index};
+ghost use Rattle.std.specs.Prelude.{◌≡◌, ◌≢◌, ◌↔◌, ◌+◌, ◌<◌, ◌≤◌, ◌++◌, ◌^◌, [], true, ℕ, List, IsTrue, IfOk, IfErr, IfSome, IsSomeAnd, MatchOption, MatchResult, slice_index};
 ghost use Rattle.gmp_base.specs.declared.number.MNo.{MNo};
 ghost use Rattle.gmp_seq.specs.declared.call.Entry.{Entry};
 ghost use Rattle.gmp_seq.specs.declared.call.Limits.{Limits};
@@ -15,7 +15,7 @@ ghost use Rattle.gmp_trace.specs.HasText.{HasText, Origin, answers, origin, turn
 ghost use Rattle.gmp_trace.specs.Pieces.{capacities_text, end_text, entries_text, entry_text, limits_text};
 ghost use Rattle.gmp_trace.specs.Reading.{AreEntries, HasLimits, IsBody, IsBodyFault, IsEntry, IsFault, IsHeaderFault, IsLastFault, IsNext};
 ghost use Rattle.gmp_trace.specs.StartWhole.{IsStart};
-ghost use Rattle.gmp_trace.specs.Text.{Begins, Content, IsCounted, begins_at, begins_text, content, header, text};
+ghost use Rattle.gmp_trace.specs.Text.{Begins, Content, IsCounted, begins_at, begins_text, content, header, start_version, suits, text};
 ghost use Rattle.gmp_trace.specs.Text.Begins.{AtOpening, AtState};
 
 use crate::at::{behind, blank, capacities_at, end_at, entry_at, limits_at};
@@ -35,20 +35,24 @@ const OUT_OF_MEMORY: Bad = Bad {
     why: Why::OutOfMemory,
 };
 
-/// The limits in range whose line the text begins with, and the text behind it.
+/// The limits in range, and of this version, whose line the text begins with, and the text behind it.
 fn allowed_limits_at<'a>(
+    version: Version,
     text: &'a [u8],
     words: &mut Vec<&'a [u8]>,
     line: &mut Vec<u8>,
 ) -> Result<Option<(Limits, u16, &'a [u8])>, AllocError>
-    ensures found { IfOk result (λ o. IfSome o (λ r. (text.now ≡ limits_text r.0 r.1 ++ r.2.now) × AreLimits r.0 r.1 [])) }
-    ensures only { IfOk result (λ o. (limits : Limits) (bodies : ℕ) (more : List ℕ) → AreLimits limits bodies [] → text.now ≡ limits_text limits bodies ++ more
+    ensures found { IfOk result (λ o. IfSome o (λ r. (text.now ≡ limits_text r.0 r.1 ++ r.2.now) × AreLimits r.0 r.1 [] × (suits version r.0 ≡ true))) }
+    ensures only { IfOk result (λ o. (limits : Limits) (bodies : ℕ) (more : List ℕ) → AreLimits limits bodies [] → suits version limits ≡ true → text.now ≡ limits_text limits bodies ++ more
         → IsSomeAnd o (λ r. (r.0 ≡ limits) × (r.1 ≡ bodies) × (r.2.now ≡ more))) }
 {
     let Some((limits, bodies, rest)) = limits_at(text, words, line)? else {
         return Ok(None);
     };
     if !limits.allow(usize::from(bodies), &[]) {
+        return Ok(None);
+    }
+    if !version.suits(&limits) {
         return Ok(None);
     }
     Ok(Some((limits, bodies, rest)))
@@ -90,6 +94,7 @@ fn is_answered(call: &Call, reply: &Reply) -> bool
             reply,
             Reply::Ticket(_) | Reply::Fault(Fault::NoSuchBody | Fault::AlreadyStarted)
         ),
+        Call::Spawn => matches!(reply, Reply::Ticket(_) | Reply::Fault(Fault::NoSuchBody)),
         Call::Yield => matches!(reply, Reply::Shelved(_)),
         Call::Exit => matches!(reply, Reply::Dead | Reply::MainEnded),
         Call::Make(_) => matches!(
@@ -269,8 +274,11 @@ fn version_at(text: &[u8]) -> Option<(Version, &[u8])>
     if let Some(rest) = behind(text, b"gmp-trace 1\n") {
         return Some((Version::One, rest));
     }
-    match behind(text, b"gmp-trace 2\n") {
-        Some(rest) => Some((Version::Two, rest)),
+    if let Some(rest) = behind(text, b"gmp-trace 2\n") {
+        return Some((Version::Two, rest));
+    }
+    match behind(text, b"gmp-trace 3\n") {
+        Some(rest) => Some((Version::Three, rest)),
         None => None,
     }
 }
@@ -292,7 +300,7 @@ fn limited<'a>(
             why: Why::Header,
         });
     };
-    let Ok(found) = allowed_limits_at(rest, words, line) else {
+    let Ok(found) = allowed_limits_at(version, rest, words, line) else {
         return Err(OUT_OF_MEMORY);
     };
     let Some((limits, bodies, rest)) = found else {
@@ -348,7 +356,7 @@ fn made_by(counts: &[u64]) -> [u64; 64]
     made
 }
 
-/// The start whose lines version 2 has, and where the entries begin behind them.
+/// The start whose lines versions 2 and 3 have, and where the entries begin behind them.
 fn started<'a>(
     alloc: Global,
     limits: Limits,
@@ -360,7 +368,7 @@ fn started<'a>(
     ensures first { IfOk result (λ r. IsFirst r.1 (origin limits.machines (AtState (state_of r.0)))) }
     ensures only { (s : State) (rest : List ℕ) → IsStart limits bodies s → text.now ≡ begins_text (AtState s) ++ rest
         → MatchResult result (λ r. (state_of r.0 ≡ s) × (r.2.now ≡ rest)) (λ bad. bad.why ≡ Why.OutOfMemory) }
-    ensures fault { (bytes : List ℕ) → HasLimits bytes Version.Two limits bodies text.now → IfErr result (λ bad. IsFault bytes bad.line bad.why) }
+    ensures fault { (bytes : List ℕ) → HasLimits bytes (start_version limits) limits bodies text.now → IfErr result (λ bad. IsFault bytes bad.line bad.why) }
 {
     let Ok(found) = read_whole_start(alloc, limits, bodies, text) else {
         return Err(OUT_OF_MEMORY);
@@ -394,6 +402,7 @@ fn begun<'a>(
     line: &mut Vec<u8>,
 ) -> Result<(Beginning, First, &'a [u8]), Bad>
     requires range { AreLimits limits bodies [] }
+    requires suits { suits version limits ≡ true }
     ensures found { IfOk result (λ r. BeginsSo version limits bodies text.now (begins_at r.0) r.2.now) }
     ensures first { IfOk result (λ r. IsFirst r.1 (origin limits.machines (begins_at r.0))) }
     ensures only { (b : Begins) (rest : List ℕ) → BeginsSo version limits bodies text.now b rest
@@ -405,7 +414,7 @@ fn begun<'a>(
             let (capacities, first, rest) = opened(alloc, limits, bodies, text, words, line)?;
             Ok((Beginning::Opening(capacities), first, rest))
         }
-        Version::Two => {
+        Version::Two | Version::Three => {
             let (start, first, rest) = started(alloc, limits, bodies, text)?;
             Ok((Beginning::Start(start), first, rest))
         }

@@ -10,4 +10,3 @@ pub mod Keeping
 pub mod Moving
 pub mod Kept
 pub mod InPlace
-pub mod Opened

@@ -1,5 +1,5 @@
 -- A turn that is refused is an act of several machines: the run is over, or a make wanted memory.
-use Rattle.std.proofs.Common.{◌≡◌, ◌≢◌, inl, inr, ℕ, ◌<◌, ◌≤◌, Bool, true, false, not, ◌||◌, ◌==◌, nat_le, nat_lt, List, ◌∷◌, Option, None, Some, is_some, Err, refl, sym, ap, subst, ◌∙◌, arith}
+use Rattle.std.proofs.Common.{◌≡◌, ◌≢◌, inl, inr, ℕ, ◌<◌, ◌≤◌, Bool, true, false, not, ◌||◌, ◌==◌, nat_le, nat_lt, List, ◌∷◌, ◌++◌, length, Option, None, Some, is_some, Err, refl, sym, ap, subst, ◌∙◌, arith}
 use Rattle.std.proofs.lemmas.Bool.{eq-eqb}
 use Rattle.std.proofs.lemmas.Bool.Decides.{nat_tests}
 use Rattle.std.specs.Option.{option_map, option_map_or}
@@ -25,8 +25,8 @@ use Rattle.gmp_journal.specs.declared.handed.Handed.{Handed}
 use Rattle.gmp_journal.specs.Grants.{Suits}
 use Rattle.gmp_journal.specs.Handed.{goroutine_in, names_other, processor_in}
 use Rattle.gmp_journal.specs.Laws.{NeedsOf}
-use Rattle.gmp_journal.specs.Log.{Log, calls_of, entries_made}
-use Rattle.gmp_journal.specs.Refusals.{Line, Says, first_refusal, is_foreign, refusal_line, need_lines, refusal_of}
+use Rattle.gmp_journal.specs.Log.{Log, calls_of, entries_made, is_over}
+use Rattle.gmp_journal.specs.Refusals.{Line, Says, first_refusal, is_foreign, refusal_line, need_lines, refusal_of, room_lines}
 use Rattle.gmp_journal.proofs.Needed.{granted_where, own_run}
 use Rattle.gmp_book.specs.Book.{BookContents}
 use Rattle.gmp_book.specs.Hands.{handed_of}
@@ -142,11 +142,11 @@ module _ (log : Log) (pass : Pass) (c : Call) (values : Handed) (run : pass.run 
       let early : nat_lt (entries_made log) pass.seen ≡ false = grind (arith, nat_tests, seen) in
       let foreign : is_foreign log pass values ≡ false = or_none _ _ (or_none _ _ (ap not (eq-eqb pass.run log.run run)) there) ours in
       let in_turn : not (pass.calls == calls_of log pass.m) ≡ false = ap not (eq-eqb pass.calls (calls_of log pass.m) turn) in
-      fourth (is_foreign log pass values) (not (pass.calls == calls_of log pass.m)) (nat_lt (entries_made log) pass.seen) (is_some log.state.outcome) WrongRun (OutOfTurn (calls_of log pass.m))
-      (Behind (entries_made log) pass.seen) Over (need_lines log.state pass.m c values) foreign in_turn early (some_is log.state.outcome over)
+      fourth (is_foreign log pass values) (not (pass.calls == calls_of log pass.m)) (nat_lt (entries_made log) pass.seen) (is_over log) WrongRun (OutOfTurn (calls_of log pass.m))
+      (Behind (entries_made log) pass.seen) Over (need_lines log.state pass.m c values ++ room_lines log) foreign in_turn early (rw (some_is log.state.outcome over) refl)
 
-  pub none_refused : log.state.outcome ≡ None → Needs pass.m c log.state → NeedsOf pass.m (goroutine_in values) (processor_in values) c log.state → Suits c values → refusal_of log pass c values ≡ None
-  none_refused goes needs of suit = (granted_where log pass c values run (record { machine = machine; turn = turn; seen = seen; lasts = goes }) suit ours).1 of
+  pub none_refused : log.state.outcome ≡ None → log.stopped ≡ false → length log.history < log.limits.room → Needs pass.m c log.state → NeedsOf pass.m (goroutine_in values) (processor_in values) c log.state → Suits c values → refusal_of log pass c values ≡ None
+  none_refused goes on room needs of suit = (granted_where log pass c values run (record { machine = machine; turn = turn; seen = seen; lasts = goes; goes_on = on }) room suit ours).1 of
 
 -- why the book refuses, once no line does, and once the run is over
 by_memory : (wants : Type 0) (line answer : Option Refusal) (why : Refusal) → line ≡ None → answer ≡ Some why → Says wants line answer → (why ≡ OutOfMemory) × wants
@@ -208,20 +208,20 @@ module _ {T Q : Type 0} (x x' : Machine T Q) (book book' : BookContents T Q) (m 
 
   pub stopped : book.log.state.outcome ≢ None → Stopped (plain_machine x) (run_of book.log) own (plain_machine x') (run_of book'.log) own
   stopped over =
-      let is_over : why ≡ Over = by_line _ _ _ Over why (over_refused book.log turned.before c v pass_run machine turn seen ours over) refl turned.refused in
+      let over_told : why ≡ Over = by_line _ _ _ Over why (over_refused book.log turned.before c v pass_run machine turn seen ours over) refl turned.refused in
       record {
         over = over;
         same = book_is;
         none = refl;
-        machine = machine_is ∙ ap (λ (w : Refusal). told_so w x.pass (plain_back c w (plain x.hand))) is_over ∙ ap (told_so Over x.pass) (over_is c (plain x.hand));
+        machine = machine_is ∙ ap (λ (w : Refusal). told_so w x.pass (plain_back c w (plain x.hand))) over_told ∙ ap (told_so Over x.pass) (over_is c (plain x.hand));
       }
 
-  pub unmade : book.log.state.outcome ≡ None → IsGranted (plain_machine x) m c (run_of book.log) → Unmade (plain_machine x) m c (run_of book.log) own (plain_machine x') (run_of book'.log) own
-  unmade goes granted =
+  pub unmade : book.log.state.outcome ≡ None → book.log.stopped ≡ false → length book.log.history < book.log.limits.room → IsGranted (plain_machine x) m c (run_of book.log) → Unmade (plain_machine x) m c (run_of book.log) own (plain_machine x') (run_of book'.log) own
+  unmade goes on room granted =
       let uses_it = uses x c is fits in
       let needs : Needs turned.before.m c book.log.state = subst (λ (i : MNo). Needs i c book.log.state) (sym its) granted.needs in
       let has : Has book.log.state turned.before.m (plain x.hand) = subst (λ (i : MNo). Has book.log.state i (plain x.hand)) (sym its) granted.has in
-      let none = none_refused book.log turned.before c v pass_run machine turn seen ours goes needs (asked x.run turned.before turned.before.m book.log.state x.hand has c uses_it needs) (suits x.run turned.before c x.hand uses_it) in
+      let none = none_refused book.log turned.before c v pass_run machine turn seen ours goes on room needs (asked x.run turned.before turned.before.m book.log.state x.hand has c uses_it needs) (suits x.run turned.before c x.hand uses_it) in
       let memory = by_memory _ _ _ why none refl turned.refused in
       record {
         granted = granted;

@@ -66,6 +66,7 @@ pub fn turn<T, Q>(
         | Call::Recv(_)
         | Call::Select(_, _, _)
         | Call::Go(_)
+        | Call::Spawn
         | Call::Close(_)
         | Call::Len(_)
         | Call::Cap(_)

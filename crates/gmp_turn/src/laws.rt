@@ -1,6 +1,6 @@
 //! What a turn is among the acts of several machines, and what it does with bodies and owners. Each law is the contract of a function
 //! that does nothing.
-ghost use Rattle.std.specs.Prelude.{◌≡◌, ◌≢◌, ◌<◌, ◌⊎◌, ℕ, List, [], ◌∷◌, ◌++◌, true, None, Some, Ok, Err, Option, Result, IsNone};
+ghost use Rattle.std.specs.Prelude.{◌≡◌, ◌≢◌, ◌<◌, ◌⊎◌, ℕ, List, [], ◌∷◌, ◌++◌, length, false, true, None, Some, Ok, Err, Option, Result, IsNone};
 ghost use Rattle.gmp_base.specs.declared.number.MNo.{MNo};
 ghost use Rattle.gmp_base.specs.declared.number.Readiness.{Readiness};
 ghost use Rattle.gmp_base.specs.declared.refusal.Refusal.{Refusal};
@@ -30,13 +30,16 @@ pub fn answers_are_acts<T, Q>()
 {}
 
 /// A turn that is refused is the book call of gmp_acts's definitions too, of a machine that may call: where the run is over it is told so;
-/// and while it lasts, where the call is granted, it is a make that was refused memory. Nothing else has changed.
+/// and while it lasts and wasn't stopped, where the call is granted and the history has room for its entry, it is a make that was refused
+/// memory. Nothing else
+/// has changed.
 pub fn refusals_are_acts<T, Q>()
     ensures over { (x x' : Machine T Q) (book book' : BookContents T Q) (m : MNo) (asked : Call) (word : ℕ) (why : Refusal) (own : List Made) → next_act x ≡ Act.Call asked → SuitsPlace x.place x.hand
         → x.run ≡ book.log.run → m.0 < book.log.limits.machines → MayCall (plain_machine x) m (run_of book.log) → Turns x book asked word (Err why) x' book' → book.log.state.outcome ≢ None
         → Stopped (plain_machine x) (run_of book.log) own (plain_machine x') (run_of book'.log) own }
     ensures wanted { (x x' : Machine T Q) (book book' : BookContents T Q) (m : MNo) (asked : Call) (word : ℕ) (why : Refusal) (own : List Made) → next_act x ≡ Act.Call asked → SuitsPlace x.place x.hand
         → x.run ≡ book.log.run → m.0 < book.log.limits.machines → IsGranted (plain_machine x) m asked (run_of book.log) → Turns x book asked word (Err why) x' book' → book.log.state.outcome ≡ None
+        → book.log.stopped ≡ false → length book.log.history < book.log.limits.room
         → Unmade (plain_machine x) m asked (run_of book.log) own (plain_machine x') (run_of book'.log) own }
 {}
 

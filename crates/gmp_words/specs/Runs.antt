@@ -16,7 +16,7 @@ use Rattle.gmp_words.specs.declared.options.Settings.{Settings}
 
 -- the limits that the command line gives
 abbrev pub limits_of : Settings → Limits
-limits_of s = record { procs = s.procs; machines = s.machines; channels = s.channels; entries = s.entries }
+limits_of s = record { procs = s.procs; machines = s.machines; channels = s.channels; entries = s.entries; room = s.entries }
 
 -- the exit status where a run ended so
 abbrev pub status_of : End → ℕ

@@ -28,4 +28,4 @@ pub use options::{Settings, Task, Wanted};
 pub use parsing::script;
 pub use reading::{MAX_SCRIPT, MAX_TRACE, input};
 pub use said::{Said, Untraced};
-pub use words::settings;
+pub use words::{MOST_ENTRIES, settings};

@@ -89,7 +89,8 @@ impl Settings {
             procs: self.procs,
             machines: self.machines,
             channels: self.channels,
-            entries: self.entries,
+            entries: u64::from(self.entries),
+            room: self.entries,
         }
     }
 }

@@ -13,8 +13,11 @@ use crate::said::Said;
 use crate::wanting;
 use clap::error::ErrorKind;
 use clap::{Arg, ArgAction, Command};
-use gmp_seq::{LEAST_ENTRIES, MOST_CHANNELS, MOST_ENTRIES, MOST_MACHINES, MOST_PROCS};
+use gmp_seq::{LEAST_ROOM, MOST_CHANNELS, MOST_MACHINES, MOST_PROCS};
 use std::alloc::{AllocError, Global};
+
+/// The most entries of a trace that the program writes: all are kept at once.
+pub const MOST_ENTRIES: u32 = 1_000_000;
 
 // The options, each with the range that its type of settings has: what is read is narrowed without a loss.
 const PROCS: Numeric = Numeric {
@@ -54,7 +57,7 @@ const ENTRIES: Numeric = Numeric {
     id: "entries",
     option: "--entries",
     help: "The most entries, 16 to 1000000 [default: 10000]",
-    least: LEAST_ENTRIES as u64,
+    least: LEAST_ROOM as u64,
     most: MOST_ENTRIES as u64,
     default: 10_000,
 };

@@ -12,7 +12,7 @@ use gmp_base::{Called, Held, Proc, Refusal, Refused, Ticket};
 impl<T, Q> Book<T, Q> {
     ghost use Rattle.gmp_book.specs.Book.{IsReport, surrender_lines, report_lines};
 
-    /// Gives a body back once the run is over.
+    /// Gives a body back once the run is over, by its outcome or a stop.
     pub fn surrender_held(&mut self, held: Held<T>) -> Result<(), Refused<Held<T>>>
         ensures refused { why_refused result ≡ first_refusal (surrender_lines self.old.log held.run (not (is_vacant self.old.bodies held.g.0)) Refusal.NotHeld) }
         ensures err { IfErr result (λ r. (r.back ≡ held) × (self.new ≡ self.old)) }
@@ -79,7 +79,7 @@ impl<T, Q> Book<T, Q> {
         if run != self.journal.run() {
             return Some(Refusal::WrongRun);
         }
-        if self.journal.outcome().is_none() {
+        if !self.journal.is_over() {
             return Some(Refusal::NotOver);
         }
         if astray {
@@ -95,12 +95,12 @@ impl<T, Q> Book<T, Q> {
         ensures back { IfErr result (λ r. r.back ≡ self) }
         ensures report { IfOk result (IsReport self) }
     {
-        let Some(outcome) = self.journal.outcome() else {
+        if !self.is_over() {
             return Err(Refused {
                 why: Refusal::NotOver,
                 back: self,
             });
-        };
+        }
         if !(self.bodies.all_filled() && self.owners.all_filled()) {
             return Err(Refused {
                 why: Refusal::Busy,
@@ -112,6 +112,7 @@ impl<T, Q> Book<T, Q> {
             bodies,
             owners,
         } = self;
+        let outcome = journal.outcome();
         let (limits, capacities, history) = journal.into_parts();
         Ok(Report {
             limits,

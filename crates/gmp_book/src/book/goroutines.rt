@@ -1,12 +1,13 @@
 //! Goroutines that begin, go on, pause and end.
-ghost use Rattle.std.specs.Prelude.{◌≡◌, ◌↔◌, [], None, Some, option_map, OnOk, OnErr, IfOk, IfErr, IfSome};
+ghost use Rattle.std.specs.Prelude.{◌≡◌, ◌↔◌, [], None, Some, option_map, position, OnOk, OnErr, IfOk, IfErr, IfSome};
 ghost use Rattle.gmp_base.specs.declared.ask.Woke.{Woke};
 ghost use Rattle.gmp_base.specs.Values.{readiness_of};
 ghost use Rattle.gmp_seq.specs.declared.call.Reply.{Reply};
+ghost use Rattle.gmp_seq.specs.declared.status.Goroutine.{Goroutine};
 ghost use Rattle.gmp_seq.specs.declared.status.Kind.{Kind};
 ghost use Rattle.gmp_seq.specs.declared.status.TicketPlace.TheVariants.{Shelf, Out};
 ghost use Rattle.gmp_seq.specs.declared.status.Status.{Status};
-ghost use Rattle.gmp_seq.specs.Table.{IsReady, made_ready, made_wait, next_of, set_status};
+ghost use Rattle.gmp_seq.specs.Table.{IsReady, is_startable, made_ready, made_wait, next_of, set_status};
 ghost use Rattle.gmp_journal.specs.Handed.{by_held, by_ticket, nothing_handed};
 ghost use Rattle.gmp_journal.specs.Log.{Records};
 ghost use Rattle.gmp_journal.specs.Refusals.{refusal_in, refusal_of, why_refused};
@@ -92,6 +93,20 @@ impl<T, Q> Book<T, Q> {
         ensures values { OnOk result (SameValues self.old self.new) }
     {
         let (moved, _) = self.ask(None, pass, held, Call::Go(body), 0)?;
+        Ok(moved.went())
+    }
+
+    /// Starts the least goroutine that was not started or has ended, whose ticket is given out: its number is used again, and its body is the
+    /// one that lies in the book. The goroutine that asks goes on: it is told Done, or a fault, where there is none.
+    pub fn spawn(&mut self, pass: &mut Pass, held: Held<T>) -> Result<Went<T>, Refused<Held<T>>>
+        ensures refused { why_refused result ≡ refusal_of self.old.log pass.old Call.Spawn (by_held held) }
+        ensures back { IfErr result (λ r. r.back ≡ held) }
+        ensures err { OnErr result ((self.new ≡ self.old) × (pass.new ≡ pass.old)) }
+        ensures entry { IfOk result (λ w. ProceedsOn self.old.log pass.old Call.Spawn held self.new.log pass.new w) }
+        ensures values { OnOk result (SameValues self.old self.new) }
+        ensures least { IfOk result (λ w. IfSome w.push (λ t. position (λ (x : Goroutine). is_startable x.status) self.old.log.state.table.goroutines ≡ Some t.g.0)) }
+    {
+        let (moved, _) = self.ask(None, pass, held, Call::Spawn, 0)?;
         Ok(moved.went())
     }
 

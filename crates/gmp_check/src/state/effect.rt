@@ -113,6 +113,7 @@ impl State {
     {
         Ok(match call {
             Call::Go(h) => self.table.start(*h, reply),
+            Call::Spawn => self.table.spawn(reply),
             Call::Yield => self.table.give_way(g, reply),
             Call::Exit => self.table.exit(g, reply),
             Call::Make(capacity) => self.channels.make(limits, *capacity, reply)?,

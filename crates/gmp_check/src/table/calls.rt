@@ -1,7 +1,7 @@
 //! Calls that concern goroutines alone. Each answers whether the reply is one that the definitions allow, and changes the table only where
 //! it is.
-ghost use Rattle.std.specs.Prelude.{◌<◌, ◌^◌};
-ghost use Rattle.gmp_seq.specs.Step.{Takes, Puts, Claims, Starts, Yields, Exits, Sleeps, Goparks, Readies};
+ghost use Rattle.std.specs.Prelude.{◌<◌, ◌≤◌, ◌^◌};
+ghost use Rattle.gmp_seq.specs.Step.{Takes, Puts, Claims, Starts, Spawns, Yields, Exits, Sleeps, Goparks, Readies};
 ghost use Rattle.gmp_base.specs.declared.number.GNo.{GNo};
 ghost use Rattle.gmp_seq.specs.Table.{IsHeld, epoch_at};
 ghost use Rattle.gmp_check.specs.Decides.{Decides};
@@ -57,7 +57,7 @@ impl Table {
 
     /// g is started, and its ticket is out; or there is no g, or it was started before.
     pub(crate) fn start(&mut self, g: GNo, reply: Reply) -> bool
-        requires { epoch_at self.old g < 2 ^ 63 }
+        requires { epoch_at self.old g ≤ 2 ^ 63 }
         ensures { Decides (Starts g reply) self.old self.new result }
     {
         match (reply, self.status(g)) {
@@ -71,9 +71,27 @@ impl Table {
         }
     }
 
+    /// Any goroutine that was not started, or has ended, is started, and its ticket is out; or none, exactly where there is none.
+    pub(crate) fn spawn(&mut self, reply: Reply) -> bool
+        requires { (g : GNo) → epoch_at self.old g ≤ 2 ^ 63 }
+        ensures { Decides (Spawns reply) self.old self.new result }
+    {
+        match reply {
+            Reply::Ticket(r) => match self.status(r.g) {
+                Some(status) if status.is_startable() && r == self.next(r.g) => {
+                    self.make_ready(r.g, TicketPlace::Out, Woke::First);
+                    true
+                }
+                _ => false,
+            },
+            Reply::Fault(Fault::NoSuchBody) => !self.has_startable(),
+            _ => false,
+        }
+    }
+
     /// g yields: it is ready on the shelf.
     pub(crate) fn give_way(&mut self, g: GNo, reply: Reply) -> bool
-        requires { epoch_at self.old g < 2 ^ 63 }
+        requires { epoch_at self.old g ≤ 2 ^ 63 }
         ensures { Decides (Yields g reply) self.old self.new result }
     {
         match reply {
@@ -130,7 +148,7 @@ impl Table {
 
     /// g, which waits by `gopark`, is ready with its ticket out; or there is no g, or it doesn't wait so.
     pub(crate) fn ready(&mut self, g: GNo, reply: Reply) -> bool
-        requires { epoch_at self.old g < 2 ^ 63 }
+        requires { epoch_at self.old g ≤ 2 ^ 63 }
         ensures { Decides (Readies g reply) self.old self.new result }
     {
         match (reply, self.status(g)) {

@@ -1,6 +1,6 @@
 //! Changes of many goroutines at once, and the clock. Both a close and a tick wake all that their cause has an answer for, and in which
 //! order the shelf has them is no part of the state.
-ghost use Rattle.std.specs.Prelude.{◌≡◌, ◌<◌, ◌^◌, ℕ, map, None, Some, slice_get};
+ghost use Rattle.std.specs.Prelude.{◌≡◌, ◌≤◌, ◌^◌, ℕ, map, None, Some, slice_get};
 ghost use Rattle.gmp_base.specs.declared.number.GNo.{GNo};
 ghost use Rattle.gmp_seq.specs.declared.status.Goroutine.{Goroutine};
 ghost use Rattle.gmp_seq.specs.Step.{Ticks};
@@ -37,7 +37,7 @@ fn least_of(rows: &[Goroutine]) -> Option<u64>
 
 /// Makes a goroutine ready on the shelf, where the cause has an answer for it.
 fn wake(row: &mut Goroutine, cause: Cause)
-    requires { row.old.epoch < 2 ^ 63 }
+    requires { row.old.epoch ≤ 2 ^ 63 }
     ensures { row.new ≡ woken_with (answer_for cause row.old.status) row.old }
 {
     if let Some(woke) = cause.answer(&row.status) {
@@ -48,7 +48,7 @@ fn wake(row: &mut Goroutine, cause: Cause)
 
 /// The same of each goroutine.
 fn wake_all(rows: &mut [Goroutine], cause: Cause)
-    requires { (k : ℕ) (x : Goroutine) → slice_get rows.old k ≡ Some x → x.epoch < 2 ^ 63 }
+    requires { (k : ℕ) (x : Goroutine) → slice_get rows.old k ≡ Some x → x.epoch ≤ 2 ^ 63 }
     ensures { rows.new ≡ map (λ (x : Goroutine). woken_with (answer_for cause x.status) x) rows.old }
 {
     for row in rows.iter_mut() {
@@ -86,7 +86,7 @@ impl Table {
 
     /// Makes all ready on the shelf for whom the cause has an answer.
     pub(crate) fn wake(&mut self, cause: Cause)
-        requires young { (g : GNo) → epoch_at self.old g < 2 ^ 63 }
+        requires young { (g : GNo) → epoch_at self.old g ≤ 2 ^ 63 }
         ensures { self.new ≡ all_woken (answer_for cause) self.old }
     {
         wake_all(&mut self.goroutines, cause);
@@ -94,7 +94,7 @@ impl Table {
 
     /// The clock shows this moment, or stays at a greater one: who waited until then becomes ready, and the reply counts them.
     pub(crate) fn tick(&mut self, moment: u64, reply: Reply) -> bool
-        requires young { (g : GNo) → epoch_at self.old g < 2 ^ 63 }
+        requires young { (g : GNo) → epoch_at self.old g ≤ 2 ^ 63 }
         ensures { Decides (Ticks moment reply) self.old self.new result }
     {
         let now = self.clock.max(moment);

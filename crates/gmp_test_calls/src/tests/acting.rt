@@ -115,6 +115,7 @@ fn limits_of(row: &Row) -> Limits {
         machines: 2,
         channels: 16,
         entries: 10_000,
+        room: 10_000,
     }
 }
 

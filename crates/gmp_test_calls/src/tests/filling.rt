@@ -89,7 +89,8 @@ fn fills(rt: &impl Abort, alloc: Global, row: Row, entries: u32) -> Result<(), F
         procs,
         machines: 2,
         channels: 16,
-        entries,
+        entries: u64::from(entries),
+        room: entries,
     };
     let mut core = opened(rt, alloc, text, limits)?;
     play(&mut core);

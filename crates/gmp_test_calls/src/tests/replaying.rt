@@ -11,6 +11,7 @@ const LIMITS: Limits = Limits {
     machines: 1,
     channels: 2,
     entries: 16,
+    room: 16,
 };
 
 const FIRST: Readiness = Readiness {

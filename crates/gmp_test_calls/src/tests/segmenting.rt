@@ -1,7 +1,8 @@
-//! The history of one goroutine, which yields once and ends, in two segments: with which state each begins. That a segment is what the
-//! definitions say is a clause; here the states are written out, as a person expects them.
-use gmp_base::{Held, MNo, Pass, Refusal, Woke};
+//! The history of one goroutine, which yields once and ends, in two segments: with which state each begins. That a state is the present one
+//! is a clause; here the states are written out, as a person expects them.
+use gmp_base::{Held, MNo, Pass, Woke};
 use gmp_book::Book;
+use gmp_history::History;
 use gmp_seq::{Goroutine, Limits, Mode, Outcome, Status, TicketPlace};
 use gmp_start::Start;
 use std::alloc::{AllocError, Global};
@@ -15,6 +16,7 @@ const LIMITS: Limits = Limits {
     machines: 1,
     channels: 16,
     entries: 10_000,
+    room: 10_000,
 };
 
 /// The state after so many entries of the one machine: who holds the processor, and what the goroutine, which is on the shelf, is to be
@@ -94,27 +96,30 @@ fn exits(rt: &impl Abort, book: &mut Book<(), ()>, pass: &mut Pass) {
     }
 }
 
-/// The book hands out a segment from this state on, with so many entries and this end.
+/// The book is in this state.
+fn stands(rt: &impl Abort, alloc: Global, book: &Book<(), ()>, state: &Start) {
+    match book.start(alloc) {
+        Ok(start) => assert!(rt; start.same(state), "the state"),
+        Err(_) => panic!(rt; "no memory"),
+    }
+}
+
+/// The book hands out so many entries, and the run stands so.
 fn hands_out(
     rt: &impl Abort,
     alloc: Global,
     book: &mut Book<(), ()>,
-    start: &Start,
     entries: usize,
     end: Option<Outcome>,
 ) {
-    match book.segment(alloc) {
-        Ok(segment) => {
-            assert!(rt; segment.start.same(start), "the start");
-            assert_eq!(rt;
-                segment.entries.len(),
-                entries,
-                "how many entries there are"
-            );
-            assert_eq!(rt; segment.end, end, "the end");
-        }
-        Err(why) => panic!(rt; "a segment is refused: {why}"),
-    }
+    let _ = book.history();
+    let Ok(mut segment) = History::with_room(alloc, 1_000_000) else {
+        panic!(rt; "no memory")
+    };
+    book.hand_out(&mut segment);
+    assert_eq!(rt; segment.len(), entries, "how many entries there are");
+    assert!(rt; book.history().is_empty(), "what is left");
+    assert_eq!(rt; book.outcome(), end, "the end");
 }
 
 #[test]
@@ -123,6 +128,7 @@ fn a_segment_begins_where_the_one_before_stops(rt: HostRuntime) -> Result<(), Fa
     let opening = state(alloc, 0, None, Woke::First, 1)?;
     let yielded = state(alloc, 4, Some(MNo(0)), Woke::Done, 2)?;
     let mut book = opened(&rt, alloc)?;
+    stands(&rt, alloc, &book, &opening);
     let mut pass = Pass::of(RUN, MNo(0), 0, 0);
     let proc = book
         .acquire(&mut pass)
@@ -130,13 +136,11 @@ fn a_segment_begins_where_the_one_before_stops(rt: HostRuntime) -> Result<(), Fa
         .flatten()
         .expect(&rt, "a processor");
     yields(&rt, &mut book, &mut pass);
-    hands_out(&rt, alloc, &mut book, &opening, 4, None);
+    hands_out(&rt, alloc, &mut book, 4, None);
+    stands(&rt, alloc, &book, &yielded);
     exits(&rt, &mut book, &mut pass);
-    hands_out(&rt, alloc, &mut book, &yielded, 3, Some(Outcome::MainEnded));
-    assert!(rt;
-        matches!(book.segment(alloc), Err(Refusal::Over)),
-        "one more"
-    );
+    hands_out(&rt, alloc, &mut book, 3, Some(Outcome::MainEnded));
+    hands_out(&rt, alloc, &mut book, 0, Some(Outcome::MainEnded));
     pass.open();
     proc.open();
     Ok(())

@@ -14,6 +14,7 @@ fn opened(rt: &impl Abort, alloc: Global) -> Core<u32> {
         machines: 2,
         channels: 16,
         entries: 10000,
+        room: 10000,
     };
     let bodies = vec![in alloc; 70, 71, 72, 73].expect(rt, "memory");
     match Core::open(alloc, 1, limits, &[], bodies) {

@@ -15,6 +15,7 @@ const LIMITS: Limits = Limits {
     machines: 1,
     channels: 16,
     entries: 100,
+    room: 100,
 };
 
 const BODIES: [u32; 1] = [70];

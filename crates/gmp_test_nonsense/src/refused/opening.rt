@@ -16,6 +16,7 @@ const LIMITS: Limits = Limits {
     machines: 3,
     channels: 16,
     entries: 100,
+    room: 100,
 };
 
 const BODIES: [u32; 3] = [70, 71, 72];

@@ -104,7 +104,7 @@ fn wrong_in(mut report: Report<Boxed>) -> Option<&'static str> {
         Some("the bodies of a report")
     } else if audit(&report.history, &report.logs).is_err() {
         Some("the logs of a report")
-    } else if report.outcome != Outcome::MainEnded || makes != 1 {
+    } else if report.outcome != Some(Outcome::MainEnded) || makes != 1 {
         Some("the end of a run")
     } else if is_alone && (puts > 1 || exits != usize::from(BODIES)) {
         Some("a ticket whose push was refused")
@@ -140,6 +140,7 @@ pub(super) fn play_run<R: Threads + Wait + Sync>(
         machines,
         channels: 1,
         entries: 10_000,
+        room: 10_000,
     };
     let mut bodies: Vec<Boxed> = match Vec::with_capacity(alloc, usize::from(BODIES)) {
         Ok(bodies) => bodies,

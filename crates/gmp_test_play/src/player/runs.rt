@@ -100,8 +100,7 @@ impl Opening {
         let bodies = numbers(alloc, self.bodies)?;
         let owners = numbers(alloc, u16::from(self.limits.procs))?;
         let is_opened = report.limits == self.limits && report.capacities == self.capacities;
-        let is_said = report.history.len() == ended.entries
-            && Some(report.outcome) == ended.outcome;
+        let is_said = report.history.len() == ended.entries && report.outcome == ended.outcome;
         let has_all = report.bodies == bodies && report.owners == owners;
         if is_opened && is_said && has_all {
             Ok(())

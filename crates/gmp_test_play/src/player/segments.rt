@@ -3,7 +3,6 @@
 use super::{Desk, Player};
 use crate::error::PlayError;
 use crate::opening::end_line;
-use crate::words::number;
 use gmp_history::History;
 
 impl Player {
@@ -22,35 +21,20 @@ impl Player {
         Ok(())
     }
 
-    /// The book hands out a segment: the line says how many entries it has, and how the run stands. Or the book refuses with the number
-    /// behind the `!`, and nothing has changed.
-    pub(super) fn segment(
-        &mut self,
-        book: &mut Desk,
-        rest: &str,
-        line: &str,
-    ) -> Result<(), PlayError> {
+    /// The book hands out a segment: the line says how many entries it has, and how the run stands.
+    pub(super) fn segment(&mut self, book: &mut Desk, line: &str) -> Result<(), PlayError> {
         let entries = book.history().len();
-        match book.segment(self.alloc) {
-            Ok(segment) => {
-                self.keeps(&segment.entries)?;
-                let count = segment.entries.len();
-                let end = end_line(self.alloc, segment.end)?;
-                let said = format!(in self.alloc; "segment {count} {end}")?;
-                if count == entries && book.history().is_empty() && said.as_str() == line {
-                    Ok(())
-                } else {
-                    Err(PlayError::Says(said))
-                }
-            }
-            Err(why) => match rest.strip_prefix('!') {
-                Some(word) if number(word)? != u64::from(why.number()) => {
-                    Err(PlayError::Refused(why, why.number()))
-                }
-                Some(_) if book.history().len() == entries => Ok(()),
-                Some(_) => Err(PlayError::Changed),
-                None => Err(PlayError::Refused(why, why.number())),
-            },
+        // As much room as a book may have.
+        let mut segment = History::with_room(self.alloc, 1_000_000)?;
+        book.hand_out(&mut segment);
+        self.keeps(&segment)?;
+        let count = segment.len();
+        let end = end_line(self.alloc, book.outcome())?;
+        let said = format!(in self.alloc; "segment {count} {end}")?;
+        if count == entries && book.history().is_empty() && said.as_str() == line {
+            Ok(())
+        } else {
+            Err(PlayError::Says(said))
         }
     }
 }

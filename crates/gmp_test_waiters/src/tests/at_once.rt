@@ -156,12 +156,13 @@ fn run_both<R: Threads + Wait + Abort + Sync, G: Gate + Sync>(
         machines: 2,
         channels: 0,
         entries: 10_000,
+        room: 10_000,
     };
     let ran = run(rt, alloc, 0, limits, &[], bodies, &Stopped, gate, 0);
     let report = ran.ok().ok_or("not run")?;
     let audited = audit(&report.history, &report.logs);
     assert_eq!(rt; (report.started, audited), (2, Ok(())));
-    assert!(rt; report.outcome == Outcome::MainEnded);
+    assert!(rt; report.outcome == Some(Outcome::MainEnded));
     Ok(())
 }
 

@@ -91,6 +91,7 @@ const LIMITS: Limits = Limits {
     machines: 2,
     channels: 0,
     entries: 10_000,
+    room: 10_000,
 };
 
 /// Main, and the body whose flags are these.
@@ -108,7 +109,7 @@ fn bodies(alloc: Global, begun: &Flag, over: &Flag, saw_over: &Flag) -> Result<V
 
 /// Main ended by machine 1, whose four calls come behind the eight of machine 0, and all bodies are back.
 fn is_ended(rt: &impl Abort, report: &Report<Boxed>) {
-    assert!(rt; report.outcome == Outcome::MainEnded);
+    assert!(rt; report.outcome == Some(Outcome::MainEnded));
     let counts = (report.started, report.bodies.len(), report.history.len());
     assert_eq!(rt; counts, (2, 2, 12));
     for at in 0..12usize {

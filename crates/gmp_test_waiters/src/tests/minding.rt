@@ -239,6 +239,7 @@ pub(super) fn report_of<R: Threads + Wait + Sync, C: Clock + Sync, G: Gate + Syn
         machines,
         channels: 2,
         entries: 100_000,
+        room: 100_000,
     };
     let ran = run(rt, alloc, 0, limits, capacities, bodies, clock, gate, 0);
     Ok(ran.ok().ok_or("not run")?)
@@ -262,7 +263,7 @@ fn is_heard<R: Threads + Wait + Abort + Sync, C: Clock + Sync>(
     let report = report_of(rt, alloc, size, capacities, bodies, clock, &gate)?;
     let audited = audit(&report.history, &report.logs);
     assert_eq!(rt; (report.started, audited), (size.1, Ok(())), "{name}");
-    assert!(rt; report.outcome == Outcome::MainEnded, "{name}");
+    assert!(rt; report.outcome == Some(Outcome::MainEnded), "{name}");
     assert!(rt; !seen.late.load(Ordering::SeqCst), "{name}");
     Ok(())
 }

@@ -147,7 +147,7 @@ fn one_minds_for_all(rt: HostRuntime) -> Result<(), Fail> {
         }
         let quiet = nobody_works();
         let report = report_of(&rt, alloc, size, &[], bodies, &quiet, &quiet)?;
-        assert!(rt; report.outcome == Outcome::MainEnded, "{name}");
+        assert!(rt; report.outcome == Some(Outcome::MainEnded), "{name}");
         let count = report.history.len();
         assert!(rt; least <= count && count <= most, "{name}: {count}");
     }
@@ -231,7 +231,7 @@ fn a_stolen_ticket_is_counted_once(rt: HostRuntime) -> Result<(), Fail> {
         stolen_runs: AtomicBool::new(false),
     };
     let report = report_of(&rt, alloc, (2, 2), &[], bodies, &gate.quiet, &gate)?;
-    assert!(rt; report.outcome == Outcome::MainEnded);
+    assert!(rt; report.outcome == Some(Outcome::MainEnded));
     assert!(rt; gate.stolen_runs.load(Ordering::SeqCst));
     let count = report.history.len();
     assert!(rt; count < 60, "{count}");

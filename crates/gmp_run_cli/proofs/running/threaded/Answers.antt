@@ -16,7 +16,7 @@ module _ (g : Over) (c : goal.After-drop-script-2 g) where
 
 pub returns-clause-written : goal.returns-clause-written
 returns-clause-written g c =
-    wrote c.args.settings.now c.args.script.capacities.items _ _ c.told.result.said c.run-ran.result (counted g c) (search rules) (search rules) c.told.ensures.unrun
+    wrote c.args.settings.now c.args.script.capacities.items _ _ c.told.result.said c.run-ran.result (counted g c) (search rules) (search rules) c.told.ensures.unrun (search rules)
     c.told.result.status _ _ (search rules)
 
 pub returns-clause-limits : goal.returns-clause-limits

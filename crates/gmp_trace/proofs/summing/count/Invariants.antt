@@ -7,5 +7,5 @@ invariant-loop-entry l = record {
   machines : CountsMachines l.machines l.yielded;
   calls : CountsCalls l.calls l.yielded;
   all_machines : length l.machines ≡ 256;
-  all_calls : length l.calls ≡ 29;
+  all_calls : length l.calls ≡ 30;
 }

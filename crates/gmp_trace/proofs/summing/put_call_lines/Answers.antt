@@ -5,7 +5,7 @@ use Rattle.gmp_trace.proofs.summing.put_call_lines.Goals as goal
 
 pub loop-place-preserved : goal.loop-place-preserved
 loop-place-preserved c es h =
-    let lt : c.loop-place.place < 29 = omega arith in
+    let lt : c.loop-place.place < 30 = omega arith in
     let next = call_lines_next c.loop-place.place es c.loop-place.out.items lt in
     rw (c.in_ok-put_call_line.ensures, c.call_name.ensures, h c.loop-place.place lt) (sym next ∙ c.loop-place.invariant es h)
 

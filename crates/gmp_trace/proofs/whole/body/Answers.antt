@@ -6,7 +6,7 @@ use Rattle.std.proofs.lemmas.Bool.{false≢true}
 use Rattle.gmp_trace.proofs.Body.{Left, NoEntry, OnlyEntry, is_first, last_is_body, left_start, origin_first, turn_small, next_of_left, none_left, some_left, starts_none, starts_more, counts_start, counts_more, shorter}
 use Rattle.gmp_trace.proofs.whole.body.Goals as goal
 
-below_all : (n made turned many : ℕ) → n ≡ made + turned → made ≤ 1000000 → turned ≤ many → many < 2 ^ 63 → n < 2 ^ 64 - 1
+below_all : (n made turned many : ℕ) → n ≡ made + turned → made < 2 ^ 63 → turned ≤ many → many < 2 ^ 63 → n < 2 ^ 64 - 1
 below_all n made turned many is small turns few = omega (arith, is, small, turns, few)
 
 pub loop-rest-init : goal.loop-rest-init
@@ -132,7 +132,7 @@ overflow_add-counts g c =
     let m = c.answered_at.new.entry.m in
     let next = (c.is_next.ensures from c.loop-rest.entries.list is.machines inv.counts.1).0 c.if-not-is_next.false in
     let low : m.0 < 64 = omega (arith, next.1.0, is.machines, c.requires.machines) in
-    let small : slice_index c.args.first.now.made m.0 ≤ 1000000 = c.requires.made m.0 low in
+    let small : slice_index c.args.first.now.made m.0 < 2 ^ 63 = c.requires.made m.0 low in
     let turns = turn_small m c.loop-rest.entries.list in
     let few : length c.loop-rest.entries.list < 2 ^ 63 = omega (arith, c.len-read.ensures.value, c.len-read.ensures.few) in
     let at : get_or c.loop-rest.counts m.0 0 < 2 ^ 64 - 1 = below_all _ _ _ _ (inv.counts.1 m low) small turns few in

@@ -1,4 +1,4 @@
-use Rattle.std.proofs.Common.{◌≡◌, ◌≤◌, ℕ, refl, sym, ap, ◌∙◌, length, sum, List, [], slice_index, arith}
+use Rattle.std.proofs.Common.{◌≡◌, ◌≤◌, ◌<◌, ◌^◌, ℕ, refl, sym, ap, ◌∙◌, length, sum, List, [], slice_index, arith}
 use Rattle.std.proofs.lemmas.List.{length-map}
 use Rattle.gmp_seq.specs.declared.call.Limits.{Limits}
 use Rattle.gmp_seq.specs.Fits.{AreLimits}
@@ -9,8 +9,8 @@ use Rattle.gmp_trace.proofs.Body.{each_within}
 use Rattle.gmp_trace.proofs.StartBack.{forms_back}
 use Rattle.gmp_trace.proofs.whole.started.Goals as goal
 
-within : (most made : ℕ) (xs ys : List ℕ) (m : ℕ) → slice_index ys m ≡ slice_index xs m → sum xs ≤ most → slice_index ys m ≤ most
-within most made xs ys m same few = let one = each_within xs m in omega (arith, one, same, few)
+within : (most : ℕ) (xs ys : List ℕ) (m : ℕ) → slice_index ys m ≡ slice_index xs m → sum xs < most → slice_index ys m < most
+within most xs ys m same few = let one = each_within xs m in omega (arith, one, same, few)
 
 few_listed : (limits : Limits) (bodies : ℕ) (s : Start) → AreLimits limits bodies [] → IsStart limits bodies (state_of s) → length s.channels.items ≤ 1024
 few_listed limits bodies s range is =
@@ -38,13 +38,13 @@ returns-clause-first c =
     let most = c.requires.range.entries.1 in
     let listed = few_listed c.args.limits c.args.bodies start c.requires.range is.start in
     let same = length-map start.channels.items channel_of in
-    let counts : sum start.counts.items ≤ 1000000 = omega (arith, few, most) in
+    let counts : sum start.counts.items < 2 ^ 63 = omega (arith, few, most) in
     record {
       small = record {
         machines = omega (arith, c.requires.range.machines);
         number = omega (arith, few, most, c.made.ensures);
         lines = omega (arith, is.start.lines.stock, listed, c.requires.range.stock, c.begin_line.ensures, c.from-2.ensures);
-        made = λ m lt. within 1000000 0 start.counts.items c.made_by.result m (c.made_by.ensures m lt ∙ ap (λ (xs : List ℕ). slice_index xs m) c.deref.ensures.value) counts;
+        made = λ m lt. within (2 ^ 63) start.counts.items c.made_by.result m (c.made_by.ensures m lt ∙ ap (λ (xs : List ℕ). slice_index xs m) c.deref.ensures.value) counts;
       };
       machines = refl;
       number = sym c.made.ensures;

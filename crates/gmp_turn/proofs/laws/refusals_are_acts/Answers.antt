@@ -5,4 +5,4 @@ pub returns-clause-over : goal.returns-clause-over
 returns-clause-over g c = λ x x' book book' m asked word why own is fits run there may turned over. stopped x x' book book' m asked word why own is fits run there may turned over
 
 pub returns-clause-wanted : goal.returns-clause-wanted
-returns-clause-wanted g c = λ x x' book book' m asked word why own is fits run there granted turned goes. unmade x x' book book' m asked word why own is fits run there granted.may turned goes granted
+returns-clause-wanted g c = λ x x' book book' m asked word why own is fits run there granted turned goes on room. unmade x x' book book' m asked word why own is fits run there granted.may turned goes on room granted

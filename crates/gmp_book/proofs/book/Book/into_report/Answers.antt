@@ -1,9 +1,8 @@
-use Rattle.std.proofs.Common.{◌≡◌, ◌∙◌, All, List, Some, ap, length, rules, subst, sym}
+use Rattle.std.proofs.Common.{◌≡◌, ◌∙◌, All, Some, ap, length, rules, subst, sym}
 use Rattle.std.proofs.lemmas.List.{length-map}
 use Rattle.gmp_seq.specs.Fits.{AreLimits, Fits}
-use Rattle.gmp_seq.specs.declared.call.Entry.{Entry}
-use Rattle.gmp_seq.specs.Run.{IsLegal, Run}
 use Rattle.gmp_journal.specs.Log.{Log}
+use Rattle.gmp_journal.specs.Segments.{IsPart}
 use Rattle.gmp_book.proofs.book.Book.into_report.Goals as goal
 
 pub returns-clause-report : goal.returns-clause-report
@@ -15,14 +14,14 @@ returns-clause-report g c =
       capacities = search rules;
       history = search rules;
       outcome = search rules;
+      over = search rules;
       bodies = search rules;
       owners = search rules;
       stock = subst (λ (l : Log). length c.into_items.result.items ≡ l.bodies) same
           (sym (length-map c.into_items.result.items Some) ∙ (ap length c.into_items.ensures ∙ c.self.invariant.bodies_count));
-      legal = subst (λ (l : Log). Run l.limits l.start l.history l.state) same told.legal;
-      before = subst (λ (l : Log). (h : List Entry) × IsLegal l.limits l.bodies l.capacities h l.start) same told.before;
-      fits = subst (λ (l : Log). All Fits l.history) same told.fits;
-      within = subst (λ (l : Log). AreLimits l.limits l.bodies l.capacities) same told.within;
+      part = subst IsPart same told.part;
+      fits = subst (λ (l : Log). All Fits l.history) same told.part.fits;
+      within = subst (λ (l : Log). AreLimits l.limits l.bodies l.capacities) same told.part.within;
     }
 
 pub into_items-requires : goal.into_items-requires

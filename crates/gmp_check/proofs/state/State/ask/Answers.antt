@@ -13,6 +13,9 @@ use Rattle.gmp_check.proofs.state.State.ask.Goals as goal
 pub start-requires : goal.start-requires
 start-requires c = consistent_young c.args.self.now _ c.self.view_is c.requires.consistent c.in-Go.h
 
+pub spawn-requires : goal.spawn-requires
+spawn-requires c = consistent_young c.args.self.now _ c.self-in-Spawn.view_is c.requires.consistent
+
 pub give_way-requires : goal.give_way-requires
 give_way-requires c = consistent_young c.args.self.now _ c.self-in-Yield.view_is c.requires.consistent c.args.g
 

@@ -14,8 +14,8 @@ invariant_of-result c =
     let n = c.args.bodies in
     let all : c.loop.counter ≡ c.args.bodies = omega (arith, c.loop-test.false, c.loop.auto.counter-end) in
     let rows = c.loop.invariant.items ∙ ap (λ m. replicate m dormant) all in
-    subst (λ (due : DueContents). IsTimed c.loop.list.items n 0 0 due) (sym c.in_ok-deadlines.ensures)
-    (subst (λ (l : List Goroutine). IsTimed l n 0 0 (record { list = []; room = n })) (sym rows) (record {
+    subst (λ (due : DueContents). IsTimed c.loop.list.items n 0 0 due 0) (sym c.in_ok-deadlines.ensures)
+    (subst (λ (l : List Goroutine). IsTimed l n 0 0 (record { list = []; room = n }) 0) (sym rows) (record {
       counted = record {
         size = length-replicate n dormant;
         going_is = sym (dormant_none (λ (x : Goroutine). is_ready_or_running x.status) n refl);
@@ -25,4 +25,5 @@ invariant_of-result c =
       each = dormant_due n;
       room = omega arith;
       few = c.ranges.bodies.fits;
+      startable = λ i less. absurd (omega (arith, less));
     }))

@@ -4,6 +4,7 @@ use Rattle.std.proofs.lemmas.List.Sums.{count_by-le-length}
 use Rattle.std.proofs.lemmas.Option.{slice_get_read}
 use Rattle.gmp_seq.specs.declared.status.Goroutine.{Goroutine}
 use Rattle.gmp_table.specs.Contents.{has_deadline}
+use Rattle.gmp_table.proofs.Startable.{below_set}
 use Rattle.gmp_table.proofs.Timed.{new_differs, due_set, timed_set}
 use Rattle.gmp_table.proofs.rows.Rows.set.Goals as goal
 
@@ -45,4 +46,5 @@ invariant_of-self c =
       each = due_set rows c.args.g c.index.result.now c.args.row at _ _ c.self.invariant.each left _ put;
       room = omega (arith, c.self.invariant.room, c.withdraw.ensures.room, c.add.ensures.room);
       few = c.self.invariant.few;
+      startable = below_set rows c.args.g.0 c.args.row _ _ within c.self.invariant.startable c.lowered-self-inside.ensures.below c.lowered-self-inside.ensures.at;
     }

@@ -1,0 +1,36 @@
+use Rattle.std.proofs.Common.{◌≡◌, ◌<◌, ◌^◌, ℕ, List, IfOk, length, ap, refl, rules, subst, sym, tests, ◌∙◌}
+use Rattle.gmp_seq.specs.declared.call.Limits.{Limits}
+use Rattle.gmp_run.specs.Counts.{all_calls}
+use Rattle.gmp_run.specs.Reports.{IsPiecesReport}
+use Rattle.gmp_worker.specs.declared.auditing.PassLog.{PassLog}
+use Rattle.gmp_host.specs.declared.ending.Ended.{Ended}
+use Rattle.gmp_host.specs.Ends.{IsOfPieces}
+use Rattle.gmp_host.proofs.Pieces.{few_calls, in_pieces}
+use Rattle.gmp_host.proofs.host.Host.run_into.Goals as goal
+
+pub made-requires : goal.made-requires
+made-requires g c =
+    let takes = g.S.Sink.takes in
+    let mid = c.run_into-ran.result.1 in
+    let bodies = length c.args.self.bodies.items in
+    let ran : IsPiecesReport takes c.limits.result c.as_slice.result.now bodies c.args.sink c.in-Ok.report mid =
+    subst (λ ran. IfOk ran (λ r. IsPiecesReport takes c.limits.result c.as_slice.result.now bodies c.args.sink r mid)) c.in-Ok.is c.run_into-ran.ensures.report in
+    record {
+      few = subst (λ (logs : List PassLog). all_calls logs < 2 ^ 64) (sym c.deref.ensures.value) (few_calls takes c.limits.result c.as_slice.result.now bodies c.args.sink c.in-Ok.report mid ran);
+    }
+
+-- the last piece is the sink's too
+pub returns-clause-ended : goal.returns-clause-ended
+returns-clause-ended g c =
+    let takes = g.S.Sink.takes in
+    let mid = c.run_into-ran.result.1 in
+    let sink = c.take.new.self in
+    let bodies = length c.args.self.bodies.items in
+    let ran : IsPiecesReport takes c.limits.result c.as_slice.result.now bodies c.args.sink c.in-Ok.report mid =
+    subst (λ ran. IfOk ran (λ r. IsPiecesReport takes c.limits.result c.as_slice.result.now bodies c.args.sink r mid)) c.in-Ok.is c.run_into-ran.ensures.report in
+    let made : c.made.result ≡ all_calls c.in-Ok.report.logs.items = c.made.ensures ∙ ap all_calls c.deref.ensures.value in
+    let took : takes mid c.in-Ok.report.history.list sink = search (rules, tests) in
+    let ended : Ended = record { outcome = c.in-Some.outcome; entries = c.made.result; lost = c.first.result } in
+    let all = in_pieces takes c.limits.result c.as_slice.result.now bodies c.args.sink c.in-Ok.report mid ran sink ended took (sym c.in-Some.is) made in
+    subst (λ (limits : Limits). IsOfPieces takes limits c.args.self.capacities.items bodies c.args.sink ended sink) c.limits.ensures
+    (subst (λ (capacities : List ℕ). IsOfPieces takes c.limits.result capacities bodies c.args.sink ended sink) c.as_slice.ensures.value all)

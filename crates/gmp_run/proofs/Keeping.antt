@@ -1,0 +1,55 @@
+-- A desk is kept by each turn of a machine at the book.
+use Rattle.std.proofs.Common.{◌≡◌, ℕ, List, Option, None, Some, Result, Ok, Err, refl, ap, ◌∙◌}
+use Rattle.gmp_base.specs.declared.number.MNo.{MNo}
+use Rattle.gmp_base.specs.declared.refusal.Refusal.{Refusal}
+use Rattle.gmp_history.specs.Brief.{HistoryContents}
+use Rattle.gmp_seq.specs.declared.call.Call.{Call}
+use Rattle.gmp_seq.specs.declared.call.Entry.{Entry}
+use Rattle.gmp_seq.specs.declared.call.Reply.{Reply}
+use Rattle.gmp_book.specs.Book.{BookContents}
+use Rattle.gmp_driver.specs.declared.act.Act.{Act}
+use Rattle.gmp_driver.specs.declared.act.Act.TheVariants as act
+use Rattle.gmp_driver.specs.declared.act.Value.{Value}
+use Rattle.gmp_driver.specs.Machine.{Machine}
+use Rattle.gmp_journal.specs.Log.{entries_made}
+use Rattle.gmp_journal.specs.Refusals.{Says}
+use Rattle.gmp_turn.specs.Surrenders.{Surrenders, surrendered}
+use Rattle.gmp_turn.proofs.Ending.{log_after}
+use Rattle.gmp_turn.specs.Turns.{Turns}
+use Rattle.gmp_worker.specs.Turn.{TakesTurn}
+use Rattle.rand_pcg.specs.Lcg.{Lcg}
+use Rattle.gmp_run.specs.Desks.{IsDesk}
+use Rattle.gmp_run.proofs.Desks.{recorded, unchanged}
+
+-- no line refuses what was answered
+allowed : (wants : Type 0) (lines : Option Refusal) → Says wants lines None → lines ≡ None
+allowed wants None says = refl
+allowed wants (Some why) says = absurd cc
+
+module _ {T Q S : Type 0} (run : ℕ) (first : S → Type 0) (takes : S → List Entry → S → Type 0) (total total' : ℕ) (sink : S) (spare : HistoryContents) where
+  turned : (x : Machine T Q) (book : BookContents T Q) (asked : Call) (word : ℕ) (result : Result Reply Refusal) (x' : Machine T Q) (book' : BookContents T Q)
+      → Turns x book asked word result x' book' → IsDesk run first takes book.log total sink spare → entries_made book'.log ≡ total' → IsDesk run first takes book'.log total' sink spare
+  turned x book asked word (Ok answer) x' book' t desk counted =
+      recorded run first takes book.log book'.log total total' sink spare desk t.before t.behind asked answer _ (allowed _ _ t.refused) t.records counted
+  turned x book asked word (Err why) x' book' t desk counted =
+      unchanged run first takes book.log book'.log total total' sink spare desk (ap (λ (b : BookContents T Q). b.log) t.err.0) counted
+
+  surrendered_at : (x : Machine T Q) (book : BookContents T Q) (which : Option Value) (result : Result Unit Refusal) (x' : Machine T Q) (book' : BookContents T Q)
+      → Surrenders x book which result x' book' → IsDesk run first takes book.log total sink spare → entries_made book'.log ≡ total' → IsDesk run first takes book'.log total' sink spare
+  surrendered_at x book which result x' book' t desk counted =
+      unchanged run first takes book.log book'.log total total' sink spare desk
+      (ap (λ (b : BookContents T Q). b.log) t.places ∙ log_after which result (surrendered x t.before which) book) counted
+
+  pub kept : (a : Act) (x : Machine T Q) (book : BookContents T Q) (g : Lcg) (woken : Option MNo) (x' : Machine T Q) (book' : BookContents T Q) (g' : Lcg)
+      → TakesTurn a x book g woken x' book' g' → IsDesk run first takes book.log total sink spare → entries_made book'.log ≡ total' → IsDesk run first takes book'.log total' sink spare
+  kept (act.Call asked) x book g woken x' book' g' t desk counted = turned x book asked _ t.0 x' book' t.1 desk counted
+  kept (act.Surrender which) x book g woken x' book' g' t desk counted = surrendered_at x book which t.0 x' book' t.1 desk counted
+  kept act.Pop x book g woken x' book' g' t desk counted = absurd t
+  kept act.Drain x book g woken x' book' g' t desk counted = absurd t
+  kept act.Push x book g woken x' book' g' t desk counted = absurd t
+  kept act.Hunt x book g woken x' book' g' t desk counted = absurd t
+  kept (act.Steal v) x book g woken x' book' g' t desk counted = absurd t
+  kept act.Resume x book g woken x' book' g' t desk counted = absurd t
+  kept act.Block x book g woken x' book' g' t desk counted = absurd t
+  kept (act.Clock minded) x book g woken x' book' g' t desk counted = absurd t
+  kept act.Nothing x book g woken x' book' g' t desk counted = absurd t

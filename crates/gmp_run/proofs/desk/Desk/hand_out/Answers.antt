@@ -1,0 +1,34 @@
+use Rattle.std.proofs.Common.{◌≡◌, ◌<◌, ◌∙◌, true, false, List, length, ap, arith, rules, subst, tests}
+use Rattle.gmp_history.specs.Brief.{HistoryContents}
+use Rattle.gmp_seq.specs.declared.call.Entry.{Entry}
+use Rattle.gmp_journal.specs.Log.{Log, entries_made, is_over}
+use Rattle.gmp_run.proofs.Desks.{handed_out, not_over, stopped_by}
+use Rattle.gmp_run.proofs.desk.Desk.hand_out.Goals as goal
+
+-- the sink took the entries
+pub invariant_of-self : goal.invariant_of-self
+invariant_of-self g c =
+    let old = c.self.inside in
+    let log = old.book.log in
+    let out = c.hand_out.ensures in
+    let took = c.in-Ok.ensures in
+    let full : length log.history ≡ log.limits.room = search (rules, tests) in
+    let goes : entries_made log < log.limits.entries = search (rules, tests) in
+    let lasts : is_over log ≡ false = search (rules, tests) in
+    handed_out g.L.RunLedger.run g.L.SinkLedger.first g.S.Sink.takes log old.tally.total old.sink old.spare c.self.invariant c.hand_out.new.self.log c.take.new.self c.take.new.history out.rest
+    (subst (λ (h : List Entry). g.S.Sink.takes old.sink h c.take.new.self) out.out took.takes) full goes (not_over log lasts) took.empty
+    (let lasts = out.lasting in let room = took.room in omega (arith, lasts, room)) (let lasts = out.lasting in let lasting = took.lasting in omega (arith, lasts, lasting))
+
+-- it left them, and the run was stopped
+pub invariant_of-self-in-Err : goal.invariant_of-self-in-Err
+invariant_of-self-in-Err g c =
+    let old = c.self.inside in
+    let log = old.book.log in
+    let out = c.hand_out.ensures in
+    let left = c.in-Err.ensures in
+    let full : length log.history ≡ log.limits.room = search (rules, tests) in
+    let goes : entries_made log < log.limits.entries = search (rules, tests) in
+    let lasts : is_over log ≡ false = search (rules, tests) in
+    stopped_by g.L.RunLedger.run g.L.SinkLedger.first g.S.Sink.takes log old.tally.total old.sink old.spare c.self.invariant c.stop.new.self.log c.take.new.self c.take.new.history
+    (c.stop.ensures.log ∙ ap (λ (l : Log). record l { stopped = true }) out.rest) left.stops full goes (not_over log lasts)
+    (ap (λ (h : HistoryContents). h.list) left.kept ∙ out.out) c.history.ensures.part.part.fits

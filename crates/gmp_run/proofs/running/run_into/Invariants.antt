@@ -1,0 +1,12 @@
+use Rattle.std.proofs.Common.{◌≡◌}
+use Rattle.gmp_run.proofs.running.run_into.Given as goal
+
+abbrev pub ghosts-run_as-L-RunLedger : goal.ghosts-run_as-L-RunLedger
+ghosts-run_as-L-RunLedger g a = record { run = a.run }
+
+abbrev pub ghosts-run_as-L-Ledger : goal.ghosts-run_as-L-Ledger
+ghosts-run_as-L-Ledger g a = record { name = a.blank.name; parts = a.blank.parts }
+
+-- the sink before the run
+abbrev pub ghosts-run_as-L-SinkLedger : goal.ghosts-run_as-L-SinkLedger
+ghosts-run_as-L-SinkLedger g a = record { first = λ s. s ≡ a.sink }

@@ -1,0 +1,55 @@
+-- What lies under the lock, and the pieces of a history that a sink took.
+use Rattle.std.specs.Prelude.{◌≡◌, ◌≤◌, ℕ, true, false, All, List, [], ◌∷◌, ◌++◌}
+use Rattle.std.specs.List.{flat_map}
+use Rattle.gmp_history.specs.Brief.{HistoryContents}
+use Rattle.gmp_seq.specs.declared.call.Entry.{Entry}
+use Rattle.gmp_seq.specs.Fits.{Fits}
+use Rattle.gmp_seq.specs.Run.{IsLegal}
+use Rattle.gmp_book.specs.Book.{BookContents}
+use Rattle.gmp_journal.specs.Log.{Log, entries_made}
+
+-- the sink took these pieces, one after another
+abbrev pub TakesAll : {S : Type 0} → (S → List Entry → S → Type 0) → S → List (List Entry) → S → Type 0
+TakesAll takes a [] b = b ≡ a
+TakesAll takes a (piece ∷ pieces) b = (mid : _) × takes a piece mid × TakesAll takes mid pieces b
+
+-- their entries, in order
+abbrev pub joined : List (List Entry) → List Entry
+joined pieces = flat_map (λ (piece : List Entry). piece) pieces
+
+-- the book, how many calls all machines made, and the sink
+pub record DeskContents (T Q S : Type 0) : Type 0 where
+  pub book : BookContents T Q
+  pub total : ℕ
+  pub sink : S
+
+-- the book once its history was handed out
+abbrev pub with_none_left : {T Q : Type 0} → BookContents T Q → BookContents T Q
+with_none_left book = record book { log = record book.log { history = [] } }
+
+-- the same, and the run was stopped
+abbrev pub stopped_book : {T Q : Type 0} → BookContents T Q → BookContents T Q
+stopped_book book = record book { log = record book.log { history = []; stopped = true } }
+
+-- the sink took nothing, and the run was stopped
+abbrev pub Stops : {T Q S : Type 0} → (S → List Entry → S → Type 0) → DeskContents T Q S → DeskContents T Q S → Type 0
+Stops takes old new = (new.book ≡ stopped_book old.book) × takes old.sink [] new.sink
+
+-- All entries, those that the sink took since the run began and those that are left, are a legal run to the present state, and as many as the
+-- machines made calls. Where the sink stopped the run, what it didn't take is in the spare, and no entry follows. A run that has as much room
+-- as entries hands none out.
+pub record IsDesk {S : Type 0} (run : ℕ) (first : S → Type 0) (takes : S → List Entry → S → Type 0) (log : Log) (total : ℕ) (sink : S) (spare : HistoryContents) : Type 0 where
+  pub run_is : log.run ≡ run
+  pub counted : entries_made log ≡ total
+  pub began : S
+  pub is_first : first began
+  pub pieces : List (List Entry)
+  pub taken : TakesAll takes began pieces sink
+  pub legal : IsLegal log.limits log.bodies log.capacities (joined pieces ++ (spare.list ++ log.history)) log.state
+  pub whole : log.limits.room ≡ log.limits.entries → pieces ≡ []
+  pub lasts : log.limits.room ≡ log.limits.entries → log.stopped ≡ false
+  pub none_left : log.stopped ≡ true → log.history ≡ []
+  pub empty : log.stopped ≡ false → spare.list ≡ []
+  pub room : log.stopped ≡ false → log.limits.room ≤ spare.room
+  pub lasting : log.stopped ≡ false → log.limits.room ≤ spare.lasting
+  pub fits : All Fits spare.list
