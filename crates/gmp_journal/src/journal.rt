@@ -1,6 +1,6 @@
 //! The run so far, and the call that goes on with it.
 //! One function makes all calls (`Journal::call`): refusal, effect, count and entry are stated and proved once, and not 29 times.
-ghost use Rattle.std.specs.Prelude.{◌≡◌, ◌↔◌, ◌<◌, ◌≤◌, [], None, true, false, length, slice_get, IfNone, IfOk, IsTrue, OnErr, OnOk};
+ghost use Rattle.std.specs.Prelude.{◌≡◌, ◌↔◌, ◌<◌, ◌≤◌, [], None, Some, true, false, length, slice_get, IfNone, IfOk, IsTrue, OnErr, OnOk};
 ghost use Rattle.gmp_seq.specs.Fits.{AreLimits};
 ghost use Rattle.gmp_seq.specs.Machines.{is_parked_mode};
 ghost use Rattle.gmp_seq.specs.Table.{is_outstanding, is_shelved};
@@ -167,13 +167,24 @@ impl Journal {
         if let Some(why) = self.turn_refusal(pass, values) {
             return Some(why);
         }
-        if let Some(why) = self.scheduler.need_refusal(pass.m, call, values) {
-            return Some(why);
-        }
         if self.is_full() {
-            return Some(Refusal::Full);
+            return Some(self.refusal_when_full(pass, call, values));
         }
-        None
+        self.scheduler.need_refusal(pass.m, call, values)
+    }
+
+    /// The same, where there is no room for another entry: what the state forbids comes first.
+    // Not inlined: it comes once for as many calls as there is room for.
+    #[inline(never)]
+    fn refusal_when_full(&self, pass: &Pass, call: &Call, values: &Handed) -> Refusal
+        requires turn { first_refusal (turn_lines self.now pass.now values.now) ≡ None }
+        requires full { length self.now.history ≡ self.now.limits.room }
+        ensures { refusal_of self.now pass.now call.now values.now ≡ Some result }
+    {
+        match self.scheduler.need_refusal(pass.m, call, values) {
+            Some(why) => why,
+            None => Refusal::Full,
+        }
     }
 
     /// Why the pass or the values' runs forbid the call, if they do: is the pass the machine's latest, of this run, and does the run last?
@@ -237,9 +248,9 @@ impl Journal {
         let (m, k) = (pass.m, pass.calls);
         let (g, p) = (values.goroutine(), values.processor());
         self.scheduler
-            .effect(memory, self.limits, m, g, p, call, word, frequent, out)?;
+            .effect(memory, &self.limits, m, g, p, call, word, frequent, out)?;
         // The count comes after the effect and before the entry: the entry has the count before (`k`), the pass the one after.
-        self.scheduler.count_one(self.limits, m, *out);
+        self.scheduler.count_one(&self.limits, m, *out);
         self.entries.add(m, k, call, out, frequent);
         pass.advance(self.scheduler.counts.all());
         Ok(())

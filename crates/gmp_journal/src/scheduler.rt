@@ -87,7 +87,7 @@ impl Scheduler {
     pub(crate) fn effect(
         &mut self,
         memory: Option<Global>,
-        limits: Limits,
+        limits: &Limits,
         m: MNo,
         g: GNo,
         p: PNo,
@@ -101,14 +101,14 @@ impl Scheduler {
         requires grants { Grants m g p call.now (scheduler_state self.old) }
         requires young { IsYoung (scheduler_state self.old) }
         requires there { m.0 < self.old.goroutines.machines }
-        requires limit { self.old.goroutines.limit ≡ limits.channels }
+        requires limit { self.old.goroutines.limit ≡ limits.now.channels }
         // It doesn't matter how the entry is counted, nor how the run stands afterwards.
-        ensures effect { OnOk result ((counts : List ℕ) (outcome : Option Outcome) → Effect limits m call.now out.new (scheduler_state self.old) (record (scheduler_state self.new) { counts = counts; outcome = outcome })) }
+        ensures effect { OnOk result ((counts : List ℕ) (outcome : Option Outcome) → Effect limits.now m call.now out.new (scheduler_state self.old) (record (scheduler_state self.new) { counts = counts; outcome = outcome })) }
         ensures shelf { OnOk result (Shelves call.now out.new self.old.goroutines.table self.new.goroutines.table self.old.goroutines.shelf self.new.goroutines.shelf) }
         ensures choice { OnOk result (Chooses call.now word out.new (scheduler_state self.old) self.old.goroutines.shelf) }
         ensures rest { KeepsCounts self.old self.new }
         ensures err { OnErr result (self.new ≡ self.old) }
-        ensures wanted { OnErr result (WantsMemory limits call.now (scheduler_state self.old)) }
+        ensures wanted { OnErr result (WantsMemory limits.now call.now (scheduler_state self.old)) }
     {
         match call {
             Call::Take => self.goroutines.take(out),
@@ -138,7 +138,7 @@ impl Scheduler {
     fn other_effect(
         &mut self,
         memory: Option<Global>,
-        limits: Limits,
+        limits: &Limits,
         m: MNo,
         g: GNo,
         p: PNo,
@@ -150,14 +150,14 @@ impl Scheduler {
         requires grants { Grants m g p call.now (scheduler_state self.old) }
         requires young { IsYoung (scheduler_state self.old) }
         requires there { m.0 < self.old.goroutines.machines }
-        requires limit { self.old.goroutines.limit ≡ limits.channels }
+        requires limit { self.old.goroutines.limit ≡ limits.now.channels }
         // It doesn't matter how the entry is counted, nor how the run stands afterwards.
-        ensures effect { IfOk result (λ reply. (counts : List ℕ) (outcome : Option Outcome) → Effect limits m call.now reply (scheduler_state self.old) (record (scheduler_state self.new) { counts = counts; outcome = outcome })) }
+        ensures effect { IfOk result (λ reply. (counts : List ℕ) (outcome : Option Outcome) → Effect limits.now m call.now reply (scheduler_state self.old) (record (scheduler_state self.new) { counts = counts; outcome = outcome })) }
         ensures shelf { IfOk result (λ reply. Shelves call.now reply self.old.goroutines.table self.new.goroutines.table self.old.goroutines.shelf self.new.goroutines.shelf) }
         ensures choice { IfOk result (λ reply. Chooses call.now word reply (scheduler_state self.old) self.old.goroutines.shelf) }
         ensures rest { KeepsCounts self.old self.new }
         ensures err { OnErr result (self.new ≡ self.old) }
-        ensures wanted { OnErr result (WantsMemory limits call.now (scheduler_state self.old)) }
+        ensures wanted { OnErr result (WantsMemory limits.now call.now (scheduler_state self.old)) }
     {
         Ok(match call {
             Call::Acquire => match self.machines.acquire(m) {
@@ -302,10 +302,10 @@ impl Scheduler {
     /// m made one entry more, which was answered so; with it the run may come to its outcome. A full book is the last to be asked: the
     /// entry that fills it may end the run by itself.
     #[inline(always)]
-    pub(crate) fn count_one(&mut self, limits: Limits, m: MNo, reply: Reply)
+    pub(crate) fn count_one(&mut self, limits: &Limits, m: MNo, reply: Reply)
         requires there { m.0 < length self.old.counts }
         requires few { sum self.old.counts < 2 ^ 63 }
-        ensures counted { scheduler_state self.new ≡ counted_one limits m reply (scheduler_state self.old) }
+        ensures counted { scheduler_state self.new ≡ counted_one limits.now m reply (scheduler_state self.old) }
         ensures rest { self.new ≡ record self.old { counts = self.new.counts; outcome = self.new.outcome } }
         ensures made { sum self.new.counts ≡ sum self.old.counts + 1 }
     {
