@@ -20,13 +20,13 @@ use Rattle.gmp_core.specs.Whole.{wanted_by}
 use Rattle.gmp_script.specs.Script.{Commands}
 use Rattle.gmp_scene.specs.Reached.{IsRunOf}
 use Rattle.gmp_cli.specs.Plays.{IsDealt, IsPlayed, Plays, Stage, opening_stage}
-use Rattle.gmp_scripted.specs.Played.{MakesAll}
-use Rattle.gmp_scripted.specs.Refused.{IsRunButMakes, RunsTurns}
-use Rattle.gmp_scripted.specs.Scheduled.{ActsBy, IsUnmade, LeadsStock, NoneUnmade}
-use Rattle.gmp_scripted.proofs.Follows.{Follows, act_follows, kept}
-use Rattle.gmp_scripted.proofs.Places.{asked_at}
-use Rattle.gmp_scripted.proofs.Ties.{IsAsking, ties_opening}
-use Rattle.gmp_scripted.proofs.Turns.{script_of}
+use Rattle.gmp_step_laws.specs.Played.{MakesAll}
+use Rattle.gmp_step_laws.specs.Refused.{IsRunButMakes, RunsTurns}
+use Rattle.gmp_step_laws.specs.Scheduled.{ActsBy, IsUnmade, LeadsStock, NoneUnmade}
+use Rattle.gmp_step_laws.proofs.Follows.{Follows, act_follows, kept}
+use Rattle.gmp_step_laws.proofs.Places.{asked_at}
+use Rattle.gmp_step_laws.proofs.Ties.{IsAsking, ties_opening}
+use Rattle.gmp_step_laws.proofs.Turns.{script_of}
 
 -- At the opening
 

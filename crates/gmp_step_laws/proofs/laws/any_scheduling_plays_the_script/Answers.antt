@@ -1,5 +1,5 @@
-use Rattle.gmp_scripted.proofs.Whole.{scheduled_any, scheduled_whole}
-use Rattle.gmp_scripted.proofs.laws.any_scheduling_plays_the_script.Goals as goal
+use Rattle.gmp_step_laws.proofs.Whole.{scheduled_any, scheduled_whole}
+use Rattle.gmp_step_laws.proofs.laws.any_scheduling_plays_the_script.Goals as goal
 
 pub returns-clause-whole : goal.returns-clause-whole
 returns-clause-whole c = scheduled_whole

@@ -1,7 +1,7 @@
 -- Runs of `step` in which memory is refused for no make.
 use Rattle.std.specs.Prelude.{ℕ, zero, suc}
 use Rattle.gmp_cli.specs.Plays.{Plays, Stage}
-use Rattle.gmp_scripted.specs.Scheduled.{IsUnmade}
+use Rattle.gmp_step_laws.specs.Scheduled.{IsUnmade}
 
 -- memory is refused for no make of these acts
 abbrev pub MakesAll : (word n : ℕ) (s s' : Stage) → Plays word n s s' → Type 0

@@ -48,11 +48,11 @@ use Rattle.gmp_acts.specs.System.{BookRun, System, count_of, held_number, machin
 use Rattle.gmp_core.specs.Whole.{goroutine_at, wanted_by}
 use Rattle.gmp_script.specs.Script.{AsksNext, Commands}
 use Rattle.gmp_scene.specs.Scripted.{LeadsBodies}
-use Rattle.gmp_scripted.specs.Refused.{PassesMake, RunsTurns, entries_of}
-use Rattle.gmp_scripted.specs.Scheduled.{IsUnmade, LeadsStock, TakesAsk}
-use Rattle.gmp_scripted.proofs.Places.{IsNoAsk, TellsPlace, answered, asked_at, make_is, no_make, stays, tells_place}
-use Rattle.gmp_scripted.proofs.Ties.{IsAhead, IsAsking, Ties, ties_asks, ties_calls, ties_quiet}
-use Rattle.gmp_scripted.proofs.Turns.{enters, entries_join, leads_asked, leads_other, passes}
+use Rattle.gmp_step_laws.specs.Refused.{PassesMake, RunsTurns, entries_of}
+use Rattle.gmp_step_laws.specs.Scheduled.{IsUnmade, LeadsStock, TakesAsk}
+use Rattle.gmp_step_laws.proofs.Places.{IsNoAsk, TellsPlace, answered, asked_at, make_is, no_make, stays, tells_place}
+use Rattle.gmp_step_laws.proofs.Ties.{IsAhead, IsAsking, Ties, ties_asks, ties_calls, ties_quiet}
+use Rattle.gmp_step_laws.proofs.Turns.{enters, entries_join, leads_asked, leads_other, passes}
 
 -- The history is that of turns by the script's bodies, and the bodies that the acts leave are tied to those that it leaves while the run
 -- lasts. Under P no make was refused.

@@ -11,9 +11,9 @@ ghost use Rattle.gmp_acts.specs.Headline.{opening_system};
 ghost use Rattle.gmp_acts.specs.System.{System};
 ghost use Rattle.gmp_scene.specs.Reached.{IsRunOf};
 ghost use Rattle.gmp_cli.specs.Plays.{IsPlayed, Stage, opening_stage};
-ghost use Rattle.gmp_scripted.specs.Played.{MakesAll};
-ghost use Rattle.gmp_scripted.specs.Refused.{HasNoMake, IsRunButMakes};
-ghost use Rattle.gmp_scripted.specs.Scheduled.{ActsBy, NoneUnmade};
+ghost use Rattle.gmp_step_laws.specs.Played.{MakesAll};
+ghost use Rattle.gmp_step_laws.specs.Refused.{HasNoMake, IsRunButMakes};
+ghost use Rattle.gmp_step_laws.specs.Scheduled.{ActsBy, NoneUnmade};
 
 /// What `step` plays of a script is a run of the scheduler by the script's bodies, where memory was refused for no make of it. Of any other
 /// the same holds, but that the bodies pass over the makes that were refused.

@@ -17,7 +17,7 @@ use Rattle.gmp_seq.specs.State.{State, opening}
 use Rattle.gmp_seq.specs.Table.{Table}
 use Rattle.gmp_scene.specs.Reached.{IsRunOf}
 use Rattle.gmp_scene.specs.Scripted.{AsksFor, LeadsBodies, RunsScript}
-use Rattle.gmp_scripted.specs.Refused.{HasNoMake, IsRunButMakes, RunsTurns, entries_of}
+use Rattle.gmp_step_laws.specs.Refused.{HasNoMake, IsRunButMakes, RunsTurns, entries_of}
 
 -- no body has a make
 abbrev AreMakeless : List Commands → Type 0

@@ -12,7 +12,7 @@ use Rattle.gmp_seq.specs.Run.{IsStep}
 use Rattle.gmp_seq.specs.State.{State}
 use Rattle.gmp_seq.specs.Table.{Table}
 use Rattle.gmp_scene.specs.Scripted.{AsksFor, LeadsBodies, RunsScript, is_asked}
-use Rattle.gmp_scripted.specs.Refused.{PassesMake, RunsTurns, entries_of}
+use Rattle.gmp_step_laws.specs.Refused.{PassesMake, RunsTurns, entries_of}
 
 module _ (limits : Limits) where
   turns_join : (a b c : State) (x y z : List Commands) (t u : List (Option Entry)) → RunsTurns limits a x t b y → RunsTurns limits b y u c z → RunsTurns limits a x (t ++ u) c z
