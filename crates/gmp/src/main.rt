@@ -1,9 +1,9 @@
 //! The program `gmp`: runs scripts of goroutines, in one thread (`step`) or in several (`run`), and prints what was done; and checks what
-//! was printed (`check`), cuts it (`cut`), says what it tells (`explain`) and draws it (`draw`). Of a script it also says what can go wrong
+//! was printed (`check`), in parts too (`join`), cuts it (`cut`), says what it tells (`explain`) and draws it (`draw`). Of a script it also says what can go wrong
 //! in any run (`explore`).
 //!
 //! It hands the commands what the host has: standard input and output, the memory, the threads and the clock. What each command promises
-//! stands in its crate (gmp_cli, gmp_run_cli, gmp_check_cli, gmp_explain, gmp_draw, gmp_explore_cli), what the command line may say in
+//! stands in its crate (gmp_cli, gmp_run_cli, gmp_check_cli, gmp_join_cli, gmp_explain, gmp_draw, gmp_explore_cli), what the command line may say in
 //! gmp_words.
 //!
 //! Each way out is an `Ended`: a status, and a text that goes to standard error, or to standard output where the status is 0. Nothing is
@@ -20,6 +20,7 @@ use gmp_draw::draw;
 use gmp_explain::explain;
 use gmp_explore_cli::explore;
 use gmp_host::Since;
+use gmp_join_cli::join;
 use gmp_run_cli::run;
 use gmp_words::{Ended, Settings, Task, arguments, settings};
 use std::io::{self, IsTerminal};
@@ -77,6 +78,12 @@ fn main(rt: HostRuntime) -> ExitCode {
                 &Since::now(&rt),
             ),
             Task::Check => check(
+                alloc,
+                &mut rt.reader(),
+                &mut io::writer(&rt),
+                &mut Line::on(&rt, rt.stderr().is_terminal()),
+            ),
+            Task::Join => join(
                 alloc,
                 &mut rt.reader(),
                 &mut io::writer(&rt),

@@ -1,16 +1,15 @@
-//! A server: each request is served by a goroutine of its own, which is started for it and ends with it. There are 64 such goroutines, whose
-//! numbers are used again and again. The run is longer than its history: 10,000 entries are kept at a time, and the plain scheduler takes
+//! A server: each request is handed over to a goroutine of its own, which is started for it and ends with it, and leaves its answer. There
+//! are 64 such goroutines, whose numbers are used again and again. The run is longer than its history: 10,000 entries are kept at a time, and the plain scheduler takes
 //! each piece as it comes, and finds each entry to be a step that goes on from those before.
 //!
 //! Its argument says how many requests there are.
 #![tactic(auto)]
 
 mod front;
-mod handler;
 mod judge;
+mod request;
 
-use crate::front::{AT_ONCE, Front};
-use crate::handler::Handler;
+use crate::front::{AT_ONCE, Front, Shared};
 use crate::judge::Judge;
 use anyhow::{Context, Result};
 use gmp_host::{Host, Settings};
@@ -34,17 +33,24 @@ fn main(rt: HostRuntime) -> Result<ExitCode> {
     let count: u64 = word.as_str().parse()?;
     let settings = settings();
     let mut host = Host::new(alloc, settings)?;
-    let (requests, answers) = (host.channel(u32::from(AT_ONCE))?, host.channel(0)?);
+    let told = host.channel(0)?;
     let (sum, late) = (host.note()?, host.note()?);
-    let front = host.boxed(Front::new(requests, answers, count, sum.share()?))?;
+    let answers = host.outputs(u32::from(AT_ONCE), told)?;
+    let spawner = host.spawner(u32::from(AT_ONCE))?;
+    let shared = Shared {
+        spawner: spawner.share()?,
+        answers: answers.share()?,
+        time: host.time()?,
+        sum: sum.share()?,
+        late: late.share()?,
+    };
+    let front = host.boxed(Front::new(shared, count))?;
     host.push(front)?;
     for _ in 0..AT_ONCE {
-        let handler = Handler::new(requests, answers, host.time()?, late.share()?);
-        let handler = host.boxed(handler)?;
-        host.push(handler)?;
+        let goroutine = host.boxed(spawner.goroutine(&answers)?)?;
+        host.push(goroutine)?;
     }
-    let capacities = [u32::from(AT_ONCE), 0];
-    let judge = Judge::new(alloc, settings.limits(), AT_ONCE + 1, &capacities)?;
+    let judge = Judge::new(alloc, settings.limits(), AT_ONCE + 1, &[0])?;
     let (ended, judge) = host.run_into(&rt, judge);
     let ended = ended?;
     println!(rt;

@@ -12,6 +12,7 @@ use crate::ending::{Ended, Lost, Short};
 use crate::goroutine::{Go, Goroutine, Loss};
 use crate::note::{Note, Time};
 use crate::settings::Settings;
+use crate::spawner::{Outputs, Spawner, Task};
 use crate::stamps::Stamps;
 use crate::table::play_all;
 use gmp_base::{CNo, GNo};
@@ -98,6 +99,20 @@ impl Host {
     {
         self.is_timed = true;
         Ok(Time::of(self.shown.share()?))
+    }
+
+    /// Where bodies leave their outputs, with memory for so many, at least one. Each goroutine that left one tells of it on this channel. One
+    /// that finds no room yields again and again, which uses entries up.
+    pub fn outputs<O: Drop>(&self, room: u32, told: Channel) -> Result<Outputs<O>, Short>
+        ensures room { IfOk result (λ _. 0 < room) }
+        ensures told { IfOk result (λ it. it.told ≡ told) }
+    {
+        Outputs::new(self.alloc, room, told)
+    }
+
+    /// What starts goroutines and hands over their bodies, with memory for so many that no goroutine took yet.
+    pub fn spawner<T: Task>(&self, room: u32) -> Result<Spawner<T>, Short> {
+        Spawner::new(self.alloc, room)
     }
 
     /// Boxes a goroutine. What is boxed is pushed, in the same order.

@@ -4,6 +4,8 @@
 //! every time. Both tell how it `Ended`, as a legal run from the opening ended. `run_into` runs them for as long as they like, and hands the
 //! history to a `Sink` piece by piece.
 //!
+//! A `Spawner` starts goroutines while the run goes on, and hands each its body over, a `Task`, whose output it leaves in `Outputs`.
+//!
 //! A goroutine is a `Goroutine`: a state machine without clauses. `Go` makes a body of it, whose clauses say nothing, and notes where it
 //! was lost. Boxes are made where the goroutine's type is known: no function hands out a box of a type parameter. So `Host::boxed` gives a
 //! box of its own type, and the caller of `Host::push` makes it a box of any.
@@ -15,8 +17,10 @@ mod ending;
 mod goroutine;
 mod host;
 mod note;
+mod queue;
 mod select;
 mod settings;
+mod spawner;
 mod stamps;
 mod table;
 
@@ -33,3 +37,4 @@ pub use host::Host;
 pub use note::{Note, Time};
 pub use select::Select;
 pub use settings::Settings;
+pub use spawner::{Outputs, Spawned, Spawner, Task};

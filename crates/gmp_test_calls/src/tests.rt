@@ -5,6 +5,7 @@ mod auditing;
 mod cutting;
 mod failing;
 mod filling;
+mod joining;
 mod parts;
 mod replaying;
 mod scripts;

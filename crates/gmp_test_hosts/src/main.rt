@@ -1,7 +1,14 @@
-//! What no clause says of a host's run: who is lost and with which answer, a gate of one's own, and how a run falls short. `rt run` proves,
-//! builds and runs it; the gate compares what it prints with `stdout`.
+//! What no clause says of a host's run: who is lost and with which answer, a gate of one's own, how a run falls short, and that each body
+//! that is handed over leaves its output once. `rt run` proves, builds and runs it; the gate compares what it prints with `stdout`.
 #![tactic(auto)]
 
+mod handed;
+mod split;
+mod ways;
+
+use crate::handed::{Found, run_handed};
+use crate::split::run_split;
+use crate::ways::Place;
 use anyhow::Result;
 use gmp_host::{
     Act, Ask, Channel, Ended, GNo, Gate, Goroutine, History, Host, MNo, Nonsense, Note, Settings,
@@ -192,6 +199,24 @@ fn main(rt: HostRuntime) -> Result<()> {
     match stopped(&rt, alloc)? {
         (Ok(ended), _) => println!(rt; "{ended}")?,
         (Err(short), pieces) => println!(rt; "{short}, pieces: {pieces}")?,
+    }
+    for place in [Place::Here, Place::Threads] {
+        let found = Found::new(alloc)?;
+        let ended = run_handed(&rt, alloc, place, &found)?;
+        println!(rt;
+            "handed over: {ended}; outputs {}, sum {}, twice {}, bodies came back: {}",
+            found.outputs.get(),
+            found.sum.get(),
+            found.twice.get(),
+            found.back.get() > 0
+        )?;
+        let (count, sum) = (Note::new(alloc)?, Note::new(alloc)?);
+        let ended = run_split(&rt, alloc, place, &count, &sum)?;
+        println!(rt;
+            "split: {ended}; numbers {}, sum {}",
+            count.get(),
+            sum.get()
+        )?;
     }
     Ok(())
 }

@@ -10,12 +10,15 @@ mod judging;
 mod texts;
 
 use crate::judging::{Way, judged};
-use crate::texts::{FACTS, FOUND, PART, PICTURE, SCRIPT, STUCK, SUMMARY, TRACE, UNMADE};
+use crate::texts::{
+    FACTS, FOUND, PART, PARTS, PARTS_TOLD, PICTURE, SCRIPT, STUCK, SUMMARY, TRACE, UNMADE,
+};
 use gmp_check_cli::{check, cut};
 use gmp_cli::step;
 use gmp_draw::draw;
 use gmp_explain::explain;
 use gmp_explore_cli::explore;
+use gmp_join_cli::join;
 use gmp_run::Clock;
 use gmp_run_cli::run;
 use gmp_words::{Ended, Settings, Task, arguments, settings};
@@ -91,7 +94,7 @@ struct Command {
     unmade: &'static str,
 }
 
-const COMMANDS: [Command; 7] = [
+const COMMANDS: [Command; 8] = [
     Command {
         name: "step",
         task: Task::Step,
@@ -112,6 +115,13 @@ const COMMANDS: [Command; 7] = [
         status: 0,
         whole: SUMMARY,
         unmade: SUMMARY,
+    },
+    Command {
+        name: "join",
+        task: Task::Join,
+        status: 0,
+        whole: PARTS_TOLD,
+        unmade: PARTS_TOLD,
     },
     Command {
         name: "cut",
@@ -179,6 +189,7 @@ impl Command {
             Task::Step => step(alloc, settings, &mut script, output),
             Task::Run => run(rt, alloc, settings, &mut script, output, &Stopped),
             Task::Check => check(alloc, &mut TRACE.as_bytes(), output, &mut ()),
+            Task::Join => join(alloc, &mut PARTS.as_bytes(), output, &mut ()),
             Task::Cut => cut(alloc, AT, &mut TRACE.as_bytes(), output),
             Task::Explain => told(alloc, output),
             Task::Draw => draw(alloc, 0, 2, &mut TRACE.as_bytes(), output, &mut ()),

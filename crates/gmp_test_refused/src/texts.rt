@@ -73,6 +73,38 @@ begin
 end main ended
 ";
 
+/// The trace in two parts, at entry 4.
+pub const PARTS: &str = "gmp-trace 1
+limits procs 1 machines 1 bodies 1 channels 16 entries 16
+caps 1
+0 0.0 acquire -> proc 0
+1 0.1 take -> ticket 0.1
+2 0.2 claim 0.1 -> held
+3 0.3 make 2 -> chan 1
+end running
+gmp-trace 2
+limits procs 1 machines 1 bodies 1 channels 16 entries 16
+start 4 now 0 arrivals 0 active 1
+counts 4
+procs 0
+machines awake
+spinning
+marked
+chan 0 1 open
+chan 1 2 open
+g 0 1 running 0
+begin
+4 0.4 send 1 7 -> sent
+5 0.5 exit -> main ended
+end main ended
+";
+
+/// How long the run in parts is.
+pub const PARTS_TOLD: &str = "outcome: main ended
+entries: 6
+parts: 2
+";
+
 /// Main waits for good.
 pub const STUCK: &str = "chan 0
 body

@@ -9,7 +9,7 @@ use Rattle.gmp_trace.specs.declared.bad.Why.TheVariants as why
 use Rattle.gmp_trace.specs.declared.writing.WriteError.{WriteError}
 use Rattle.gmp_trace.specs.declared.writing.WriteError.TheVariants as write_error
 use Rattle.gmp_trace.specs.Bad.{bad_text}
-use Rattle.gmp_words.specs.declared.said.Said.TheVariants.{Nothing, BadLine, BadTrace, InputTooLong, InputUnreadable, OutputFailed, BadLimits, OutOfMemory, Mismatch, NoTrace, Usage}
+use Rattle.gmp_words.specs.declared.said.Said.TheVariants.{Nothing, BadLine, BadTrace, BadPart, Apart, InputTooLong, InputUnreadable, OutputFailed, BadLimits, OutOfMemory, Mismatch, NoTrace, Usage}
 
 -- why there is no trace
 abbrev pub untraced_text : Untraced → List ℕ
@@ -21,6 +21,8 @@ abbrev pub text_of : Said → List ℕ
 text_of Nothing = []
 text_of (BadLine line) = codes "gmp: line " ++ (decimal line ++ (codes ": bad script line" ++ 10 ∷ []))
 text_of (BadTrace bad) = codes "gmp: " ++ (bad_text bad ++ 10 ∷ [])
+text_of (BadPart part bad) = codes "gmp: part " ++ (decimal part ++ (codes ": " ++ (bad_text bad ++ 10 ∷ [])))
+text_of (Apart part) = codes "gmp: part " ++ (decimal part ++ (codes ": apart" ++ 10 ∷ []))
 text_of InputTooLong = codes "gmp: input too long" ++ 10 ∷ []
 text_of InputUnreadable = codes "gmp: input unreadable" ++ 10 ∷ []
 text_of OutputFailed = codes "gmp: output failed" ++ 10 ∷ []
@@ -37,6 +39,8 @@ abbrev pub goes_with : Said → ℕ → Bool
 goes_with Nothing status = status == 0 || (status == 2 || (status == 3 || (status == 4 || (status == 7 || (status == 8 || status == 9)))))
 goes_with (BadLine line) status = status == 1
 goes_with (BadTrace bad) status = status == 1
+goes_with (BadPart part bad) status = status == 1
+goes_with (Apart part) status = status == 1
 goes_with InputTooLong status = status == 1
 goes_with InputUnreadable status = status == 1
 goes_with OutputFailed status = status == 1
@@ -70,6 +74,8 @@ is_of_run _ = false
 -- what may be said by `step`
 abbrev pub is_of_step : Said → Bool
 is_of_step (BadTrace bad) = false
+is_of_step (BadPart part bad) = false
+is_of_step (Apart part) = false
 is_of_step (Mismatch m) = false
 is_of_step (NoTrace why) = false
 is_of_step (Usage text) = false
@@ -112,10 +118,30 @@ abbrev pub is_of_cut : Said → Bool
 is_of_cut BadLimits = true
 is_of_cut said = is_of_check said
 
+-- what may be said where a part of a run is not right
+abbrev pub is_of_part : Said → Bool
+is_of_part (BadPart part bad) = is_of_line bad.why
+is_of_part OutOfMemory = true
+is_of_part _ = false
+
+-- or doesn't go on where the one before stops
+abbrev pub is_of_next : Said → Bool
+is_of_next (Apart part) = true
+is_of_next said = is_of_part said
+
+-- what may be said by `join`
+abbrev pub is_of_join : Said → Bool
+is_of_join Nothing = true
+is_of_join OutputFailed = true
+is_of_join (BadTrace bad) = is_of_line bad.why
+is_of_join said = is_of_input said || is_of_next said
+
 -- what is wrong is found before anything is written
 abbrev pub is_before_writing : Said → Bool
 is_before_writing (BadLine line) = true
 is_before_writing (BadTrace bad) = true
+is_before_writing (BadPart part bad) = true
+is_before_writing (Apart part) = true
 is_before_writing InputTooLong = true
 is_before_writing InputUnreadable = true
 is_before_writing BadLimits = true

@@ -14,6 +14,7 @@ abbrev pub name_of : Task → List ℕ
 name_of task.Step = codes "step"
 name_of task.Run = codes "run"
 name_of task.Check = codes "check"
+name_of task.Join = codes "join"
 name_of task.Cut = codes "cut"
 name_of task.Explain = codes "explain"
 name_of task.Draw = codes "draw"

@@ -127,6 +127,28 @@ impl Ended {
         }
     }
 
+    /// The first bad line of this part of a run, counted from the part's own first line.
+    pub fn bad_part(part: u64, bad: Bad) -> Self
+        ensures status { result.status ≡ 1 }
+        ensures said { result.said ≡ Said.BadPart part bad }
+    {
+        Ended {
+            status: 1,
+            said: Said::BadPart(part, bad),
+        }
+    }
+
+    /// This part of a run doesn't go on where the one before stops.
+    pub fn apart(part: u64) -> Self
+        ensures status { result.status ≡ 1 }
+        ensures said { result.said ≡ Said.Apart part }
+    {
+        Ended {
+            status: 1,
+            said: Said::Apart(part),
+        }
+    }
+
     /// The input is longer than it may be.
     pub fn too_long() -> Self
         ensures status { result.status ≡ 1 }

@@ -14,6 +14,8 @@ pub enum Task {
     Run,
     /// Reads a trace, checks it, and prints its summary.
     Check,
+    /// Reads the parts of a run, checks them and that each goes on where the one before stops, and prints how long the run is.
+    Join,
     /// Reads a trace, checks it, and prints the part of it from an entry on.
     Cut,
     /// Reads a trace, checks it, and says in words what it tells of its run.

@@ -26,6 +26,10 @@ pub enum Said {
     BadLine(u64),
     /// The first bad line of the trace.
     BadTrace(Bad),
+    /// The first bad line of this part, of which the lines are counted from 1. Parts are counted from 1 too.
+    BadPart(u64, Bad),
+    /// This part doesn't go on where the one before stops.
+    Apart(u64),
     /// The input has more bytes than a script or a trace may have.
     InputTooLong,
     /// A read failed.
@@ -55,6 +59,8 @@ impl fmt::Display for Said {
             Said::Nothing => Ok(()),
             Said::BadLine(line) => writeln!(f, "gmp: line {line}: bad script line"),
             Said::BadTrace(bad) => writeln!(f, "gmp: {bad}"),
+            Said::BadPart(part, bad) => writeln!(f, "gmp: part {part}: {bad}"),
+            Said::Apart(part) => writeln!(f, "gmp: part {part}: apart"),
             Said::InputTooLong => f.write_str("gmp: input too long\n"),
             Said::InputUnreadable => f.write_str("gmp: input unreadable\n"),
             Said::OutputFailed => f.write_str("gmp: output failed\n"),

@@ -130,7 +130,7 @@ const VERSION: &str = "0.1.0 (gmp-trace 1, 2)";
 
 /// What stands behind the help of the program.
 const STATUSES: &str =
-    "A script, or for check, cut, explain and draw a trace, comes on standard input; what is asked for goes to standard
+    "A script, or for check, join, cut, explain and draw a trace, comes on standard input; what is asked for goes to standard
 output.
 
 Exit status:
@@ -166,6 +166,14 @@ const CHECK_INPUT: &str =
 
 Exit status: 0 the trace is right, 1 it is not (the first bad line is named), or bad input or output,
 5 out of memory, 64 bad command line.";
+
+const JOIN_INPUT: &str =
+    "Traces come on standard input, one behind another as they are written: the parts of one run, each of which begins at the
+state where the one before stops. How the last one ends, how many entries there are and how many parts goes to standard
+output once all of them are read.
+
+Exit status: 0 the parts are one run, 1 one of them is not right or doesn't go on where the one before stops (the first
+such part is named), or bad input or output, 5 out of memory, 64 bad command line.";
 
 const CUT_INPUT: &str =
     "The trace comes on standard input, and the part of it goes to standard output: a trace that begins at the state
@@ -245,6 +253,13 @@ fn check<'a>(alloc: Global) -> Command<'a> {
         .after_help(CHECK_INPUT)
 }
 
+/// The command `join`, which has no options.
+fn join<'a>(alloc: Global) -> Command<'a> {
+    Command::new(alloc, "join")
+        .about("Reads the parts of a run, checks that they are one run and prints how long it is")
+        .after_help(JOIN_INPUT)
+}
+
 /// The command `cut`, with its option.
 fn cut<'a>(alloc: Global) -> Result<Command<'a>, AllocError> {
     let cut = Command::new(alloc, "cut")
@@ -298,6 +313,7 @@ fn command<'a>(alloc: Global) -> Result<Command<'a>, AllocError> {
         .subcommand(step(alloc)?)?
         .subcommand(run(alloc)?)?
         .subcommand(check(alloc))?
+        .subcommand(join(alloc))?
         .subcommand(cut(alloc)?)?
         .subcommand(explain(alloc)?)?
         .subcommand(draw(alloc)?)?
@@ -329,6 +345,7 @@ fn task(words: &[String]) -> Option<Task>
         b"step" => Some(Task::Step),
         b"run" => Some(Task::Run),
         b"check" => Some(Task::Check),
+        b"join" => Some(Task::Join),
         b"cut" => Some(Task::Cut),
         b"explain" => Some(Task::Explain),
         b"draw" => Some(Task::Draw),

@@ -14,7 +14,7 @@ use std::alloc::Global;
 use std::process::Abort;
 use std::test::Fail;
 
-const WHOLE: &str = "gmp-trace 1
+pub(super) const WHOLE: &str = "gmp-trace 1
 limits procs 1 machines 1 bodies 1 channels 16 entries 10000
 caps
 0 0.0 acquire -> proc 0
@@ -28,7 +28,7 @@ end main ended
 ";
 
 /// The first four entries.
-const FIRST: &str = "gmp-trace 1
+pub(super) const FIRST: &str = "gmp-trace 1
 limits procs 1 machines 1 bodies 1 channels 16 entries 10000
 caps
 0 0.0 acquire -> proc 0
@@ -39,7 +39,7 @@ end running
 ";
 
 /// The entries behind them.
-const SECOND: &str = "gmp-trace 2
+pub(super) const SECOND: &str = "gmp-trace 2
 limits procs 1 machines 1 bodies 1 channels 16 entries 10000
 start 4 now 0 arrivals 0 active 1
 counts 4
@@ -56,7 +56,7 @@ end main ended
 ";
 
 /// The whole, as one that begins at a state.
-const FROM_OPENING: &str = "gmp-trace 2
+pub(super) const FROM_OPENING: &str = "gmp-trace 2
 limits procs 1 machines 1 bodies 1 channels 16 entries 10000
 start 0 now 0 arrivals 0 active 1
 counts 0
@@ -77,7 +77,7 @@ end main ended
 ";
 
 /// The last two entries.
-const LAST: &str = "gmp-trace 2
+pub(super) const LAST: &str = "gmp-trace 2
 limits procs 1 machines 1 bodies 1 channels 16 entries 10000
 start 5 now 0 arrivals 0 active 1
 counts 5
@@ -93,7 +93,7 @@ end main ended
 ";
 
 /// What is behind the first four entries where no others follow.
-const NO_ENTRIES: &str = "gmp-trace 2
+pub(super) const NO_ENTRIES: &str = "gmp-trace 2
 limits procs 1 machines 1 bodies 1 channels 16 entries 10000
 start 4 now 0 arrivals 0 active 1
 counts 4
@@ -107,7 +107,7 @@ end running
 ";
 
 /// No entry was made.
-const NOTHING: &str = "gmp-trace 1
+pub(super) const NOTHING: &str = "gmp-trace 1
 limits procs 1 machines 1 bodies 1 channels 16 entries 10000
 caps
 end running

@@ -3,6 +3,7 @@
 use super::words::settings_of;
 use gmp_check_cli::{check, cut};
 use gmp_cli::step;
+use gmp_join_cli::join;
 use gmp_trace::{WriteError, read, summary, write};
 use gmp_words::{Ended, Said, Settings, Task};
 use std::alloc::Global;
@@ -36,6 +37,12 @@ claim          1
 exit           1
 ";
 
+/// How long the trace is, as a run in one part.
+const JOINED: &str = "outcome: main ended
+entries: 4
+parts: 1
+";
+
 /// The trace, as one that begins at a state.
 const PART: &str = "gmp-trace 2
 limits procs 1 machines 1 bodies 1 channels 16 entries 10000
@@ -55,10 +62,11 @@ end main ended
 ";
 
 /// A command line, with what the command reads and what it writes.
-const COMMANDS: [(&str, &str, &str); 4] = [
+const COMMANDS: [(&str, &str, &str); 5] = [
     ("gmp step", SCRIPT, TRACE),
     ("gmp check", TRACE, SUMMARY),
     ("gmp check", PART, SUMMARY),
+    ("gmp join", TRACE, JOINED),
     ("gmp cut --at 0", TRACE, PART),
 ];
 
@@ -88,6 +96,7 @@ fn ended<R: Read>(
 ) -> Ended {
     match settings.task {
         Task::Check => check(alloc, input, output, &mut ()),
+        Task::Join => join(alloc, input, output, &mut ()),
         Task::Cut => cut(alloc, settings.at, input, output),
         _ => step(alloc, settings, input, output),
     }

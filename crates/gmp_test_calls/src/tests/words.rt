@@ -107,6 +107,9 @@ fn bad_lines_are_refused(rt: HostRuntime) -> Result<(), Fail> {
         ("gmp check --procs 1", 64),
         ("gmp check extra", 64),
         ("gmp check --help", 0),
+        ("gmp join --at 1", 64),
+        ("gmp join extra", 64),
+        ("gmp join --help", 0),
         ("gmp cut --at", 64),
         ("gmp cut --at -1", 64),
         ("gmp cut --at 18446744073709551616", 64),
@@ -164,6 +167,9 @@ fn texts_are_those_asked_for(rt: HostRuntime) -> Result<(), Fail> {
         why: Why::Step,
     };
     tells(&rt, alloc, Ended::bad_trace(bad), 1, "gmp: line 8: step\n")?;
+    let bad_part = Ended::bad_part(3, bad);
+    tells(&rt, alloc, bad_part, 1, "gmp: part 3: line 8: step\n")?;
+    tells(&rt, alloc, Ended::apart(3), 1, "gmp: part 3: apart\n")?;
     tells(&rt, alloc, Ended::too_long(), 1, "gmp: input too long\n")?;
     let unreadable = Ended::unreadable();
     tells(&rt, alloc, unreadable, 1, "gmp: input unreadable\n")?;
