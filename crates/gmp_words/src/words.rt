@@ -126,7 +126,7 @@ const STATES: Numeric = Numeric {
 };
 
 /// The program's version, and that of the traces that it writes and reads.
-const VERSION: &str = "0.1.0 (gmp-trace 1, 2)";
+const VERSION: &str = "0.1.0 (gmp-trace 1, 2, 3)";
 
 /// What stands behind the help of the program.
 const STATUSES: &str =
