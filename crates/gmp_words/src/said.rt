@@ -30,7 +30,7 @@ pub enum Said {
     BadPart(u64, Bad),
     /// This part doesn't go on where the one before stops.
     Apart(u64),
-    /// The input has more bytes than a script or a trace may have.
+    /// A script, a trace or a part of a run has more bytes than it may have.
     InputTooLong,
     /// A read failed.
     InputUnreadable,
