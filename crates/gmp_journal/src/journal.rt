@@ -167,24 +167,14 @@ impl Journal {
         if let Some(why) = self.turn_refusal(pass, values) {
             return Some(why);
         }
+        // What the state forbids comes before want of room.
         if self.is_full() {
-            return Some(self.refusal_when_full(pass, call, values));
+            return match self.scheduler.need_refusal(pass.m, call, values) {
+                Some(why) => Some(why),
+                None => Some(Refusal::Full),
+            };
         }
         self.scheduler.need_refusal(pass.m, call, values)
-    }
-
-    /// The same, where there is no room for another entry: what the state forbids comes first.
-    // Not inlined: it comes once for as many calls as there is room for.
-    #[inline(never)]
-    fn refusal_when_full(&self, pass: &Pass, call: &Call, values: &Handed) -> Refusal
-        requires turn { first_refusal (turn_lines self.now pass.now values.now) ≡ None }
-        requires full { length self.now.history ≡ self.now.limits.room }
-        ensures { refusal_of self.now pass.now call.now values.now ≡ Some result }
-    {
-        match self.scheduler.need_refusal(pass.m, call, values) {
-            Some(why) => why,
-            None => Refusal::Full,
-        }
     }
 
     /// Why the pass or the values' runs forbid the call, if they do: is the pass the machine's latest, of this run, and does the run last?
