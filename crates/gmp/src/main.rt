@@ -1,10 +1,10 @@
 //! The program `gmp`: runs scripts of goroutines, in one thread (`step`) or in several (`run`), and prints what was done; and checks what
-//! was printed (`check`), in parts too (`join`), cuts it (`cut`), says what it tells (`explain`) and draws it (`draw`). Of a script it also says what can go wrong
-//! in any run (`explore`).
+//! was printed (`check`), in parts too (`join`), cuts it (`cut`), says what it tells (`explain`) and draws it (`draw`). Of a script it also
+//! says what can go wrong in any run (`explore`).
 //!
 //! It hands the commands what the host has: standard input and output, the memory, the threads and the clock. What each command promises
-//! stands in its crate (gmp_cli, gmp_run_cli, gmp_check_cli, gmp_join_cli, gmp_explain, gmp_draw, gmp_explore_cli), what the command line may say in
-//! gmp_words.
+//! stands in its crate (gmp_cli, gmp_run_cli, gmp_check_cli, gmp_join_cli, gmp_explain, gmp_draw, gmp_explore_cli), what the command line
+//! may say in gmp_words.
 //!
 //! Each way out is an `Ended`: a status, and a text that goes to standard error, or to standard output where the status is 0. Nothing is
 //! refused here that the commands don't refuse. Where even the last words can't be written the status stays, so that a script that calls

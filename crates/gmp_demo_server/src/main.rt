@@ -1,6 +1,6 @@
 //! A server: each request is handed over to a goroutine of its own, which is started for it and ends with it, and leaves its answer. There
-//! are 64 such goroutines, whose numbers are used again and again. The run is longer than its history: 10,000 entries are kept at a time, and the plain scheduler takes
-//! each piece as it comes, and finds each entry to be a step that goes on from those before.
+//! are 64 such goroutines, whose numbers are used again and again. The run is longer than its history: 10,000 entries are kept at a time,
+//! and the plain scheduler takes each piece as it comes, and finds each entry to be a step that goes on from those before.
 //!
 //! Its argument says how many requests there are.
 #![tactic(auto)]
