@@ -6,11 +6,12 @@ use Rattle.std.proofs.lemmas.List.{set-get_or}
 use Rattle.std.proofs.lemmas.Option.{get_or_from_slice_get}
 use Rattle.std.specs.List.{slice_get}
 use Rattle.gmp_base.specs.declared.number.MNo.{MNo}
+use Rattle.gmp_seq.specs.declared.call.Limits.{Limits}
 use Rattle.gmp_acts.specs.declared.choice.Choice.{Choice}
 use Rattle.gmp_acts.specs.System.{System}
 use Rattle.gmp_core.specs.declared.want.Want.{Want}
 use Rattle.gmp_core.specs.declared.want.Want.TheVariants as want
-use Rattle.gmp_core.specs.Whole.{IsBodyInHand, Whole, with_body_in_hand}
+use Rattle.gmp_core.specs.Whole.{IsBodyInHand, IsKept, Whole, with_body_in_hand}
 use Rattle.gmp_core.proofs.Moves.{opened_on}
 use Rattle.gmp_script.specs.Script.{Commands, asked_last}
 use Rattle.gmp_cli.specs.Clock.{ClockState}
@@ -46,11 +47,19 @@ deals_on want.Nothing s m choice mid s' b c d = record { bodies = b ∙ d.bodies
 
 pub same_on : (a b c : Player) → SameRun a b → SameRun b c → SameRun a c
 same_on a b c x y =
-    record { machines = y.machines ∙ x.machines; opened = opened_on a.core.system.book b.core.system.book c.core.system.book x.opened y.opened }
+    record {
+      machines = y.machines ∙ x.machines;
+      opened = opened_on a.core.system.book b.core.system.book c.core.system.book x.opened y.opened;
+      whole = λ whole. y.whole (x.whole whole);
+    }
 
--- the player goes on to know how many machines there are
+-- the player goes on to know how many machines there are, and to keep all entries
 pub manned_on : (a b : Player) → IsManned a → SameRun a b → IsManned b
-manned_on a b known same = same.machines ∙ known ∙ sym (ap (λ (l : _). l.machines) same.opened.limits)
+manned_on a b known same = record {
+  machines = same.machines ∙ known.machines ∙ sym (ap (λ (l : Limits). l.machines) same.opened.limits);
+  kept = subst IsKept (sym same.opened.limits) known.kept;
+  whole = same.whole known.whole;
+}
 
 put_here : {X : Type 0} (xs : List X) (i : ℕ) (x : X) → slice_get xs i ≡ Some x → set xs i x ≡ xs
 put_here {X} xs i x is = ap (λ (y : X). set xs i y) (sym (get_or_from_slice_get xs i x x is)) ∙ set-get_or xs i x

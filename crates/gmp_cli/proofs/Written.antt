@@ -1,8 +1,9 @@
 -- What is written of a run that was played.
 use Rattle.std.proofs.Common.{◌≡◌, ℕ, All, List, length, sym, ap, ◌∙◌, subst}
 use Rattle.gmp_seq.specs.Fits.{AreLimits, Fits}
-use Rattle.gmp_acts.specs.Headline.{SameOpening}
-use Rattle.gmp_core.specs.Whole.{HeadlineOf}
+use Rattle.gmp_acts.specs.Headline.{Headline, SameOpening}
+use Rattle.gmp_core.specs.Whole.{HeadlineOf, IsWhole}
+use Rattle.gmp_core.proofs.Before.{whole_headline}
 use Rattle.gmp_script.specs.Script.{Commands}
 use Rattle.gmp_trace.specs.HasText.{HasText}
 use Rattle.gmp_trace.specs.Text.{Content, end_of}
@@ -16,7 +17,7 @@ use Rattle.gmp_cli.specs.Step.{IsRunOf}
 
 module _ (s : Settings) (capacities readings : List ℕ) (bodies : List Commands) (before behind : Stage) (x : Content)
     (opened : before ≡ opening_stage (limits_of s) capacities readings bodies) (same : SameOpening before.system.book behind.system.book)
-    (headline : HeadlineOf behind.system) (within : AreLimits behind.system.book.limits behind.system.book.bodies behind.system.book.capacities) (fits : All Fits behind.system.book.history)
+    (head : HeadlineOf behind.system) (whole : IsWhole behind.system) (within : AreLimits behind.system.book.limits behind.system.book.bodies behind.system.book.capacities) (fits : All Fits behind.system.book.history)
     (limits_are : x.limits ≡ limits_of s) (stock : x.bodies ≡ length bodies) (begun : x.begins ≡ AtOpening capacities) (entries : x.entries ≡ behind.system.book.history) (ended : x.end ≡ end_of behind.system.book.state.outcome) where
   limits_stay : x.limits ≡ behind.system.book.limits
   limits_stay = limits_are ∙ sym (same.limits ∙ ap (λ (o : Stage). o.system.book.limits) opened)
@@ -26,6 +27,9 @@ module _ (s : Settings) (capacities readings : List ℕ) (bodies : List Commands
 
   rooms_stay : capacities ≡ behind.system.book.capacities
   rooms_stay = sym (same.capacities ∙ ap (λ (o : Stage). o.system.book.capacities) opened)
+
+  headline : Headline behind.system.book.run behind.system.book.limits behind.system.book.bodies behind.system.book.capacities behind.system
+  headline = whole_headline behind.system head whole
 
   pub is_trace : IsTraceOf (limits_of s) capacities x
   is_trace = record {

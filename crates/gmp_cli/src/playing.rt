@@ -8,8 +8,7 @@ ghost use Rattle.gmp_seq.specs.Fits.{AreLimits, Fits};
 ghost use Rattle.gmp_acts.specs.Acts.{Acts};
 ghost use Rattle.gmp_acts.specs.System.{machine_at};
 ghost use Rattle.gmp_driver.specs.Table.{next_act};
-ghost use Rattle.gmp_turn.specs.Whole.{IsWholeRun};
-ghost use Rattle.gmp_core.specs.Whole.{HeadlineOf, wanted_by};
+ghost use Rattle.gmp_core.specs.Whole.{HeadlineOf, IsKept, wanted_by};
 
 use crate::clock::Clock;
 use gmp_acts::Choice;
@@ -40,7 +39,7 @@ impl Player {
     ghost use Rattle.gmp_cli.specs.Plays.{AnswersNumber, AreParked, Asks, IsDealt, HasTurn, IsOver, IsPlayed, IsSettled, PlaysOne, has_body, opening_stage};
     ghost use Rattle.gmp_cli.specs.Staged.{IsManned, SameRun, TriesOne, stage};
 
-    /// The core before its first act.
+    /// The core before its first act. It keeps all entries.
     pub(crate) fn open(
         alloc: Global,
         limits: Limits,
@@ -48,11 +47,12 @@ impl Player {
         bodies: Vec<ScriptBody>,
         readings: Vec<u64>,
     ) -> Result<Self, Refusal>
-        ensures within { IfOk result (λ _. IsWholeRun limits (length bodies.items) capacities.now) }
+        requires kept { IsKept limits }
+        ensures within { IfOk result (λ _. AreLimits limits (length bodies.items) capacities.now) }
         ensures stage { IfOk result (λ p. stage p ≡ opening_stage limits capacities.now readings.items bodies.items) }
         ensures manned { IfOk result IsManned }
         ensures why { IfErr result (λ why. (why ≡ BadLimits) ⊎ (why ≡ OutOfMemory)) }
-        ensures limits { IfErr result (λ why. why ≡ BadLimits → ¬ (IsWholeRun limits (length bodies.items) capacities.now)) }
+        ensures limits { IfErr result (λ why. why ≡ BadLimits → ¬ (AreLimits limits (length bodies.items) capacities.now)) }
     {
         match Core::open(alloc, RUN, limits, capacities, bodies) {
             Ok(core) => Ok(Player {
@@ -138,13 +138,15 @@ impl Player {
     /// The machine makes its act, and the next one's turn comes.
     fn advance(&mut self, m: MNo, word: u64)
         requires there { m.0 < self.old.machines }
+        requires manned { IsManned self.old }
         requires lasts { ¬ (IsOver self.old.core.system) }
         requires next { HasTurn (stage self.old) m }
         ensures plays { PlaysOne word (stage self.old) (stage self.new) }
         ensures same { SameRun self.old self.new }
     {
         self.choose(m, word);
-        self.core.act(m, &self.choice);
+        // All entries are kept, so there is room for each.
+        let _ = self.core.act(m, &self.choice);
         self.turn = m.0 + 1;
     }
 

@@ -1,13 +1,17 @@
 -- What the core keeps it keeps by each act, and the stock of bodies stays.
-use Rattle.std.proofs.Common.{◌≡◌, ◌≢◌, ◌⊎◌, inl, inr, ℕ, List, length, refl, sym, ap, ◌∙◌, subst, Option, Some, None, IsSome, IsNone, Result, Ok, Err}
+use Rattle.std.proofs.Common.{◌≡◌, ◌≢◌, ◌⊎◌, inl, inr, ℕ, ◌+◌, ◌<◌, ◌≤◌, Bool, false, nat_le, List, [], ◌∷◌, ◌++◌, length, refl, sym, ap, ◌∙◌, subst, arith, Option, Some, None, IsSome, IsNone, Result, Ok, Err}
+use Rattle.std.proofs.lemmas.Bool.{leb-false}
+use Rattle.std.proofs.lemmas.List.{length_push}
 use Rattle.std.specs.List.{slice_get}
 use Rattle.std.specs.Option.{option_map}
 use Rattle.gmp_base.specs.declared.number.GNo.{GNo}
 use Rattle.gmp_base.specs.declared.number.MNo.{MNo}
 use Rattle.gmp_base.specs.declared.number.PNo.{PNo}
+use Rattle.gmp_base.specs.declared.pass.Pass.{Pass}
 use Rattle.gmp_base.specs.declared.refusal.Refusal.{Refusal}
+use Rattle.gmp_base.specs.declared.refusal.Refusal.TheVariants.{Full}
 use Rattle.gmp_seq.specs.declared.call.Call.{Call}
-use Rattle.gmp_seq.specs.declared.call.Limits.{Limits}
+use Rattle.gmp_seq.specs.declared.call.Entry.{Entry}
 use Rattle.gmp_seq.specs.declared.call.Reply.{Reply}
 use Rattle.gmp_seq.specs.declared.status.Status.{Status}
 use Rattle.gmp_seq.specs.declared.status.Status.TheVariants as status
@@ -35,20 +39,41 @@ use Rattle.gmp_acts.proofs.Moving.{act_sound}
 use Rattle.gmp_acts.proofs.Watching.{act_watchful}
 use Rattle.gmp_acts.proofs.Onward.{act_opened}
 use Rattle.gmp_acts.proofs.Whole.{headline_of}
+use Rattle.gmp_journal.specs.declared.handed.Handed.{Handed}
 use Rattle.gmp_journal.specs.Log.{Log}
+use Rattle.gmp_journal.specs.Refusals.{Line, Says, first_refusal, need_lines, refusal_in, refusal_line, refusal_of, turn_lines}
+use Rattle.gmp_journal.proofs.Lines.{by_first, by_next, none_holds}
 use Rattle.gmp_turn.proofs.Ending.{log_after}
 use Rattle.gmp_turn.specs.Surrenders.{Surrenders, surrendered}
 use Rattle.gmp_turn.specs.Turns.{Turns}
 use Rattle.gmp_turn.specs.Values.{AreOut, KeepsValues, body_in, called_body, held_body, owner_in, proc_owner}
 use Rattle.gmp_book.specs.Book.{BookContents}
 use Rattle.gmp_core.specs.Doing.{Desk, Does}
-use Rattle.gmp_core.specs.Inside.{IsCore, Parts, system_of}
+use Rattle.gmp_core.specs.Inside.{IsCore, Parts, joined_system_of, system_of}
 use Rattle.gmp_core.specs.Local.{KeepsHand}
 use Rattle.gmp_core.specs.Queues.{Rings}
 use Rattle.gmp_core.specs.Whole.{stock_of}
 use Rattle.gmp_core.proofs.Apart.{apart, body_is, processor_is}
+use Rattle.gmp_core.proofs.Before.{acts_before}
 use Rattle.gmp_core.proofs.Stock.{other_set, out_same, same_at, stock_same}
 use Rattle.gmp_core.proofs.Tying.{agrees, machine_is, parts_after}
+
+-- Room for an entry
+
+-- what was accepted no line refuses
+no_refusal : (wants : Type 0) (why : Option Refusal) (answer : Reply) → Says wants why (refusal_in {A = Reply} (Ok answer)) → why ≡ None
+no_refusal wants None answer says = refl
+no_refusal wants (Some why) answer says = absurd (let no : None ≡ Some why = says in cc)
+
+last_line : (ls : List Line) (test : Bool) → first_refusal (ls ++ refusal_line test Full ∷ []) ≡ None → test ≡ false
+last_line ls test none = by (first_refusal ls) refl where
+  by : (why : Option Refusal) → first_refusal ls ≡ why → test ≡ false
+  by None e = (none_holds (refusal_line test Full ∷ []) (sym (by_next ls (refusal_line test Full ∷ []) e) ∙ none)).0
+  by (Some why) e = absurd (let no : Some why ≡ None = sym (by_first ls (refusal_line test Full ∷ []) why e) ∙ none in cc)
+
+room_of : (log : Log) (pass : Pass) (asked : Call) (values : Handed) → refusal_of log pass asked values ≡ None → length log.history < log.limits.room
+room_of log pass asked values none =
+    leb-false log.limits.room (length log.history) (last_line (turn_lines log pass values ++ need_lines log.state pass.m asked values) (nat_le log.limits.room (length log.history)) none)
 
 -- One machine
 
@@ -71,9 +96,9 @@ one_in_hand {T = T} k m x s mine = by x.hand.held x.hand.called mine.has.runs mi
 
 -- Two machines
 
-module _ {T : Type 0} (c : Parts T) (m : MNo) (x : Machine T Unit) (is : slice_get c.machines m.0 ≡ Some x) (s : IsSound (system_of c)) where
-  numbered : (n : MNo) (y : Machine T Unit) → slice_get c.machines n.0 ≡ Some y → Agrees (system_of c).book n (plain_machine y)
-  numbered n y at = agrees c n y at s
+module _ {T : Type 0} (out : List Entry) (c : Parts T) (m : MNo) (x : Machine T Unit) (is : slice_get c.machines m.0 ≡ Some x) (s : IsSound (joined_system_of out c)) where
+  numbered : (n : MNo) (y : Machine T Unit) → slice_get c.machines n.0 ≡ Some y → Agrees (joined_system_of out c).book n (plain_machine y)
+  numbered n y at = agrees out c n y at s
 
   has_body : (n : MNo) (y : Machine T Unit) → slice_get c.machines n.0 ≡ Some y → (i : ℕ) → IsSome (body_in y.hand i) → HasInHand (system_of c) n (record { 0 = i })
   has_body n y at i some = subst (λ (p : PlainMachine). (held_number p.hand.held ≡ Some (record { 0 = i })) ⊎ (called_number p.hand.called ≡ Some (record { 0 = i }))) (sym (machine_is c n y at)) (body_is y.hand.held y.hand.called i some)
@@ -81,7 +106,7 @@ module _ {T : Type 0} (c : Parts T) (m : MNo) (x : Machine T Unit) (is : slice_g
   pub bodies_apart : (n i : ℕ) (y : Machine T Unit) → n ≢ m.0 → slice_get c.machines n ≡ Some y → IsSome (body_in y.hand i) → body_in x.hand i ≡ None
   bodies_apart n i y ne at some =
       apart (body_in x.hand i) (body_in y.hand i)
-      (λ mine its. ne (ap (λ (j : MNo). j.0) ((headline_of (system_of c) s).held_once (record { 0 = n }) m (record { 0 = i }) (has_body (record { 0 = n }) y at i its) (has_body m x is i mine)))) some
+      (λ mine its. ne (ap (λ (j : MNo). j.0) ((headline_of (joined_system_of out c) s).held_once (record { 0 = n }) m (record { 0 = i }) (has_body (record { 0 = n }) y at i its) (has_body m x is i mine)))) some
 
   pub owners_apart : (n i : ℕ) (y : Machine T Unit) → n ≢ m.0 → slice_get c.machines n ≡ Some y → IsSome (owner_in y.hand i) → owner_in x.hand i ≡ None
   owners_apart n i y ne at some =
@@ -160,6 +185,33 @@ module _ {T : Type 0} (c : Parts T) (m : MNo) (x : Machine T Unit) (choice : Cho
   room_same (act.Surrender which) d = ap (λ (r : Rings). r.room) d.2
   room_same act.Nothing d = ap (λ (e : Desk T). e.rings.room) d
 
+  -- an entry is added only where there is room for it
+  few_by_turn : (asked : Call) (result : Result Reply Refusal) → Turns x c.book asked choice.word result now.machine now.book → length now.book.log.history ≤ now.book.log.limits.room
+  few_by_turn asked (Ok answer) t =
+      let free : length c.book.log.history < c.book.log.limits.room = room_of c.book.log t.before asked _ (no_refusal _ _ answer t.refused) in
+      let longer : length now.book.log.history ≡ length c.book.log.history + 1 = ap (λ (l : List Entry). length l) t.records.entry ∙ length_push c.book.log.history _ in
+      let same : now.book.log.limits.room ≡ c.book.log.limits.room = ap (λ (l : Log). l.limits.room) t.records.opened in
+      omega (arith, free, longer, same)
+  few_by_turn asked (Err why) t = subst (λ (b : BookContents T Unit). length b.log.history ≤ b.log.limits.room) (sym t.err.0) core.few
+
+  few_of : now.book ≡ c.book → length now.book.log.history ≤ now.book.log.limits.room
+  few_of same = subst (λ (b : BookContents T Unit). length b.log.history ≤ b.log.limits.room) (sym same) core.few
+
+  few_after : (a : Act) → Does a m choice old now → length now.book.log.history ≤ now.book.log.limits.room
+  few_after (act.Call asked) d = few_by_turn asked d.0 d.1
+  few_after act.Pop d = few_of d.book
+  few_after act.Drain d = few_of d.book
+  few_after act.Push d = few_of d.book
+  few_after act.Hunt d = few_of d.book
+  few_after (act.Steal v) d = few_of d.book
+  few_after act.Resume d = few_of (ap (λ (e : Desk T). e.book) d)
+  few_after act.Block d = few_of (ap (λ (e : Desk T). e.book) d)
+  few_after (act.Clock minded) d = few_of (ap (λ (e : Desk T). e.book) d)
+  few_after (act.Surrender which) d =
+      subst (λ (l : Log). length l.history ≤ l.limits.room)
+      (sym (ap (λ (b : BookContents T Unit). b.log) d.1.places ∙ log_after which d.0 (surrendered x d.1.before which) c.book)) core.few
+  few_after act.Nothing d = few_of (ap (λ (e : Desk T). e.book) d)
+
   by_turn : (asked : Call) (result : Result Reply Refusal) → Turns x c.book asked choice.word result now.machine now.book → now.book.log.stopped ≡ c.book.log.stopped
   by_turn asked (Ok answer) t = ap (λ (l : Log). l.stopped) t.records.opened
   by_turn asked (Err why) t = ap (λ (b : BookContents T Unit). b.log.stopped) t.err.0
@@ -179,8 +231,11 @@ module _ {T : Type 0} (c : Parts T) (m : MNo) (x : Machine T Unit) (choice : Cho
   stopped_same act.Nothing d = ap (λ (e : Desk T). e.book.log.stopped) d
 
   module _ (acts : Acts (system_of c) m choice (system_of c')) (d : Does (next_act x) m choice old now) where
-    sound' : IsSound (system_of c')
-    sound' = act_sound (system_of c) m choice (system_of c') acts core.sound
+    joined_acts : Acts (joined_system_of core.out c) m choice (joined_system_of core.out c')
+    joined_acts = acts_before core.out (system_of c) m choice (system_of c') acts
+
+    sound' : IsSound (joined_system_of core.out c')
+    sound' = act_sound (joined_system_of core.out c) m choice (joined_system_of core.out c') joined_acts core.sound
 
     here' : slice_get c'.machines m.0 ≡ Some now.machine
     here' = same_at c.machines m.0 now.machine x is
@@ -190,22 +245,25 @@ module _ {T : Type 0} (c : Parts T) (m : MNo) (x : Machine T Unit) (choice : Cho
 
     apart_bodies : (n i : ℕ) (y : Machine T Unit) → n ≢ m.0 → slice_get c.machines n ≡ Some y → IsSome (body_in y.hand i) → (body_in x.hand i ≡ None) × (body_in now.machine.hand i ≡ None)
     apart_bodies n i y ne at some =
-        (bodies_apart c m x is core.sound n i y ne at some, bodies_apart c' m now.machine here' sound' n i y ne (other_set c.machines m.0 n now.machine y ne at) some)
+        (bodies_apart core.out c m x is core.sound n i y ne at some, bodies_apart core.out c' m now.machine here' sound' n i y ne (other_set c.machines m.0 n now.machine y ne at) some)
 
     apart_owners : (n i : ℕ) (y : Machine T Unit) → n ≢ m.0 → slice_get c.machines n ≡ Some y → IsSome (owner_in y.hand i) → (owner_in x.hand i ≡ None) × (owner_in now.machine.hand i ≡ None)
     apart_owners n i y ne at some =
-        (owners_apart c m x is core.sound n i y ne at some, owners_apart c' m now.machine here' sound' n i y ne (other_set c.machines m.0 n now.machine y ne at) some)
+        (owners_apart core.out c m x is core.sound n i y ne at some, owners_apart core.out c' m now.machine here' sound' n i y ne (other_set c.machines m.0 n now.machine y ne at) some)
 
     core_after : IsCore c'
     core_after =
         let opened = act_opened (system_of c) m choice (system_of c') acts in
         record {
+          out = core.out;
           sound = sound';
-          watchful = act_watchful (system_of c) m choice (system_of c') acts core.sound core.watchful;
+          watchful = act_watchful (joined_system_of core.out c) m choice (joined_system_of core.out c') joined_acts core.sound core.watchful;
           bodies = out_same (λ (y : Machine T Unit). body_in y.hand) c.machines m.0 x now.machine c.book.bodies now.book.bodies is kept.0 apart_bodies core.bodies;
           owners = out_same (λ (y : Machine T Unit). owner_in y.hand) c.machines m.0 x now.machine c.book.owners now.book.owners is kept.1 apart_owners core.owners;
           tickets_room = room_same (next_act x) d ∙ core.tickets_room ∙ sym opened.bodies;
-          whole = (ap (λ (l : Limits). l.room) opened.limits ∙ core.whole.0 ∙ ap (λ (l : Limits). l.entries) (sym opened.limits), stopped_same (next_act x) d ∙ core.whole.1);
+          few = few_after (next_act x) d;
+          lasts = stopped_same (next_act x) d ∙ core.lasts;
+          fits = core.fits;
         }
 
     stock_after : stock_of c'.machines c'.book.bodies ≡ stock_of c.machines c.book.bodies

@@ -12,6 +12,7 @@ use Rattle.std.specs.List.{slice_get}
 use Rattle.std.specs.Option.{option_copied_mut, option_map}
 use Rattle.gmp_base.specs.declared.number.GNo.{GNo}
 use Rattle.gmp_base.specs.declared.number.MNo.{MNo}
+use Rattle.gmp_seq.specs.declared.call.Entry.{Entry}
 use Rattle.gmp_driver.specs.declared.place.Place.{Place}
 use Rattle.gmp_driver.specs.declared.place.Place.TheVariants as place
 use Rattle.gmp_driver.specs.declared.registers.CalledParts.{CalledParts}
@@ -28,8 +29,8 @@ use Rattle.gmp_acts.specs.System.{called_number, held_number, machine_at}
 use Rattle.gmp_acts.proofs.Lands.{some_of}
 use Rattle.gmp_acts.proofs.Plain.{plain_fits}
 use Rattle.gmp_turn.specs.Values.{AreOut, body_in, called_body, held_body, owner_in, where_is}
-use Rattle.gmp_core.specs.Inside.{IsCore, Parts, system_of}
-use Rattle.gmp_core.specs.Whole.{IsBodyInHand, Whole, first_with, goroutine_at, goroutine_in_hand, stock_of, stock_with, values_of, with_body_in_hand}
+use Rattle.gmp_core.specs.Inside.{IsCore, Parts, joined_system_of, system_of}
+use Rattle.gmp_core.specs.Whole.{IsBodyInHand, Whole, first_with, goroutine_at, goroutine_in_hand, stock_of, stock_with, values_of, with_before, with_body_in_hand}
 use Rattle.gmp_core.proofs.Keeping.{bodies_apart}
 use Rattle.gmp_core.proofs.Stock.{first_only, first_same, nat_or, no_some, none_or_some, other_at, same_at}
 use Rattle.gmp_core.proofs.Tying.{agrees, machine_is}
@@ -173,15 +174,15 @@ module _ {M X : Type 0} (f : M → ℕ → Option X) (ms : List M) (m : ℕ) (x 
 put_here : {M : Type 0} (ms : List M) (m : ℕ) (x : M) → slice_get ms m ≡ Some x → set ms m x ≡ ms
 put_here {M = M} ms m x is = ap (λ (y : M). set ms m y) (sym (get_or_from_slice_get ms m x x is)) ∙ set-get_or ms m x
 
-fits_in : {T : Type 0} (c : Parts T) (m : MNo) (x : Machine T Unit) → slice_get c.machines m.0 ≡ Some x → IsSound (system_of c) → SuitsPlace x.place x.hand
-fits_in c m x is s = (let mine = agrees c m x is s in plain_fits x.hand x.place (mine.driver.fits (ap is_some mine.has_pass)))
+fits_in : {T : Type 0} (c : Parts T) (m : MNo) (x : Machine T Unit) → slice_get c.machines m.0 ≡ Some x → (out : List Entry) → IsSound (joined_system_of out c) → SuitsPlace x.place x.hand
+fits_in c m x is out s = (let mine = agrees out c m x is s in plain_fits x.hand x.place (mine.driver.fits (ap is_some mine.has_pass)))
 
 module _ {T : Type 0} (c : Parts T) (m : MNo) (x : Machine T Unit) (is : slice_get c.machines m.0 ≡ Some x) (core : IsCore c) where
   abbrev lent : T → Parts T
   lent w = record c { machines = set c.machines m.0 (with_body x w) }
 
   either : Lends x.place x.hand ⊎ LendsNone x.place x.hand
-  either = lends_or x.place x.hand (fits_in c m x is core.sound)
+  either = lends_or x.place x.hand (fits_in c m x is core.out core.sound)
 
   plain_is : slice_get (map plain_machine c.machines) m.0 ≡ Some (plain_machine x)
   plain_is = slice_get-map plain_machine c.machines m.0 ∙ ap (λ (o : Option (Machine T Unit)). option_map plain_machine o) is
@@ -205,12 +206,15 @@ module _ {T : Type 0} (c : Parts T) (m : MNo) (x : Machine T Unit) (is : slice_g
 
   pub lent_core : (w : T) → IsCore (lent w)
   lent_core w = record {
-    sound = subst IsSound (sym (system_same w)) core.sound;
-    watchful = subst IsWatchful (sym (system_same w)) core.watchful;
+    out = core.out;
+    sound = subst IsSound (sym (ap (with_before core.out) (system_same w))) core.sound;
+    watchful = subst IsWatchful (sym (ap (with_before core.out) (system_same w))) core.watchful;
     bodies = still_out (λ (y : Machine T Unit). body_in y.hand) (with_body x w) c.book.bodies (λ i. still_in x.place x.hand w i either) core.bodies;
     owners = still_out (λ (y : Machine T Unit). owner_in y.hand) (with_body x w) c.book.owners (λ i some. subst (λ (o : ℕ → Option Unit). IsSome (o i)) (owner_same x.place x.hand w) some) core.owners;
     tickets_room = core.tickets_room;
-    whole = core.whole;
+    few = core.few;
+    lasts = core.lasts;
+    fits = core.fits;
   }
 
   pub same_core : IsCore (record c { machines = set c.machines m.0 x })
@@ -230,7 +234,7 @@ module _ {T : Type 0} (c : Parts T) (m : MNo) (x : Machine T Unit) (is : slice_g
     others n y ne at = by (none_or_some (body_in y.hand l.g.0)) where
       by : (body_in y.hand l.g.0 ≡ None) ⊎ IsSome (body_in y.hand l.g.0) → body_in y.hand l.g.0 ≡ None
       by (inl none) = none
-      by (inr some) = absurd (no_some (body_in x.hand l.g.0) (bodies_apart c m x is core.sound n l.g.0 y ne at some) (ap is_some l.found))
+      by (inr some) = absurd (no_some (body_in x.hand l.g.0) (bodies_apart core.out c m x is core.sound n l.g.0 y ne at some) (ap is_some l.found))
 
     stocked_at : slice_get stock l.g.0 ≡ Some (Some l.body)
     stocked_at = stocked (λ (y : Machine T Unit). body_in y.hand) c.machines m.0 x c.book.bodies is l.g.0 within others l.body l.found

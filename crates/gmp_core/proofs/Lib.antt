@@ -1,3 +1,4 @@
+pub mod Before
 pub mod Rings
 pub mod Landing
 pub mod Stealing

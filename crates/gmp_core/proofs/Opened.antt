@@ -17,7 +17,6 @@ use Rattle.gmp_acts.specs.System.{System}
 use Rattle.gmp_acts.proofs.Watching.{opening_watchful}
 use Rattle.gmp_acts.proofs.Whole.{opening_sound}
 use Rattle.gmp_turn.specs.Values.{AreOut, body_in, owner_in}
-use Rattle.gmp_turn.specs.Whole.{IsWholeRun}
 use Rattle.gmp_core.specs.Inside.{IsCore, Parts, system_of}
 use Rattle.gmp_core.specs.Opening.{at_start}
 use Rattle.gmp_core.specs.Queues.{Rings}
@@ -72,14 +71,17 @@ module _ {T : Type 0} (run : ℕ) (limits : Limits) (capacities : List ℕ) (bod
   nothing_out f places none m x is i some = absurd (no_some (f x i) (none x i (hand_empty limits.procs (opening_passes run limits.machines) m x is)) some)
 
   pub opening_core : (rings : Rings) → rings.queues ≡ (opening_system run limits (length bodies) capacities).queues → AreLimits limits (length bodies) capacities
-      → limits.room ≡ limits.entries → rings.room ≡ length bodies → IsCore (c rings)
-  opening_core rings queues within whole tickets = record {
+      → rings.room ≡ length bodies → IsCore (c rings)
+  opening_core rings queues within tickets = record {
+    out = [];
     sound = rw (opening_is rings queues) (opening_sound run limits (length bodies) capacities within);
     watchful = rw (opening_is rings queues) (opening_watchful run limits (length bodies) capacities within);
     bodies = nothing_out (λ (x : Machine T Unit). body_in x.hand) book.bodies (λ x i e. ap (λ h. body_in h i) e);
     owners = nothing_out (λ (x : Machine T Unit). owner_in x.hand) book.owners (λ x i e. ap (λ h. owner_in h i) e);
     tickets_room = tickets;
-    whole = (whole, refl);
+    few = omega arith;
+    lasts = refl;
+    fits = λ i d within. absurd (omega (arith, within));
   }
 
   pub opening_stock : stock_of machines book.bodies ≡ map Some bodies
@@ -90,8 +92,8 @@ module _ {T : Type 0} (run : ℕ) (limits : Limits) (capacities : List ℕ) (bod
       ∙ listed (map Some bodies) None
 
 -- why the book is not opened is why the core is not
-pub why_whole : (limits : Limits) (bodies owners : ℕ) (capacities : List ℕ) (why : Refusal) → owners ≡ limits.procs → limits.room ≡ limits.entries
-    → WhyUnopened (MayOpen limits bodies capacities owners) why → WhyUnopened (IsWholeRun limits bodies capacities) why
-why_whole limits bodies owners capacities BadLimits count whole out = λ within. out (within.0, count)
-why_whole limits bodies owners capacities OutOfMemory count whole may = (may.0, whole)
-why_whole limits bodies owners capacities _ count whole none = absurd none
+pub why_core : (limits : Limits) (bodies owners : ℕ) (capacities : List ℕ) (why : Refusal) → owners ≡ limits.procs
+    → WhyUnopened (MayOpen limits bodies capacities owners) why → WhyUnopened (AreLimits limits bodies capacities) why
+why_core limits bodies owners capacities BadLimits count out = λ within. out (within, count)
+why_core limits bodies owners capacities OutOfMemory count may = may.0
+why_core limits bodies owners capacities _ count none = absurd none

@@ -1,6 +1,7 @@
 -- An act at a machine's desk, for the core as a whole.
-use Rattle.std.proofs.Common.{rules, All, ◌≡◌, ◌≢◌, ◌⊎◌, ◌<◌, true, [], length, get_or, refl, sym, ap, ◌∙◌, arith, Option, Some, None, IsSome, is_some, Result, Ok, ℕ, List, subst, ◌+◌, ◌++◌, ◌∷◌, Err}
-use Rattle.std.proofs.lemmas.List.{append_cancel_left, length_push}
+use Rattle.std.proofs.Common.{rules, All, ◌≡◌, ◌≢◌, ◌⊎◌, inl, inr, ◌<◌, ◌||◌, Bool, true, false, not, [], length, get_or, refl, sym, ap, ◌∙◌, arith, Option, Some, None, IsSome, is_some, Result, Ok, ℕ, List, subst, ◌+◌, ◌++◌, ◌∷◌, Err}
+use Rattle.std.proofs.lemmas.List.Elements.{All-append}
+use Rattle.std.proofs.lemmas.List.{append_assoc, append_cancel_left, length-map, length_push}
 use Rattle.std.proofs.lemmas.Option.{slice_get-get_or}
 use Rattle.std.specs.List.{slice_get}
 use Rattle.std.specs.Option.{option_map}
@@ -10,10 +11,14 @@ use Rattle.gmp_base.specs.declared.number.Readiness.{Readiness}
 use Rattle.gmp_base.specs.declared.refusal.Refusal.{Refusal}
 use Rattle.gmp_seq.specs.declared.call.Call.{Call}
 use Rattle.gmp_seq.specs.declared.call.Entry.{Entry}
+use Rattle.gmp_seq.specs.declared.call.Outcome.{Outcome}
 use Rattle.gmp_seq.specs.declared.call.Reply.{Reply}
+use Rattle.gmp_seq.specs.Fits.{Fits}
+use Rattle.gmp_seq.specs.Needs.{WantsMemory}
 use Rattle.gmp_seq.specs.Table.{is_outstanding, is_shelved}
 use Rattle.gmp_table.specs.Kept.{IsListing}
 use Rattle.gmp_journal.specs.Grants.{Chooses}
+use Rattle.gmp_journal.specs.Log.{is_over}
 use Rattle.gmp_book.specs.Book.{BookContents}
 use Rattle.gmp_driver.specs.declared.act.Act.{Act}
 use Rattle.gmp_driver.specs.declared.act.Act.TheVariants as act
@@ -28,12 +33,12 @@ use Rattle.gmp_acts.specs.declared.choice.Choice.{Choice}
 use Rattle.gmp_acts.specs.Acts.{Acts, HasFewCases}
 use Rattle.gmp_acts.specs.Hands.{PlainMachine, plain_held, plain_machine}
 use Rattle.gmp_acts.specs.Headline.{NoClaimIsRefused, SameOpening}
-use Rattle.gmp_acts.specs.Lookouts.{NoWorkIsAsleep}
-use Rattle.gmp_acts.specs.Sound.{Agrees}
-use Rattle.gmp_acts.specs.System.{System, count_of, machine_at}
+use Rattle.gmp_acts.specs.Lookouts.{IsWatchful, NoWorkIsAsleep}
+use Rattle.gmp_acts.specs.Sound.{Agrees, IsSound}
+use Rattle.gmp_acts.specs.System.{BookRun, System, count_of, machine_at}
 use Rattle.gmp_acts.proofs.Claimed.{no_claim_refused}
 use Rattle.gmp_acts.proofs.Losing.{entry_or_memory}
-use Rattle.gmp_acts.proofs.Moving.{own_within}
+use Rattle.gmp_acts.proofs.Moving.{act_sound, own_within}
 use Rattle.gmp_acts.proofs.Onward.{act_opened}
 use Rattle.gmp_acts.proofs.Plain.{number_plain, plain_fits}
 use Rattle.gmp_acts.proofs.Room.{push_has_room}
@@ -43,10 +48,11 @@ use Rattle.gmp_turn.specs.Turns.{Turns}
 use Rattle.gmp_turn.specs.Values.{AreOut, body_in, owner_in}
 use Rattle.gmp_turn.proofs.Kept.{kept_at_end, turned}
 use Rattle.gmp_core.specs.Doing.{Desk, Does}
-use Rattle.gmp_core.specs.Inside.{IsCore, Parts, system_of}
-use Rattle.gmp_core.specs.Whole.{HeadlineOf, NoCallIsRefused, TakesFixed, stock_of}
+use Rattle.gmp_core.specs.Inside.{IsCore, Parts, joined_system_of, system_of}
+use Rattle.gmp_core.specs.Whole.{EntersCall, HasRoom, HeadlineOf, IsKept, IsWhole, NoCallIsRefused, TakesFixed, stock_of}
+use Rattle.gmp_core.proofs.Before.{acts_before, hands_out}
 use Rattle.gmp_core.proofs.Keeping.{kept_after, one_in_hand}
-use Rattle.gmp_core.proofs.Tying.{agrees, does, is_there, machine_is, next_plain, over, parts_after, tickets}
+use Rattle.gmp_core.proofs.Tying.{agrees, does, is_there, joined_total, kept_room, machine_is, none_out, next_plain, over, parts_after, tickets}
 
 surrender_taken : {T Q : Type 0} (x x' : Machine T Q) (book book' : BookContents T Q) (which : Option Value) (result : Result Unit Refusal) → x.run ≡ book.log.run → book.log.state.outcome ≢ None
     → AreOut (body_in x.hand) book.bodies → AreOut (owner_in x.hand) book.owners
@@ -68,12 +74,27 @@ chosen x x' book book' m count asked word answer (Err why) t more =
     let longer : length book.log.history ≡ length book.log.history + 1 = ap (λ (l : List Entry). length l) (sym same ∙ more) ∙ length_push book.log.history _ in
     absurd (omega (arith, longer))
 
+-- What is known of all entries, for those that are left
+
+left_entry : (out before behind more : List Entry) → out ++ behind ≡ (out ++ before) ++ more → behind ≡ before ++ more
+left_entry out before behind more e = append_cancel_left out _ _ (e ∙ append_assoc out before more)
+
+left_book : (out : List Entry) (a b : BookRun) → (record a { history = out ++ a.history }) ≡ (record b { history = out ++ b.history }) → a ≡ b
+left_book out a b e = λ i. record (e i) { history = append_cancel_left out a.history b.history (ap (λ (r : BookRun). r.history) e) i }
+
+-- the core keeps the headline
+pub core_headline : {T : Type 0} (c : Parts T) → IsCore c → HeadlineOf (system_of c)
+core_headline c core = record { out = core.out; headline = headline_of (joined_system_of core.out c) core.sound; fits = core.fits; whole = none_out core.out c core.sound }
+
 module _ {T : Type 0} (c : Parts T) (m : MNo) (x : Machine T Unit) (is : slice_get c.machines m.0 ≡ Some x) (core : IsCore c) where
   abbrev k : System
   k = system_of c
 
-  mine : Agrees k.book m (plain_machine x)
-  mine = agrees c m x is core.sound
+  abbrev j : System
+  j = joined_system_of core.out c
+
+  mine : Agrees j.book m (plain_machine x)
+  mine = agrees core.out c m x is core.sound
 
   pub has_pass : IsSome x.pass
   has_pass = ap is_some mine.has_pass
@@ -84,27 +105,30 @@ module _ {T : Type 0} (c : Parts T) (m : MNo) (x : Machine T Unit) (is : slice_g
   pub finds_room : (r : Readiness) → x.hand.to_store ≡ Some r → (p : PNo) → own_processor x.hand ≡ Some p → (p.0 < length c.rings.queues) × (length (get_or c.rings.queues p.0 []) < c.rings.room)
   finds_room r stored p own =
       let at = machine_is c m x is in
-      let within : p.0 < length k.queues = own_within k m (is_there c m x is) core.sound p (ap (λ (y : PlainMachine). own_processor y.hand) at ∙ number_plain x.hand.processor ∙ own) in
-      let few : length (get_or c.rings.queues p.0 []) < k.book.bodies = push_has_room k m p r core.sound (is_there c m x is) within (ap (λ (y : PlainMachine). y.hand.to_store) at ∙ stored) in
+      let within : p.0 < length k.queues = own_within j m (is_there c m x is) core.sound p (ap (λ (y : PlainMachine). own_processor y.hand) at ∙ number_plain x.hand.processor ∙ own) in
+      let few : length (get_or c.rings.queues p.0 []) < k.book.bodies = push_has_room j m p r core.sound (is_there c m x is) within (ap (λ (y : PlainMachine). y.hand.to_store) at ∙ stored) in
       let room = core.tickets_room in
       (within, omega (arith, few, room))
 
-  module _ (choice : Choice) (now : Desk T) (few : HasFewCases choice.ask) (d : Does (next_act x) m choice (record { machine = x; book = c.book; rings = c.rings }) now) where
+  module _ (choice : Choice) (now : Desk T) (few : HasFewCases choice.ask) (room : HasRoom k) (d : Does (next_act x) m choice (record { machine = x; book = c.book; rings = c.rings }) now) where
     abbrev c' : Parts T
     c' = parts_after c m now
 
     taken : (which : Option Value) (result : Result Unit Refusal) → next_act x ≡ act.Surrender which → Surrenders x c.book which result now.machine now.book → result ≡ Ok tt
     taken which result next s =
-        surrender_taken x now.machine c.book now.book which result same_run (over c m x choice now is core.sound core.whole which next) (core.bodies m.0 x is) (core.owners m.0 x is) (tickets c m x choice now is core.sound core.whole) s
+        surrender_taken x now.machine c.book now.book which result same_run (over core.out c m x choice now is core.sound which next) (core.bodies m.0 x is) (core.owners m.0 x is) (tickets core.out c m x choice now is core.sound) s
 
     pub acts_so : Acts k m choice (system_of c')
-    acts_so = does c m x choice now is core.sound core.whole taken few d
+    acts_so = does core.out c m x choice now is core.sound core.lasts room taken few d
+
+    joined_acts : Acts j m choice (joined_system_of core.out c')
+    joined_acts = acts_before core.out k m choice (system_of c') acts_so
 
     both : IsCore c' × (stock_of c'.machines c'.book.bodies ≡ stock_of c.machines c.book.bodies)
     both =
         kept_after c m x choice now is core
         (λ asked result next t. turned x now.machine c.book now.book asked choice.word next (plain_fits x.hand x.place (mine.driver.fits has_pass)) (core.bodies m.0 x is) (core.owners m.0 x is) result t)
-        (λ which result next s. kept_at_end x c.book (one_in_hand k m x core.sound mine) (core.bodies m.0 x is) (core.owners m.0 x is) now.machine now.book which result s)
+        (λ which result next s. kept_at_end x c.book (one_in_hand j m x core.sound mine) (core.bodies m.0 x is) (core.owners m.0 x is) now.machine now.book which result s)
         acts_so d
 
     pub core_so : IsCore c'
@@ -114,10 +138,17 @@ module _ {T : Type 0} (c : Parts T) (m : MNo) (x : Machine T Unit) (is : slice_g
     stock_so = both.1
 
     pub claims_so : NoClaimIsRefused k m (system_of c')
-    claims_so = no_claim_refused k m choice (system_of c') core.sound acts_so
+    claims_so inside at fresh goes =
+        let entered = no_claim_refused j m choice (joined_system_of core.out c') core.sound joined_acts inside at fresh goes in
+        record { ticket = entered.ticket; has_ticket = entered.has_ticket; entry = left_entry core.out c.book.log.history now.book.log.history _ entered.entry }
 
     pub calls_so : NoCallIsRefused k m (system_of c')
-    calls_so asked inside next goes = entry_or_memory k m choice asked (system_of c') core.sound inside next goes acts_so
+    calls_so asked inside next goes = by (entry_or_memory j m choice asked (joined_system_of core.out c') core.sound inside next goes joined_acts) where
+      by : ((answer : Reply) × (core.out ++ now.book.log.history ≡ (core.out ++ c.book.log.history) ++ record { m = m; k = count_of k.book m; call = asked; reply = answer } ∷ []))
+          ⊎ (WantsMemory k.book.limits asked k.book.state × ((joined_system_of core.out c').book ≡ j.book))
+          → EntersCall k m asked (system_of c') ⊎ (WantsMemory k.book.limits asked k.book.state × ((system_of c').book ≡ k.book))
+      by (inl entered) = inl (entered.0, left_entry core.out c.book.log.history now.book.log.history _ entered.1)
+      by (inr wanted) = inr (wanted.0, left_book core.out (system_of c').book k.book wanted.1)
 
     pub fixed_so : IsListing is_shelved c.book.log.state.table.goroutines c.book.log.shelf → TakesFixed k m choice.word (system_of c')
     fixed_so listed asked answer inside next more =
@@ -126,13 +157,58 @@ module _ {T : Type 0} (c : Parts T) (m : MNo) (x : Machine T Unit) (is : slice_g
         (c.book.log.shelf, listed, chosen x now.machine c.book now.book m (count_of k.book m) asked choice.word answer made_so.0 made_so.1 more)
 
     pub headline_so : HeadlineOf (system_of c')
-    headline_so = headline_of (system_of c') core_so.sound
+    headline_so = core_headline c' core_so
 
     pub awake_so : NoWorkIsAsleep (system_of c')
     awake_so = core_so.watchful.awake
 
     pub opened_so : SameOpening k.book (system_of c').book
     opened_so = act_opened k m choice (system_of c') acts_so
+
+    pub whole_so : IsWhole k → IsWhole (system_of c')
+    whole_so whole = sym (joined_total core.out c' (act_sound j m choice (joined_system_of core.out c') joined_acts core.sound)) ∙ ap (λ (l : List Entry). length (l ++ now.book.log.history)) (none_out core.out c core.sound whole)
+
+-- the act of a machine that isn't there
+pub acts_none : {T : Type 0} (c : Parts T) (m : MNo) (choice : Choice) (k : System) → system_of c ≡ k → HasFewCases choice.ask → (m.0 < length c.machines → ⊥) → Acts k m choice (system_of c)
+acts_none {T = T} c m choice k is few none = subst (λ (j : System). Acts j m choice (system_of c)) is (record {
+  few = few;
+  by_place = λ inside. absurd (none (let same = length-map c.machines (plain_machine {T = T} {Q = Unit}) in omega (arith, inside, same)));
+  else_none = λ past. refl;
+})
+
+-- A core that has as much room as entries has room as long as its run lasts, unless it handed some out.
+pub core_room : {T : Type 0} (c : Parts T) → IsCore c → IsKept c.book.log.limits → IsWhole (system_of c) → HasRoom (system_of c)
+core_room c core = kept_room core.out c core.sound
+
+full_when_over : (o : Option Outcome) (stopped over : Bool) (n room : ℕ) → over ≡ (is_some o || stopped) → (o ≡ None → n < room) → n ≡ room → not over ≡ false
+full_when_over None stopped over n room is free full = (let few : n < room = free refl in absurd (omega (arith, few, full)))
+full_when_over (Some o) stopped over n room is free full = ap not is
+
+-- So its history is full only once the run is over.
+pub never_waits : {T : Type 0} (c : Parts T) → IsCore c → IsKept c.book.log.limits → IsWhole (system_of c) → (over : Bool) → over ≡ is_over c.book.log
+    → length c.book.log.history ≡ c.book.log.limits.room → not over ≡ false
+never_waits c core kept whole over is full =
+    full_when_over c.book.log.state.outcome c.book.log.stopped over (length c.book.log.history) c.book.log.limits.room is (core_room c core kept whole) full
+
+-- A core whose entries were handed out keeps what it kept.
+pub core_emptied : {T : Type 0} (c : Parts T) (book : BookContents T Unit) → IsCore c → All Fits c.book.log.history → book.log ≡ record c.book.log { history = [] }
+    → book.bodies ≡ c.book.bodies → book.owners ≡ c.book.owners → IsCore (record c { book = book })
+core_emptied {T = T} c book core fits log bodies owners = subst (λ (b : BookContents T Unit). IsCore (record c { book = b })) (sym same) kept where
+  same : book ≡ record c.book { log = record c.book.log { history = [] } }
+  same = λ i. record { log = log i; bodies = bodies i; owners = owners i }
+
+  kept : IsCore (record c { book = record c.book { log = record c.book.log { history = [] } } })
+  kept = record {
+    out = core.out ++ c.book.log.history;
+    sound = subst IsSound (sym (hands_out core.out (system_of c) core.sound)) core.sound;
+    watchful = subst IsWatchful (sym (hands_out core.out (system_of c) core.sound)) core.watchful;
+    bodies = core.bodies;
+    owners = core.owners;
+    tickets_room = core.tickets_room;
+    few = omega arith;
+    lasts = core.lasts;
+    fits = All-append Fits core.out c.book.log.history core.fits fits;
+  }
 
 -- What a reader is told
 

@@ -1,7 +1,7 @@
 -- One act at a machine's desk is that act of all machines together, and what the core keeps it keeps.
-use Rattle.std.proofs.Common.{◌≡◌, ◌≢◌, ◌⊎◌, inl, inr, ◌+◌, ◌<◌, ◌≤◌, ◌++◌, [], ◌∷◌, ◌&&◌, ◌==◌, Bool, true, if◌then◌else◌, List, map, length, set, refl, sym, ap, ◌∙◌, subst, arith, Option, Some, None, is_some, Result, Ok, Err}
+use Rattle.std.proofs.Common.{◌≡◌, ◌≢◌, ◌⊎◌, inl, inr, ◌+◌, ◌<◌, ◌≤◌, ◌++◌, [], ◌∷◌, ◌&&◌, ◌==◌, Bool, true, false, if◌then◌else◌, List, map, length, set, refl, sym, ap, ◌∙◌, subst, arith, Option, Some, None, is_some, Result, Ok, Err}
 use Rattle.std.proofs.lemmas.Bool.{eq-eqb}
-use Rattle.std.proofs.lemmas.List.{map-set, set-get_or}
+use Rattle.std.proofs.lemmas.List.{length-append, nil_from_length, map-set, set-get_or}
 use Rattle.std.proofs.lemmas.Option.{get_or_from_slice_get, slice_get-map, slice_get_within}
 use Rattle.std.specs.List.{slice_get}
 use Rattle.std.specs.Option.{option_map}
@@ -10,6 +10,7 @@ use Rattle.gmp_base.specs.declared.number.PNo.{PNo}
 use Rattle.gmp_base.specs.declared.number.Readiness.{Readiness}
 use Rattle.gmp_base.specs.declared.refusal.Refusal.{Refusal}
 use Rattle.gmp_seq.specs.declared.call.Call.{Call}
+use Rattle.gmp_seq.specs.declared.call.Entry.{Entry}
 use Rattle.gmp_seq.specs.declared.call.Outcome.{Outcome}
 use Rattle.gmp_seq.specs.declared.call.Reply.{Reply}
 use Rattle.gmp_seq.proofs.Counts.{legal_total}
@@ -34,7 +35,7 @@ use Rattle.gmp_acts.specs.declared.made.Made.{Made}
 use Rattle.gmp_acts.specs.Acts.{Acts, Answers, DoesAct, HasFewCases, IsGranted, MakesCall, MayCall, WithQueues, drained, given_back, popped, pushed, stolen, with_local}
 use Rattle.gmp_acts.specs.Hands.{PlainMachine, plain, plain_machine}
 use Rattle.gmp_acts.specs.Sound.{Agrees, IsEnd, IsSound}
-use Rattle.gmp_acts.specs.System.{BookRun, System, in_hand, is_ticket, machine_at, no_machine}
+use Rattle.gmp_acts.specs.System.{BookRun, System, count_of_all, in_hand, is_ticket, machine_at, no_machine}
 use Rattle.gmp_acts.proofs.Granted.{granted, ticket_is_out}
 use Rattle.gmp_acts.proofs.Local.{Finds, finds}
 use Rattle.gmp_acts.proofs.Moving.{act_sound}
@@ -46,8 +47,10 @@ use Rattle.gmp_turn.proofs.Acting.{accepted}
 use Rattle.gmp_turn.proofs.Giving.{given}
 use Rattle.gmp_turn.proofs.Refusing.{stopped, unmade}
 use Rattle.gmp_core.specs.Doing.{Desk, Does, Locally}
-use Rattle.gmp_core.specs.Inside.{IsKeptWhole, Parts, system_of}
+use Rattle.gmp_core.specs.Inside.{Parts, joined_system_of, system_of}
 use Rattle.gmp_core.specs.Queues.{Rings}
+use Rattle.gmp_core.specs.Whole.{HasRoom, IsKept, IsWhole, with_before}
+use Rattle.gmp_core.proofs.Before.{acts_before, granted_here, own_left}
 
 none_or_outcome : (o : Option Outcome) → (o ≡ None) ⊎ (o ≢ None)
 none_or_outcome None = inl refl
@@ -100,12 +103,34 @@ machine_is {T = T} c m x is = get_or_from_slice_get (map plain_machine c.machine
 pub is_there : {T : Type 0} (c : Parts T) (m : MNo) (x : Machine T Unit) → slice_get c.machines m.0 ≡ Some x → m.0 < length (system_of c).machines
 is_there {T = T} c m x is = slice_get_within (map plain_machine c.machines) m.0 (plain_machine x) (slice_get-map plain_machine c.machines m.0 ∙ ap (λ (o : Option (Machine T Unit)). option_map plain_machine o) is)
 
-pub agrees : {T : Type 0} (c : Parts T) (m : MNo) (x : Machine T Unit) → slice_get c.machines m.0 ≡ Some x → IsSound (system_of c) → Agrees (system_of c).book m (plain_machine x)
-agrees c m x is s = subst (Agrees (system_of c).book m) (machine_is c m x is) (s.each m (is_there c m x is))
+pub agrees : {T : Type 0} (out : List Entry) (c : Parts T) (m : MNo) (x : Machine T Unit) → slice_get c.machines m.0 ≡ Some x → IsSound (joined_system_of out c)
+    → Agrees (joined_system_of out c).book m (plain_machine x)
+agrees out c m x is s = subst (Agrees (joined_system_of out c).book m) (machine_is c m x is) (s.each m (is_there c m x is))
 
-module _ {T : Type 0} (c : Parts T) (m : MNo) (x : Machine T Unit) (choice : Choice) (now : Desk T) (is : slice_get c.machines m.0 ≡ Some x) (s : IsSound (system_of c)) (whole : IsKeptWhole c.book.log) where
+module _ {T : Type 0} (out : List Entry) (c : Parts T) (s : IsSound (joined_system_of out c)) where
+  -- all entries, those that were handed out and those that are left, are as many as calls were made
+  pub joined_total : length (out ++ c.book.log.history) ≡ count_of_all (system_of c).book
+  joined_total = let j = joined_system_of out c in sym (legal_total j.book.limits j.book.bodies j.book.capacities j.book.history j.book.state s.legal)
+
+  -- where as many are left as calls were made none was handed out
+  pub none_out : IsWhole (system_of c) → out ≡ []
+  none_out whole = nil_from_length out (let total = joined_total in let all = length-append out c.book.log.history in omega (arith, total, all, whole))
+
+  -- as long as the run lasts, and none was handed out, there is room for another one where there is as much room as entries
+  pub kept_room : IsKept c.book.log.limits → IsWhole (system_of c) → HasRoom (system_of c)
+  kept_room kept whole goes =
+      let j = joined_system_of out c in
+      let more = (legal_in_order j.book.limits j.book.bodies j.book.capacities j.book.history j.book.state s.within s.legal).together.ongoing goes in
+      let same : c.book.log.limits.room ≡ c.book.log.limits.entries = kept in
+      let left : count_of_all (system_of c).book ≡ length c.book.log.history = whole in
+      omega (arith, more, same, left)
+
+module _ {T : Type 0} (out : List Entry) (c : Parts T) (m : MNo) (x : Machine T Unit) (choice : Choice) (now : Desk T) (is : slice_get c.machines m.0 ≡ Some x) (s : IsSound (joined_system_of out c)) where
   abbrev k : System
   k = system_of c
+
+  abbrev j : System
+  j = joined_system_of out c
 
   abbrev old : Desk T
   old = record { machine = x; book = c.book; rings = c.rings }
@@ -116,8 +141,8 @@ module _ {T : Type 0} (c : Parts T) (m : MNo) (x : Machine T Unit) (choice : Cho
   inside : m.0 < length k.machines
   inside = is_there c m x is
 
-  mine : Agrees k.book m (plain_machine x)
-  mine = agrees c m x is s
+  mine : Agrees j.book m (plain_machine x)
+  mine = agrees out c m x is s
 
   fits : SuitsPlace x.place x.hand
   fits = plain_fits x.hand x.place (mine.driver.fits (ap is_some mine.has_pass))
@@ -135,31 +160,25 @@ module _ {T : Type 0} (c : Parts T) (m : MNo) (x : Machine T Unit) (choice : Cho
   may = record { pass = mine.pass; has_pass = mine.has_pass; run = mine.run.1; its = mine.its; turn = mine.turn; seen = mine.seen }
 
   grants : (asked : Call) → next_act x ≡ act.Call asked → k.book.state.outcome ≡ None → IsGranted (plain_machine x) m asked k.book
-  grants asked next goes = subst (λ (p : PlainMachine). IsGranted p m asked k.book) at (granted k m asked inside s (ap next_act at ∙ next_plain x ∙ next) goes)
+  grants asked next goes = granted_here out (plain_machine x) m asked k.book (subst (λ (p : PlainMachine). IsGranted p m asked j.book) at (granted j m asked inside s (ap next_act at ∙ next_plain x ∙ next) goes))
 
   there : m.0 < c.book.log.limits.machines
   there = let l = inside in let e = s.count in omega (arith, l, e)
 
-  -- as long as the run lasts there is room for another entry: none was handed out
-  room : c.book.log.state.outcome ≡ None → length c.book.log.history < c.book.log.limits.room
-  room goes =
-      let made = legal_total k.book.limits k.book.bodies k.book.capacities k.book.history k.book.state s.legal in
-      let more = (legal_in_order k.book.limits k.book.bodies k.book.capacities k.book.history k.book.state s.within s.legal).together.ongoing goes in
-      let same = whole.0 in omega (arith, made, more, same)
-
-  answers : (asked : Call) (result : Result Reply Refusal) → next_act x ≡ act.Call asked → Turns x c.book asked choice.word result now.machine now.book
-      → Answers (plain_machine x) m asked k.book k.own (plain_machine now.machine) (run_of now.book.log) (with_made k.own (made_by m asked result))
-  answers asked (Ok answer) next t =
-      inl (accepted x now.machine c.book now.book m asked choice.word answer k.own next fits (grants asked next t.records.step.0) t)
-  answers asked (Err why) next t = elim (none_or_outcome c.book.log.state.outcome) [
-    | inl goes ↦ inr (inr (inl (unmade x now.machine c.book now.book m asked choice.word why k.own next fits mine.run.0 there may t goes whole.1 (room goes) (grants asked next goes))))
-    | inr over ↦ inr (inl (stopped x now.machine c.book now.book m asked choice.word why k.own next fits mine.run.0 there may t over))
-  ]
+  module _ (goes_on : c.book.log.stopped ≡ false) (room : HasRoom k) where
+    answers : (asked : Call) (result : Result Reply Refusal) → next_act x ≡ act.Call asked → Turns x c.book asked choice.word result now.machine now.book
+        → Answers (plain_machine x) m asked k.book k.own (plain_machine now.machine) (run_of now.book.log) (with_made k.own (made_by m asked result))
+    answers asked (Ok answer) next t =
+        inl (accepted x now.machine c.book now.book m asked choice.word answer k.own next fits (grants asked next t.records.step.0) t)
+    answers asked (Err why) next t = elim (none_or_outcome c.book.log.state.outcome) [
+      | inl goes ↦ inr (inr (inl (unmade x now.machine c.book now.book m asked choice.word why k.own next fits mine.run.0 there may t goes goes_on (room goes) (grants asked next goes))))
+      | inr over ↦ inr (inl (stopped x now.machine c.book now.book m asked choice.word why k.own next fits mine.run.0 there may t over))
+    ]
 
   -- What is given back
 
   pub tickets : (r : Readiness) → (x.hand.to_claim ≡ Some r) ⊎ (x.hand.to_store ≡ Some r) → is_outstanding c.book.log.state.table r ≡ true
-  tickets r has = is_out_outstanding c.book.log.state.table r (ticket_is_out k m r s inside (subst (λ (p : PlainMachine). 1 ≤ in_hand r p.hand) (sym at) (in_hand_by r x.hand.to_claim x.hand.to_store has)))
+  tickets r has = is_out_outstanding c.book.log.state.table r (ticket_is_out j m r s inside (subst (λ (p : PlainMachine). 1 ≤ in_hand r p.hand) (sym at) (in_hand_by r x.hand.to_claim x.hand.to_store has)))
 
   pub over : (which : Option Value) → next_act x ≡ act.Surrender which → c.book.log.state.outcome ≢ None
   over which next =
@@ -188,18 +207,19 @@ module _ {T : Type 0} (c : Parts T) (m : MNo) (x : Machine T Unit) (choice : Cho
         ∙ ap (λ (o : Option Made). let j : System = record (system_of (parts_after c m old)) { own = with_made k.own o } in j) none
         ∙ ap (λ (l : List (Machine T Unit)). system_of (record c { machines = l })) set_itself
 
-    calls : (asked : Call) → next_act x ≡ act.Call asked → DoesBy (act.Call asked) m choice old now made → MakesCall k m asked k'
-    calls asked next d =
+    calls : c.book.log.stopped ≡ false → HasRoom k → (asked : Call) → next_act x ≡ act.Call asked → DoesBy (act.Call asked) m choice old now made → MakesCall k m asked k'
+    calls goes_on room asked next d =
         let own' = with_made k.own (made_by m asked d.0.0) in (
           plain_machine now.machine,
           run_of now.book.log,
           own',
-          subst (λ (p : PlainMachine). Answers p m asked k.book k.own (plain_machine now.machine) (run_of now.book.log) own') (sym at) (answers asked d.0.0 next d.0.1),
+          subst (λ (p : PlainMachine). Answers p m asked k.book k.own (plain_machine now.machine) (run_of now.book.log) own') (sym at) (answers goes_on room asked d.0.0 next d.0.1),
           after_is ∙ ap (λ (r : Rings). sys (run_of now.book.log) (plain_machine now.machine, r.queues) (with_made k.own made)) d.0.2
               ∙ ap (λ (o : Option Made). sys (run_of now.book.log) (plain_machine now.machine, k.queues) (with_made k.own o)) d.1,
         )
 
-    module _ (taken : (which : Option Value) (result : Result Unit Refusal) → next_act x ≡ act.Surrender which → Surrenders x c.book which result now.machine now.book → result ≡ Ok tt) where
+    module _ (goes_on : c.book.log.stopped ≡ false) (room : HasRoom k)
+        (taken : (which : Option Value) (result : Result Unit Refusal) → next_act x ≡ act.Surrender which → Surrenders x c.book which result now.machine now.book → result ≡ Ok tt) where
       gives_back : (which : Option Value) → next_act x ≡ act.Surrender which → DoesBy (act.Surrender which) m choice old now made → k' ≡ sys k.book (given_back (plain_machine x) which, k.queues) k.own
       gives_back which next d =
           let g = given x now.machine c.book now.book which (subst (λ (r : Result Unit Refusal). Surrenders x c.book which r now.machine now.book) (taken which d.0.0 next d.0.1) d.0.1) in
@@ -217,7 +237,7 @@ module _ {T : Type 0} (c : Parts T) (m : MNo) (x : Machine T Unit) (choice : Cho
       with_machine f e = e ∙ ap f (sym at)
 
       does_act : (a : Act) → next_act x ≡ a → DoesBy a m choice old now made → DoesAct a k m choice k'
-      does_act (act.Call asked) next d = calls asked next d
+      does_act (act.Call asked) next d = calls goes_on room asked next d
       does_act act.Pop next d = with_machine (λ (p : PlainMachine). with_local k m (popped p k.queues)) (locally _ d.0 d.1)
       does_act act.Drain next d = with_machine (λ (p : PlainMachine). with_local k m (drained p k.queues)) (locally _ d.0 d.1)
       does_act act.Push next d = with_machine (λ (p : PlainMachine). with_local k m (pushed p k.queues p.hand.to_store choice.push_refused)) (locally _ d.0 d.1)
@@ -239,9 +259,11 @@ module _ {T : Type 0} (c : Parts T) (m : MNo) (x : Machine T Unit) (choice : Cho
       }
 
   -- The calls that were made are those of the history, after the act as before it.
-  pub does : ((which : Option Value) (result : Result Unit Refusal) → next_act x ≡ act.Surrender which → Surrenders x c.book which result now.machine now.book → result ≡ Ok tt)
+  pub does : c.book.log.stopped ≡ false → HasRoom k
+      → ((which : Option Value) (result : Result Unit Refusal) → next_act x ≡ act.Surrender which → Surrenders x c.book which result now.machine now.book → result ≡ Ok tt)
       → HasFewCases choice.ask → Does (next_act x) m choice old now → Acts k m choice (system_of (parts_after c m now))
-  does taken few d =
+  does goes_on room taken few d =
       let made : Option Made = made_in (next_act x) m choice old now d in
-      let acts : Acts k m choice (k' made) = does_so made taken few (d, refl) in
-      subst (λ (l : List Made). Acts k m choice (record (system_of (parts_after c m now)) { own = l })) (sym (act_sound k m choice (k' made) acts s).own) acts
+      let acts : Acts k m choice (k' made) = does_so made goes_on room taken few (d, refl) in
+      let sound : IsSound (with_before out (k' made)) = act_sound j m choice (with_before out (k' made)) (acts_before out k m choice (k' made) acts) s in
+      subst (λ (l : List Made). Acts k m choice (record (system_of (parts_after c m now)) { own = l })) (sym (own_left out (k' made) sound)) acts

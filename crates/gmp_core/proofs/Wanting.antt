@@ -76,5 +76,5 @@ reads x place.Done hand f = refl
 pub reads_of_body : {T : Type 0} (c : Parts T) (m : MNo) (x : Machine T Unit) → slice_get c.machines m.0 ≡ Some x → IsCore c
     → is_of_body (wanted_by (next_act (machine_at (system_of c) m))) ≡ is_some (held_at (machine_at (system_of c) m).place (machine_at (system_of c) m).hand.held)
 reads_of_body c m x is core =
-    let mine = agrees c m x is core.sound in
+    let mine = agrees core.out c m x is core.sound in
     rw (machine_is c m x is) (reads (seen (plain_machine x)) x.place (plain_machine x).hand (mine.driver.fits (ap is_some mine.has_pass)))

@@ -5,3 +5,4 @@ pub mod Doing
 pub mod Inside
 pub mod Opening
 pub mod Lending
+pub mod Pieces

@@ -1,10 +1,13 @@
 -- The core as a contract sees it: its state, and the bodies of all goroutines, wherever each is.
-use Rattle.std.specs.Prelude.{◌≡◌, ◌⊎◌, ℕ, ◌<◌, Bool, true, false, List, [], ◌∷◌, ◌++◌, map, length, Option, None, Some, slice_get, slice_index_or, slice_set}
+use Rattle.std.specs.Prelude.{◌≡◌, ◌⊎◌, ℕ, ◌<◌, All, Bool, true, false, List, [], ◌∷◌, ◌++◌, map, length, Option, None, Some, slice_get, slice_index_or, slice_set}
 use Rattle.std.specs.List.{range_with_len}
 use Rattle.gmp_base.specs.declared.number.GNo.{GNo}
 use Rattle.gmp_base.specs.declared.number.MNo.{MNo}
 use Rattle.gmp_seq.specs.declared.call.Call.{Call}
+use Rattle.gmp_seq.specs.declared.call.Entry.{Entry}
+use Rattle.gmp_seq.specs.declared.call.Limits.{Limits}
 use Rattle.gmp_seq.specs.declared.call.Reply.{Reply}
+use Rattle.gmp_seq.specs.Fits.{Fits}
 use Rattle.gmp_seq.specs.Needs.{WantsMemory}
 use Rattle.gmp_seq.specs.Table.{is_shelved}
 use Rattle.gmp_table.specs.Kept.{IsListing}
@@ -23,7 +26,7 @@ use Rattle.gmp_acts.specs.declared.choice.Choice.{Choice}
 use Rattle.gmp_acts.specs.Acts.{Acts}
 use Rattle.gmp_acts.specs.Hands.{PlainHand}
 use Rattle.gmp_acts.specs.Headline.{Headline, Lasts, NoClaimIsRefused}
-use Rattle.gmp_acts.specs.System.{System, called_number, count_of, held_number, machine_at}
+use Rattle.gmp_acts.specs.System.{System, called_number, count_of, count_of_all, held_number, machine_at, made_of}
 
 -- the state, and the stock of bodies: body g is that of goroutine g, in the book or with a machine
 pub record Whole (T : Type 0) : Type 0 where
@@ -43,9 +46,34 @@ values_of has machines places = map (λ (i : ℕ). first_of (first_with (λ (x :
 abbrev pub stock_of : {T Q : Type 0} → List (Machine T Q) → List (Option T) → List (Option T)
 stock_of {T} {Q} machines places = values_of (λ (x : Machine T Q). body_in x.hand) machines places
 
--- the headline, for what the machines began with
-abbrev pub HeadlineOf : System → Type 0
-HeadlineOf k = Headline k.book.run k.book.limits k.book.bodies k.book.capacities k
+-- A history that is handed out
+
+-- there is as much room as entries
+abbrev pub IsKept : Limits → Type 0
+IsKept limits = limits.room ≡ limits.entries
+
+-- there is room for the entry that comes next, if one comes
+abbrev pub HasRoom : System → Type 0
+HasRoom k = Lasts k (length k.book.history < k.book.limits.room)
+
+-- the system with these entries before those that are left
+abbrev pub with_before : List Entry → System → System
+with_before out k = record k { book = record k.book { history = out ++ k.book.history }; own = map made_of out ++ k.own }
+
+-- the system once the entries that were left are handed out
+abbrev pub emptied : System → System
+emptied k = record k { book = record k.book { history = [] }; own = [] }
+
+-- no entry was handed out: the history begins at the opening
+abbrev pub IsWhole : System → Type 0
+IsWhole k = count_of_all k.book ≡ length k.book.history
+
+-- The headline, for what the machines began with. It holds of the entries that were handed out and those that are left as one history.
+pub record HeadlineOf (k : System) : Type 0 where
+  pub out : List Entry
+  pub headline : Headline k.book.run k.book.limits k.book.bodies k.book.capacities (with_before out k)
+  pub fits : All Fits out
+  pub whole : IsWhole k → out ≡ []
 
 -- what the next act reads of a choice: an ask, a number, or a moment, with the deadline that it minds
 abbrev pub wanted_by : Act → Want

@@ -2,12 +2,11 @@
 //! The calls that machines made have no list here: they are those of the history, each with the reply that its machine was told. A list
 //! beside it would copy each call once more.
 ghost use Rattle.std.specs.Borrow.{sem};
-ghost use Rattle.std.specs.Prelude.{◌≡◌, All, Some, false, is_some, length, map, slice_get, IfErr, IfOk, IfSome, IsSome, OnOk};
+ghost use Rattle.std.specs.Prelude.{◌≡◌, ◌↔◌, ◌≤◌, ◌<◌, [], All, IsTrue, Some, false, true, is_some, length, map, slice_get, take, IfErr, IfOk, IfSome, IsSome, OnOk};
 ghost use Rattle.std.specs.Option.{option_map_or};
 ghost use Rattle.gmp_seq.specs.Fits.{AreLimits, Fits};
 ghost use Rattle.gmp_seq.specs.Machines.{is_parked_mode};
 ghost use Rattle.gmp_book.specs.Book.{WhyUnopened};
-ghost use Rattle.gmp_turn.specs.Whole.{IsWholeRun};
 ghost use Rattle.gmp_acts.specs.System.{made_of};
 ghost use Rattle.gmp_core.specs.Whole.{wanted_by};
 ghost use Rattle.gmp_driver.specs.Table.{next_act};
@@ -96,12 +95,11 @@ impl<T> Core<T> {
     ghost use Rattle.gmp_acts.specs.System.{machine_at};
     ghost use Rattle.gmp_driver.specs.Machine.{held_at, is_done};
     ghost use Rattle.gmp_core.specs.Lending.{lends_body};
-    ghost use Rattle.gmp_core.specs.Whole.{GrantsAll, HeadlineOf, IsBodyInHand, NoCallIsRefused, TakesFixed, is_of_body};
+    ghost use Rattle.gmp_core.specs.Whole.{GrantsAll, HasRoom, HeadlineOf, IsBodyInHand, IsKept, IsWhole, NoCallIsRefused, TakesFixed, emptied, is_of_body};
 
     /// Machines that have made no act, each at its start with nothing in hand. There is a body for each goroutine. It takes all the memory
     /// that acts need, but for a make. Refused, it hands the bodies back.
-    /// The history is kept whole, so there has to be as much room as entries. `BadLimits` comes before `OutOfMemory`. With other limits
-    /// numbers of the history might not fit their types.
+    /// `BadLimits` comes before `OutOfMemory`. With other limits numbers of the history might not fit their types.
     pub fn open(
         alloc: Global,
         run: u64,
@@ -109,14 +107,14 @@ impl<T> Core<T> {
         capacities: &[u32],
         bodies: Vec<T>,
     ) -> Result<Self, Refused<Vec<T>>>
-        ensures within { OnOk result (IsWholeRun limits (length bodies.items) capacities.now) }
-        ensures why { IfErr result (λ r. WhyUnopened (IsWholeRun limits (length bodies.items) capacities.now) r.why) }
+        ensures within { OnOk result (AreLimits limits (length bodies.items) capacities.now) }
+        ensures why { IfErr result (λ r. WhyUnopened (AreLimits limits (length bodies.items) capacities.now) r.why) }
         ensures back { IfErr result (λ r. r.back.items ≡ bodies.items) }
         ensures system { IfOk result (λ k. k.system ≡ opening_system run limits (length bodies.items) capacities.now) }
         ensures stock { IfOk result (λ k. k.stock ≡ map Some bodies.items) }
+        ensures whole { IfOk result (λ k. IsWhole k.system) }
     {
-        let is_whole = u64::from(limits.room) == limits.entries;
-        if !is_whole || !limits.allow(bodies.len(), capacities) {
+        if !limits.allow(bodies.len(), capacities) {
             return Err(Refused::of(Refusal::BadLimits, bodies));
         }
         let why = Refusal::OutOfMemory;
@@ -145,25 +143,35 @@ impl<T> Core<T> {
         }
     }
 
-    /// One act of machine m, which the place of its program names. An act of a machine that isn't there changes nothing.
+    /// One act of machine m, which the place of its program names, and whether there was room for it. An act of a machine that isn't there
+    /// changes nothing.
+    /// While the run lasts none is made where the history is full: `hand_out` makes room. Where there is as much room as entries it never is.
     /// What the body, its blocking call or the clock is to say, `wants` tells beforehand; of the rest it reads the word, and what is to go
     /// wrong. A make that is refused memory is told to the body, and the run goes on.
     #[inline(always)]
-    pub fn act(&mut self, m: MNo, choice: &Choice)
-        ensures acts { Acts self.old.system m choice.now self.new.system }
+    pub fn act(&mut self, m: MNo, choice: &Choice) -> bool
+        ensures room { IsTrue result ↔ HasRoom self.old.system }
+        ensures kept { IsKept self.old.system.book.limits → IsWhole self.old.system → result ≡ true }
+        ensures whole { IsWhole self.old.system → IsWhole self.new.system }
+        ensures full { result ≡ false → self.new ≡ self.old }
+        ensures acts { result ≡ true → Acts self.old.system m choice.now self.new.system }
         ensures stock { self.new.stock ≡ self.old.stock }
-        ensures claims { NoClaimIsRefused self.old.system m self.new.system }
-        ensures calls { NoCallIsRefused self.old.system m self.new.system }
-        ensures fixed { TakesFixed self.old.system m choice.now.word self.new.system }
+        ensures claims { result ≡ true → NoClaimIsRefused self.old.system m self.new.system }
+        ensures calls { result ≡ true → NoCallIsRefused self.old.system m self.new.system }
+        ensures fixed { result ≡ true → TakesFixed self.old.system m choice.now.word self.new.system }
         ensures headline { HeadlineOf self.new.system }
         ensures awake { NoWorkIsAsleep self.new.system }
         ensures opened { SameOpening self.old.system.book self.new.system.book }
     {
         has_few(&choice.ask);
+        if self.is_full() {
+            self.keeps();
+            return false;
+        }
         // The book lists who is on the shelf.
         let _ = self.book.history();
         let Some(driver) = self.drivers.get_mut(m.0 as usize) else {
-            return;
+            return true;
         };
         act(
             self.alloc,
@@ -173,6 +181,33 @@ impl<T> Core<T> {
             m,
             choice,
         );
+        true
+    }
+
+    /// Whether an act has to wait for a hand-out: the run lasts, and there is no room for another entry.
+    #[inline(always)]
+    pub fn is_full(&self) -> bool
+        ensures room { result ≡ false ↔ HasRoom self.now.system }
+        ensures kept { IsKept self.now.system.book.limits → IsWhole self.now.system → result ≡ false }
+    {
+        // Once the run is over the history may be full, and machines still give back what they hold.
+        self.book.is_full() && !self.book.is_over()
+    }
+
+    /// Hands out the entries since the last time, in their order, and takes the spare in their place. It takes no memory, and may be called
+    /// between any acts, also once the run is over. Emptied, what was handed out is a spare again.
+    pub fn hand_out(&mut self, spare: &mut History)
+        requires empty { spare.old.list ≡ [] }
+        requires room { self.old.system.book.limits.room ≤ spare.old.room }
+        requires lasting { self.old.system.book.limits.room ≤ spare.old.lasting }
+        ensures out { spare.new.list ≡ self.old.system.book.history }
+        ensures lasting { self.old.system.book.limits.room ≤ spare.new.lasting }
+        ensures rest { self.new.system ≡ emptied self.old.system }
+        ensures stock { self.new.stock ≡ self.old.stock }
+    {
+        // The history tells that its numbers fit their types.
+        let _ = self.book.history();
+        self.book.hand_out(spare);
     }
 
     /// The headline holds, and no work is left asleep: the type keeps it.
@@ -183,19 +218,27 @@ impl<T> Core<T> {
         let _ = &self.book;
     }
 
-    /// Acts in a row, each of the machine beside it. Whatever they are, the headline holds after them, and no work is left asleep.
-    pub fn run(&mut self, moves: &[(MNo, Choice)])
-        ensures acts { ActsAll self.old.system moves.now self.new.system }
-        ensures calls { GrantsAll self.old.system moves.now self.new.system }
+    /// Acts in a row, each of the machine beside it, as long as there is room, and how many of them there were. Whatever they are, the
+    /// headline holds after them, and no work is left asleep.
+    pub fn run(&mut self, moves: &[(MNo, Choice)]) -> usize
+        ensures acts { ActsAll self.old.system (take result moves.now) self.new.system }
+        ensures calls { GrantsAll self.old.system (take result moves.now) self.new.system }
+        ensures few { result ≤ length moves.now }
+        ensures full { result < length moves.now → ¬ (HasRoom self.new.system) }
+        ensures kept { IsKept self.old.system.book.limits → IsWhole self.old.system → result ≡ length moves.now }
+        ensures whole { IsWhole self.old.system → IsWhole self.new.system }
         ensures stock { self.new.stock ≡ self.old.stock }
         ensures headline { HeadlineOf self.new.system }
         ensures awake { NoWorkIsAsleep self.new.system }
         ensures opened { SameOpening self.old.system.book self.new.system.book }
     {
-        for (m, choice) in moves {
-            self.act(*m, choice);
+        for (i, (m, choice)) in moves.iter().enumerate() {
+            if !self.act(*m, choice) {
+                return i;
+            }
         }
         self.keeps();
+        moves.len()
     }
 
     /// At Run what the machine's body is to be told; at Block Done, which has no meaning; else nothing.
@@ -246,8 +289,8 @@ impl<T> Core<T> {
         }
     }
 
-    /// Every call that the book accepted with its reply, in order: each machine's are those that it made, with the replies that it was
-    /// told. Its numbers are within their types.
+    /// Every call that the book accepted since the last hand-out with its reply, in order: each machine's are those that it made, with the
+    /// replies that it was told. Its numbers are within their types.
     pub fn history(&self) -> &History
         ensures entries { result.now.list ≡ self.now.system.book.history }
         ensures own { map made_of result.now.list ≡ self.now.system.own }

@@ -18,10 +18,12 @@
 mod acting;
 mod copies;
 mod engine;
+mod laws;
 mod local;
 mod opening;
 mod queues;
 mod want;
 
 pub use engine::Core;
+pub use laws::pieces_are_one_history;
 pub use want::Want;

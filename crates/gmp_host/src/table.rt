@@ -2,6 +2,7 @@
 ghost use Rattle.std.specs.Prelude.{◌≡◌, IfErr, IfOk, IfSome, length};
 ghost use Rattle.gmp_turn.specs.Whole.{IsWholeRun};
 ghost use Rattle.gmp_acts.specs.Headline.{SameOpening};
+ghost use Rattle.gmp_core.specs.Whole.{IsWhole};
 ghost use Rattle.gmp_host.specs.Ends.{IsOfLegalRun};
 
 use crate::ending::{Ended, Short};
@@ -76,7 +77,8 @@ impl<T: InHand> Table<'_, T> {
 
     /// The machine makes its next act, of whose choice it reads what it wants, unless it is parked.
     fn act(&mut self, m: MNo)
-        ensures { SameOpening self.old.core.system.book self.new.core.system.book }
+        ensures opened { SameOpening self.old.core.system.book self.new.core.system.book }
+        ensures whole { IsWhole self.old.core.system → IsWhole self.new.core.system }
     {
         if self.core.parked(m) {
             return;
@@ -88,12 +90,14 @@ impl<T: InHand> Table<'_, T> {
             Want::Moment(minded) => choice.moment = self.moment(minded),
             Want::Nothing => {}
         }
-        self.core.act(m, &choice);
+        // All entries are kept, so there is room for each.
+        let _ = self.core.act(m, &choice);
     }
 
     /// So many machines make an act each, but for those that are parked.
     fn round(&mut self, machines: u8)
-        ensures { SameOpening self.old.core.system.book self.new.core.system.book }
+        ensures opened { SameOpening self.old.core.system.book self.new.core.system.book }
+        ensures whole { IsWhole self.old.core.system → IsWhole self.new.core.system }
     {
         for m in 0..machines {
             self.act(MNo(m));
@@ -102,6 +106,7 @@ impl<T: InHand> Table<'_, T> {
 
     /// How the run ended, if it did.
     fn ended(&self) -> Option<Ended>
+        requires { IsWhole self.now.core.system }
         ensures { IfSome result (IsOfLegalRun self.now.core.system.book.limits self.now.core.system.book.capacities
             self.now.core.system.book.bodies) }
     {
@@ -117,6 +122,7 @@ impl<T: InHand> Table<'_, T> {
     /// So many machines act in turn until the run has an outcome.
     #[tactic(auto, using(gmp_core::proofs::Moves::opened_on, crate::proofs::Openings::at_opening))]
     fn play(&mut self, machines: u8) -> Result<Ended, Short>
+        requires { IsWhole self.old.core.system }
         ensures end { IfErr result (λ e. e ≡ Short.NoEnd) }
         ensures ended { IfOk result (IsOfLegalRun self.old.core.system.book.limits self.old.core.system.book.capacities
             self.old.core.system.book.bodies) }
@@ -144,6 +150,9 @@ pub(crate) fn play_all<T: InHand>(
     ensures ended { IfOk result (IsOfLegalRun limits capacities.now (length bodies.items)) }
     ensures limits { IfErr result (λ e. e ≡ Short.BadLimits → IsWholeRun limits (length bodies.items) capacities.now → ⊥) }
 {
+    if u64::from(limits.room) != limits.entries {
+        return Err(Short::BadLimits);
+    }
     let core = match Core::open(alloc, RUN, limits, capacities, bodies) {
         Ok(core) => core,
         Err(Refused { why, back: _ }) => return Err(why.into()),

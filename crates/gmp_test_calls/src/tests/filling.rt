@@ -2,7 +2,9 @@
 //! is done holds nothing at all is a clause of the driver.
 use gmp_acts::Choice;
 use gmp_base::{Body, MNo};
+use gmp_check::Replay;
 use gmp_core::{Core, Want};
+use gmp_history::History;
 use gmp_script::ScriptBody;
 use gmp_seq::{Limits, Outcome};
 use gmp_words::script;
@@ -82,6 +84,79 @@ fn opened(
     }
 }
 
+/// What the core hands out: steps that go on where those before stop.
+fn follow(
+    rt: &impl Abort,
+    alloc: Global,
+    core: &mut Core<ScriptBody>,
+    replay: &mut Replay,
+) -> Result<usize, Fail> {
+    // As much room as a core may have; that it has no more, its history tells.
+    let _ = core.history();
+    let mut piece = History::with_room(alloc, 1_000_000)?;
+    core.hand_out(&mut piece);
+    assert!(rt; core.history().is_empty());
+    for entry in piece.iter() {
+        assert!(rt; replay.step(&entry).ok().ok_or("memory")?, "no step");
+    }
+    Ok(piece.len())
+}
+
+/// The machines act in turn as in `play`, and each time that there is no room for another entry all are handed out. It tells how many were.
+fn play_in_pieces(
+    rt: &impl Abort,
+    alloc: Global,
+    core: &mut Core<ScriptBody>,
+    replay: &mut Replay,
+) -> Result<usize, Fail> {
+    let mut count = 0usize;
+    for _ in 0..ROUNDS {
+        for m in MACHINES {
+            if core.is_full() {
+                count = count.saturating_add(follow(rt, alloc, core, replay)?);
+            }
+            if !core.parked(m) {
+                let choice = choice(core, m);
+                assert!(rt; core.act(m, &choice), "no room");
+            }
+        }
+    }
+    Ok(count)
+}
+
+/// A run of this limit of entries that keeps 16 at a time: with what was handed out it has as many as where all are kept, and the same end.
+fn fills_in_pieces(
+    rt: &impl Abort,
+    alloc: Global,
+    row: Row,
+    entries: u32,
+) -> Result<(), Fail> {
+    let (text, procs, whole) = row;
+    let limits = Limits {
+        procs,
+        machines: 2,
+        channels: 16,
+        entries: u64::from(entries),
+        room: 16,
+    };
+    let mut core = opened(rt, alloc, text, limits)?;
+    let bodies = script(alloc, &mut text.as_bytes())
+        .ok()
+        .ok_or("the script")?
+        .bodies
+        .len() as u16;
+    let mut replay = Replay::open(alloc, limits, bodies, &[]).ok().ok_or("limits")?;
+    let handed = play_in_pieces(rt, alloc, &mut core, &mut replay)?;
+    let left = follow(rt, alloc, &mut core, &mut replay)?;
+    let all = handed.saturating_add(left);
+    assert_eq!(rt; all, whole.min(entries as usize), "{entries}: {text}");
+    assert!(rt; handed == 16 || all == 16, "{entries}: {text}");
+    assert!(rt; are_done(&core), "{entries}: {text}");
+    assert_eq!(rt; replay.outcome(), core.outcome(), "{entries}: {text}");
+    assert!(rt; core.close().is_some(), "{entries}: {text}");
+    Ok(())
+}
+
 /// A run under this limit of entries: it has as many, or all that the script makes, and ends by main where these fit.
 fn fills(rt: &impl Abort, alloc: Global, row: Row, entries: u32) -> Result<(), Fail> {
     let (text, procs, whole) = row;
@@ -111,6 +186,7 @@ fn a_full_book_leaves_nobody_at_work(rt: HostRuntime) -> Result<(), Fail> {
     for row in ROWS {
         for entries in 16..=24u32 {
             fills(&rt, rt.alloc(), row, entries)?;
+            fills_in_pieces(&rt, rt.alloc(), row, entries)?;
         }
     }
     Ok(())

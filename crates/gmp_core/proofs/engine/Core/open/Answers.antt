@@ -1,7 +1,7 @@
 use Rattle.std.proofs.Common.{◌≡◌, ◌≤◌, [], List, length, ap, ◌∙◌, arith, rules, replicate, vec_capacity}
 use Rattle.gmp_base.specs.declared.pass.Pass.{Pass}
 use Rattle.gmp_seq.specs.Fits.{AreLimits}
-use Rattle.gmp_core.proofs.Opened.{opening_core, opening_is, opening_stock, passes_long, why_whole}
+use Rattle.gmp_core.proofs.Opened.{opening_core, opening_is, opening_stock, passes_long, why_core}
 use Rattle.gmp_core.proofs.engine.Core.open.Goals as goal
 
 pub starting-requires-clause-room : goal.starting-requires-clause-room
@@ -13,11 +13,10 @@ starting-requires-clause-room g c =
 pub invariant_of-result : goal.invariant_of-result
 invariant_of-result g c =
     let within : AreLimits c.args.limits (length c.args.bodies.items) c.args.capacities.now = c.in-Ok-open.ensures.within.0 in
-    let whole : c.args.limits.room ≡ c.args.limits.entries = search rules in
     let queues : c.in-Ok.queues.queues ≡ replicate c.args.limits.procs [] = search rules in
     let room : c.in-Ok.queues.room ≡ length c.args.bodies.items = search rules in
     rw (c.in-Ok-open.ensures.book, c.starting.ensures, c.in-Ok-open.ensures.passes)
-    (opening_core c.args.run c.args.limits c.args.capacities.now c.args.bodies.items c.in-Ok-vec.owners.items c.in-Ok.queues queues within whole room)
+    (opening_core c.args.run c.args.limits c.args.capacities.now c.args.bodies.items c.in-Ok-vec.owners.items c.in-Ok.queues queues within room)
 
 pub returns-in-Ok-open-clause-system : goal.returns-in-Ok-open-clause-system
 returns-in-Ok-open-clause-system g c =
@@ -32,7 +31,6 @@ returns-in-Ok-open-clause-stock g c =
 
 pub returns-in-Err-clause-why : goal.returns-in-Err-clause-why
 returns-in-Err-clause-why g c =
-    let whole : c.args.limits.room ≡ c.args.limits.entries = search rules in
     let count : length c.in-Ok-vec.owners.items ≡ c.args.limits.procs = search rules in
-    let why = why_whole c.args.limits (length c.args.bodies.items) (length c.in-Ok-vec.owners.items) c.args.capacities.now c.in-Err.unopened.why count whole c.in-Err.ensures.why in
+    let why = why_core c.args.limits (length c.args.bodies.items) (length c.in-Ok-vec.owners.items) c.args.capacities.now c.in-Err.unopened.why count c.in-Err.ensures.why in
     rw c.of-in-Err.ensures why
