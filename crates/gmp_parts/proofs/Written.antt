@@ -8,6 +8,7 @@ use Rattle.gmp_seq.proofs.Counts.{legal_total}
 use Rattle.gmp_seq.proofs.Runs.{run_join}
 use Rattle.gmp_seq.specs.declared.call.Entry.{Entry}
 use Rattle.gmp_seq.specs.declared.call.Limits.{Limits}
+use Rattle.gmp_seq.specs.declared.call.Outcome.{Outcome}
 use Rattle.gmp_seq.specs.Fits.{Fits}
 use Rattle.gmp_seq.specs.Run.{IsLegal, Run}
 use Rattle.gmp_seq.specs.State.{State, opening}
@@ -21,13 +22,13 @@ use Rattle.gmp_check.proofs.Keeping.{opening_consistent, run_keeps}
 use Rattle.gmp_check.proofs.Texts.{segment_has_text, segment_right}
 use Rattle.gmp_check.specs.Checked.{line_of, part, start_of}
 use Rattle.gmp_check.specs.Consistent.{IsConsistentUnder}
-use Rattle.gmp_check.specs.Replayed.{IsNoStep}
+use Rattle.gmp_check.specs.Replayed.{IsNoStep, Replayed}
 use Rattle.gmp_parts.specs.Parts.{Follows, Parts, entries_of, texts}
 use Rattle.gmp_parts.specs.Parts.Parts.{NoPart, Then}
 use Rattle.gmp_parts.specs.Writing.{HasWritten, IsNextPart, IsUnderWay, StopsAt, Writing, WritesPart}
 
 -- entries follow only while the run lasts
-lasts : (limits : Limits) (a b : State) (h : List Entry) → h ≢ [] → Run limits a h b → a.outcome ≡ None
+pub lasts : (limits : Limits) (a b : State) (h : List Entry) → h ≢ [] → Run limits a h b → a.outcome ≡ None
 lasts limits a b [] some run = absurd (some refl)
 lasts limits a b (e ∷ h) some (mid, step, rest) = step.1.0
 
@@ -95,6 +96,28 @@ module _ {W : Type 0} (contents : W → Option (List ℕ)) (old new : Writing W)
             right = segment_right (part_from old old.state h new.state) way.capacities way.written old.state new.state way.range way.fits way.legal none refl run refl;
           };
         }
+
+  pub wrote : (s : State) → s ≡ old.state → Appends (contents old.out) (contents new.out) (text (part_from old s h new.state)) → new.entries ≡ old.entries + length h
+      → new.parts ≡ old.parts + 1 → (new.limits ≡ old.limits) × (new.bodies ≡ old.bodies) → (old.failed ≡ None) × (new.failed ≡ None) → WritesPart contents old h new
+  wrote s begins appended entries parts same works =
+      record { part = part_from old s h new.state; next = next_from s begins; appended = appended; entries = entries; parts = parts; same = same; works = works }
+
+-- The replay behind the part
+
+-- the state, taken without its outcome and given that again
+pub with_outcome : (next t : State) (o : Option Outcome) → next ≡ record t { outcome = None } → o ≡ t.outcome → record next { outcome = o } ≡ t
+with_outcome next t o is told =
+    ap (λ (x : State). let y : State = record x { outcome = o } in y) is ∙ ap (λ (p : Option Outcome). let y : State = record t { outcome = p } in y) told
+
+pub run_of : (r : Replayed) (limits : Limits) (s t u : State) (h k : List Entry) → r ≡ record { limits = limits; state = s } → h ≡ k → u ≡ t → Run r.limits r.state h t
+    → Run limits s k u
+run_of r limits s t u h k is same end run =
+    subst (λ (a : State). Run limits s k a) (sym end)
+    (subst (λ (l : List Entry). Run limits s l t) same (subst (λ (x : Replayed). Run x.limits x.state h t) is run))
+
+pub replay_is : (r : Replayed) (limits : Limits) (s : State) → r.limits ≡ limits → r.state ≡ s → r ≡ record { limits = limits; state = s }
+replay_is r limits s one two =
+    ap (λ (l : Limits). let x : Replayed = record { limits = l; state = r.state } in x) one ∙ ap (λ (a : State). let x : Replayed = record { limits = limits; state = a } in x) two
 
 -- A row of writes
 
