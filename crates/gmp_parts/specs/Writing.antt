@@ -65,7 +65,7 @@ pub record HasWritten {W : Type 0} (contents : W → Option (List ℕ)) (began n
   pub one_run : Run began.limits began.state (entries_of parts) now.state
   pub stops : StopsAt began parts now.state
   pub entries : now.entries ≡ began.entries + length (entries_of parts)
-  pub parts : now.parts ≡ began.parts + count parts
+  pub number : now.parts ≡ began.parts + count parts
   pub same : (now.limits ≡ began.limits) × (now.bodies ≡ began.bodies)
 
 -- Within the crate
@@ -77,10 +77,11 @@ pub record IsUnderWay (limits : Limits) (bodies entries parts : ℕ) (s : State)
   pub range : AreLimits limits bodies capacities
   pub fits : All Fits written
   pub legal : IsLegal limits bodies capacities written s
-  pub entries : entries ≡ length written
-  pub parts : parts ≤ entries
+  pub made : entries ≡ length written
+  -- a part has an entry at least
+  pub few : parts ≤ entries
 
 -- So much is kept of it. While nothing failed, the replay is in that state.
 pub record IsHeld (limits : Limits) (bodies entries parts : ℕ) (failed : Option PartError) (s : State) (replay : Replayed) : Type 0 where
   pub under_way : IsUnderWay limits bodies entries parts s
-  pub replay : failed ≡ None → replay ≡ record { limits = limits; state = s }
+  pub follows : failed ≡ None → replay ≡ record { limits = limits; state = s }
