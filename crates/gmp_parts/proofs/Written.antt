@@ -25,7 +25,7 @@ use Rattle.gmp_check.specs.Consistent.{IsConsistentUnder}
 use Rattle.gmp_check.specs.Replayed.{IsNoStep, Replayed}
 use Rattle.gmp_parts.specs.Parts.{Follows, Parts, entries_of, texts}
 use Rattle.gmp_parts.specs.Parts.Parts.{NoPart, Then}
-use Rattle.gmp_parts.specs.Writing.{HasWritten, IsNextPart, IsUnderWay, StopsAt, Writing, WritesPart}
+use Rattle.gmp_parts.specs.Writing.{BeginsAt, HasWritten, IsNextPart, IsUnderWay, StopsAt, Writing, WritesPart}
 
 -- entries follow only while the run lasts
 pub lasts : (limits : Limits) (a b : State) (h : List Entry) → h ≢ [] → Run limits a h b → a.outcome ≡ None
@@ -127,7 +127,7 @@ nothing_appended (Some xs) = sym (append-nil xs)
 
 pub none_written : {W : Type 0} (contents : W → Option (List ℕ)) (w : Writing W) → HasWritten contents w w NoPart
 none_written contents w =
-    record { in_order = tt; appended = nothing_appended (contents w.out); one_run = refl; stops = refl; entries = omega arith; number = omega arith; same = (refl, refl) }
+    record { in_order = tt; appended = nothing_appended (contents w.out); one_run = refl; begins = tt; stops = refl; entries = omega arith; number = omega arith; same = (refl, refl) }
 
 -- what begins where these parts stop follows them
 follows : {W : Type 0} (began : Writing W) (parts : Parts) (x : Content) (s : State) → StopsAt began parts s → x.limits ≡ began.limits → x.bodies ≡ began.bodies → start_of x ≡ s
@@ -140,12 +140,18 @@ follows began (Then parts y) x s stops limits bodies begins =
       led = subst (λ (a : State). Run y.limits (start_of y) y.entries a) (sym begins) stops.2;
     }
 
+begins_next : {W : Type 0} (began : Writing W) (parts : Parts) (x : Content) (s : State) → BeginsAt began parts → StopsAt began parts s → x.limits ≡ began.limits
+    → x.bodies ≡ began.bodies → start_of x ≡ s → BeginsAt began (Then parts x)
+begins_next began NoPart x s before stops limits bodies begins = (limits, bodies, begins ∙ stops)
+begins_next began (Then parts y) x s before stops limits bodies begins = before
+
 pub one_written : {W : Type 0} (contents : W → Option (List ℕ)) (began old new : Writing W) (parts : Parts) (h : List Entry) → HasWritten contents began old parts
     → WritesPart contents old h new → (x : Content) × (x.entries ≡ h) × HasWritten contents began new (Then parts x)
 one_written contents began old new parts h has writes = (x, next.entries, record {
       in_order = (has.in_order, next.right, follows began parts x old.state has.stops limits bodies next.begins);
       appended = Appends-settled (contents began.out) (contents old.out) (contents new.out) [] (texts parts) (text x) (texts parts, has.appended, append-nil (texts parts)) writes.appended;
       one_run = run_join began.limits began.state old.state new.state (entries_of parts) x.entries has.one_run led;
+      begins = begins_next began parts x old.state has.begins has.stops limits bodies next.begins;
       stops = (limits, bodies, here, next.end);
       entries = omega (arith, writes.entries, has.entries, long, length-append (entries_of parts) x.entries);
       number = omega (arith, writes.parts, has.number);

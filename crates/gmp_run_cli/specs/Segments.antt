@@ -63,11 +63,15 @@ is_of_parts said.OutOfMemory = true
 is_of_parts said.NoRun = true
 is_of_parts _ = false
 
+-- what may be said of a run that was begun
+abbrev pub is_of_end_in_parts : Said → Bool
+is_of_end_in_parts said.Nothing = true
+is_of_end_in_parts other = is_of_parts other
+
 -- what may be said of a script that was read
 abbrev pub is_of_run_in_parts : Said → Bool
-is_of_run_in_parts said.Nothing = true
 is_of_run_in_parts said.BadLimits = true
-is_of_run_in_parts other = is_of_parts other
+is_of_run_in_parts other = is_of_end_in_parts other
 
 -- what may be said by a run in segments
 abbrev pub is_of_segments : Said → Bool

@@ -2,11 +2,16 @@
 
 ghost use Rattle.std.specs.Prelude.{◌≡◌, IfErr, IfOk, IfSome, true};
 ghost use Rattle.gmp_run.specs.Counts.{all_calls};
-ghost use Rattle.gmp_run_cli.specs.Segments.{TellsParts, is_of_parts};
+ghost use Rattle.gmp_trace.specs.declared.trace.End.{End};
+ghost use Rattle.gmp_words.specs.declared.said.Said.TheVariants.{Nothing};
+ghost use Rattle.gmp_words.specs.Runs.{status_of};
+ghost use Rattle.gmp_run_cli.specs.Segments.{TellsParts, is_of_end_in_parts, is_of_parts};
+ghost use Rattle.gmp_run_cli.specs.Told.{said_of_unrun};
 
+use crate::telling::unrun;
 use gmp_parts::{Outlet, PartError, tell};
 use gmp_pieces::Pieces;
-use gmp_run::Report;
+use gmp_run::{Report, Unrun};
 use gmp_trace::End;
 use gmp_words::Ended;
 use gmp_worker::PassLog;
@@ -39,7 +44,7 @@ fn calls_of(logs: &[PassLog]) -> Option<u64>
 /// ended the program instead.
 ///
 /// The audit is that the run is over, and that there are as many entries as the machines made calls.
-pub(crate) fn told_in_parts<T, O: Outlet, W: Write>(
+fn ended<T, O: Outlet, W: Write>(
     alloc: Global,
     report: &Report<T>,
     pieces: &mut Pieces<O>,
@@ -58,4 +63,27 @@ pub(crate) fn told_in_parts<T, O: Outlet, W: Write>(
     }
     tell(alloc, end, parts.entries(), parts.parts(), writer)?;
     Ok(end)
+}
+
+/// The same of a run that may not have been begun: of such a one it says why.
+pub(crate) fn told_in_parts<T: Drop, O: Outlet, W: Write>(
+    alloc: Global,
+    ran: Result<Report<T>, Unrun<T>>,
+    pieces: &mut Pieces<O>,
+    writer: &mut W,
+) -> Ended
+    ensures told { IfOk ran (λ report. result.said ≡ Nothing
+        → (end : End) × TellsParts O.contents pieces.old.0 report pieces.new.0 end (W.contents writer.old) (W.contents writer.new) × result.status ≡ status_of end) }
+    ensures kinds { IfOk ran (λ report. is_of_end_in_parts result.said ≡ true) }
+    ensures unrun { IfErr ran (λ u. result.said ≡ said_of_unrun u.why) }
+    ensures silent { IfErr ran (λ u. W.contents writer.new ≡ W.contents writer.old) }
+    ensures unsent { IfErr ran (λ u. pieces.new ≡ pieces.old) }
+{
+    match ran {
+        Ok(report) => match ended(alloc, &report, pieces, writer) {
+            Ok(end) => Ended::written(end),
+            Err(ended) => ended,
+        },
+        Err(refused) => unrun(refused.why),
+    }
 }
