@@ -44,7 +44,7 @@ never limits a b h i is none run =
     (record { n = i; there = refl; no_step = none }) in
     absurd cc
 
-module _ (limits : Limits) (bodies entries parts : ℕ) (s : State) (way : IsUnderWay limits bodies entries parts s) where
+module _ {limits : Limits} {bodies entries parts : ℕ} {s : State} (way : IsUnderWay limits bodies entries parts s) where
   made : sum s.counts ≡ entries
   made = legal_total limits bodies way.capacities way.written s way.legal ∙ sym way.made
 

@@ -159,6 +159,8 @@ impl<W: Outlet> PartWriter<W> {
     ///
     /// `Device` comes only where the outlet failed, and `OutOfMemory` only where memory was refused. Once it has failed it fails so each
     /// time: what went out of the part that failed is no whole part, so none may follow.
+    ///
+    /// That the outlet is told first that the part begins, no clause says.
     pub fn write(&mut self, history: &History) -> Result<(), PartError>
         ensures written { OnOk result (WritesPart W.contents self.old history.now.list self.new) }
         ensures no_step { IfErr result (λ e. e ≡ NoStep → self.old.failed ≡ None → GoesOn self.old history.now.list → ⊥) }
@@ -170,19 +172,20 @@ impl<W: Outlet> PartWriter<W> {
         if let Some(error) = self.failed {
             return Err(error);
         }
+        let number = self.parts + 1;
         let part = unended(self.limits, self.bodies, &self.start, history);
         match write_next(
             self.alloc,
             &mut self.replay,
             part,
-            self.parts + 1,
+            number,
             &mut self.out,
         ) {
             Ok(next) => {
                 self.start = next;
                 self.outcome = self.replay.outcome();
                 self.entries += history.len() as u64;
-                self.parts += 1;
+                self.parts = number;
                 Ok(())
             }
             Err(error) => {

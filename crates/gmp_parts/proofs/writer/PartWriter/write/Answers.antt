@@ -15,34 +15,24 @@ use Rattle.gmp_parts.proofs.Written.{consistent, counted, few, lasts, replay_is,
 use Rattle.gmp_parts.specs.Writing.{Writing, WritesPart}
 use Rattle.gmp_parts.proofs.writer.PartWriter.write.Goals as goal
 
-pub overflow_add-self-inside : goal.overflow_add-self-inside
-overflow_add-self-inside g c =
-    let i = c.self.inside in
+pub overflow_add-number : goal.overflow_add-number
+overflow_add-number g c =
     let way = c.self.invariant.under_way in
-    omega (arith, way.few, few i.limits i.bodies i.entries i.parts (record (state_of i.start) { outcome = i.outcome }) way)
+    omega (arith, way.few, few way)
 
 pub write_next-requires-clause-counted : goal.write_next-requires-clause-counted
 write_next-requires-clause-counted g c =
-    let i = c.self.inside in
     subst (λ (x : Content). IsCounted x.begins) (sym c.unended-part.ensures)
-    (counted i.limits i.bodies i.entries i.parts (record (state_of i.start) { outcome = i.outcome }) c.self.invariant.under_way)
+    (counted c.self.invariant.under_way)
 
 pub write_next-requires-clause-consistent : goal.write_next-requires-clause-consistent
 write_next-requires-clause-consistent g c =
-    let i = c.self.inside in
     subst (λ (r : Replayed). IsConsistentUnder r.limits r.state) (sym (c.self.invariant.follows c.in_default.is))
-    (consistent i.limits i.bodies i.entries i.parts (record (state_of i.start) { outcome = i.outcome }) c.self.invariant.under_way)
+    (consistent c.self.invariant.under_way)
 
 pub overflow_add-self : goal.overflow_add-self
 overflow_add-self g c =
-    let i = c.self.inside in
-    omega (arith, c.len.ensures.few, few i.limits i.bodies i.entries i.parts (record (state_of i.start) { outcome = i.outcome }) c.self.invariant.under_way)
-
-pub overflow_add-self-in-Ok : goal.overflow_add-self-in-Ok
-overflow_add-self-in-Ok g c =
-    let i = c.self.inside in
-    let way = c.self.invariant.under_way in
-    omega (arith, way.few, few i.limits i.bodies i.entries i.parts (record (state_of i.start) { outcome = i.outcome }) way)
+    omega (arith, c.len.ensures.few, few c.self.invariant.under_way)
 
 pub invariant_of-self : goal.invariant_of-self
 invariant_of-self g c =
@@ -56,7 +46,7 @@ invariant_of-self g c =
     let run : Run i.limits old h new = run_of i.replay i.limits old c.write_next.new.replay.state new c.unended-part.result.entries.now.list h at same behind c.in-Ok.ensures.run in
     record {
       under_way =
-          under_way_next i.limits i.bodies i.entries i.parts old c.self.invariant.under_way h new (subst (λ (l : List Entry). l ≢ []) same c.in-Ok.ensures.some)
+          under_way_next c.self.invariant.under_way h new (subst (λ (l : List Entry). l ≢ []) same c.in-Ok.ensures.some)
           (subst (λ (l : List Entry). All Fits l) same c.in-Ok.ensures.fits) run (i.entries + c.len.result) (i.parts + 1) (ap (λ n. i.entries + n) c.len.ensures.value) refl;
       follows = λ works. replay_is c.write_next.new.replay i.limits new (c.in-Ok.ensures.limits ∙ ap (λ (r : Replayed). r.limits) at) (sym behind);
     }
