@@ -78,12 +78,7 @@ fn take_all(replay: &mut Replay, history: &History) -> Result<(), PartError>
 }
 
 /// The part with these entries, before its end is known.
-fn unended<'a>(
-    limits: Limits,
-    bodies: u16,
-    start: &'a Start,
-    entries: &'a History,
-) -> TraceView<'a>
+fn unended<'a>(limits: Limits, bodies: u16, start: &'a Start, entries: &'a History) -> TraceView<'a>
     ensures { content_of result ≡ record { limits = limits; bodies = bodies; begins = AtState (state_of start.now); entries = entries.now.list; end = Running } }
 {
     TraceView {
@@ -174,13 +169,7 @@ impl<W: Outlet> PartWriter<W> {
         }
         let number = self.parts + 1;
         let part = unended(self.limits, self.bodies, &self.start, history);
-        match write_next(
-            self.alloc,
-            &mut self.replay,
-            part,
-            number,
-            &mut self.out,
-        ) {
+        match write_next(self.alloc, &mut self.replay, part, number, &mut self.out) {
             Ok(next) => {
                 self.start = next;
                 self.outcome = self.replay.outcome();

@@ -1,4 +1,4 @@
-use Rattle.std.proofs.Common.{◌≡◌, ◌≢◌, ◌+◌, ◌<◌, ◌^◌, Option, None, List, [], length, sum, refl, sym, ap, subst, ◌∙◌, arith}
+use Rattle.std.proofs.Common.{◌≡◌, ◌≢◌, ◌+◌, Option, None, List, [], refl, sym, ap, subst, ◌∙◌, arith}
 use Rattle.std.specs.Io.KnownBytes.{Appends}
 use Rattle.std.specs.List.{All}
 use Rattle.gmp_seq.specs.declared.call.Entry.{Entry}
@@ -8,7 +8,7 @@ use Rattle.gmp_seq.specs.Run.{Run}
 use Rattle.gmp_seq.specs.State.{State}
 use Rattle.gmp_start.specs.Start.{state_of}
 use Rattle.gmp_trace.specs.Text.Begins.{AtState}
-use Rattle.gmp_trace.specs.Text.{Content, IsCounted, content_of, end_of, text}
+use Rattle.gmp_trace.specs.Text.{Content, IsCounted, end_of, text}
 use Rattle.gmp_check.specs.Consistent.{IsConsistentUnder}
 use Rattle.gmp_check.specs.Replayed.{Replayed}
 use Rattle.gmp_parts.proofs.Written.{consistent, counted, few, lasts, replay_is, run_of, under_way_next, with_outcome, wrote}
@@ -64,7 +64,7 @@ returns-in-Ok-clause-written g c =
     let some : h ≢ [] = subst (λ (l : List Entry). l ≢ []) same c.in-Ok.ensures.some in
     let none : i.outcome ≡ None = lasts i.limits old new h some run in
     let put = subst (λ (x : Content). Appends (g.W.Write.contents i.out) (g.W.Write.contents c.write_next.new.out) (text (record x { end = end_of c.write_next.new.replay.state.outcome })))
-        c.unended-part.ensures c.in-Ok.ensures.appended in
+    c.unended-part.ensures c.in-Ok.ensures.appended in
     let before : Writing g.row.W.Denot = record { limits = i.limits; bodies = i.bodies; state = old; entries = i.entries; parts = i.parts; failed = i.failed; out = i.out } in
     let after : Writing g.row.W.Denot =
     record { limits = i.limits; bodies = i.bodies; state = new; entries = i.entries + c.len.result; parts = i.parts + 1; failed = i.failed; out = c.write_next.new.out } in
