@@ -1,10 +1,10 @@
 //! The run in parts: one part after another is judged. What is known of those before is where the last one stops, and how long they are
 //! together.
 
-ghost use Rattle.std.specs.Prelude.{◌≡◌, ◌≢◌, ◌↔◌, ℕ, ◌+◌, ◌<◌, [], ◌||◌, ◌^◌, true, false, length, IfErr, IfOk, IfSome, IsTrue, Option};
+ghost use Rattle.std.specs.Prelude.{◌≡◌, ◌≢◌, ◌↔◌, ℕ, ◌+◌, ◌<◌, [], ◌||◌, ◌^◌, true, false, IfErr, IfOk, IfSome, IsTrue, Option};
 ghost use Rattle.gmp_seq.specs.declared.call.Outcome.{Outcome};
 ghost use Rattle.gmp_trace.specs.declared.bad.Bad.{Bad};
-ghost use Rattle.gmp_trace.specs.Text.{Content, content};
+ghost use Rattle.gmp_trace.specs.Text.{content};
 ghost use Rattle.gmp_check.specs.Checked.{IsRight};
 ghost use Rattle.gmp_parts.specs.Parts.{Follows, IsRightTrace, Parts};
 ghost use Rattle.gmp_check_cli.specs.Check.{HasNoRightTrace, IsBadLine, IsRead};

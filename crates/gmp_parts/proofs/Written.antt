@@ -1,5 +1,5 @@
 -- A run that is written in parts: what is kept of it, and what a row of writes is.
-use Rattle.std.proofs.Common.{◌≡◌, ◌≢◌, ℕ, ◌+◌, ◌<◌, ◌≤◌, ◌^◌, Option, None, Some, List, [], ◌∷◌, ◌++◌, length, sum, refl, sym, ap, subst, ◌∙◌, arith, length-append}
+use Rattle.std.proofs.Common.{◌≡◌, ◌≢◌, ℕ, ◌+◌, ◌<◌, ◌^◌, Option, None, Some, List, [], ◌∷◌, ◌++◌, length, sum, refl, sym, ap, subst, ◌∙◌, arith, length-append}
 use Rattle.std.proofs.lemmas.List.{append-nil}
 use Rattle.std.proofs.lemmas.List.Elements.{All-append}
 use Rattle.std.specs.Io.KnownBytes.{Appends}
@@ -44,7 +44,7 @@ never limits a b h i is none run =
     (record { n = i; there = refl; no_step = none }) in
     absurd cc
 
-module _ (limits : Limits) (bodies entries parts : ℕ) (s : State) (way : IsUnderWay limits bodies entries parts s) where
+module _ {limits : Limits} {bodies entries parts : ℕ} {s : State} (way : IsUnderWay limits bodies entries parts s) where
   made : sum s.counts ≡ entries
   made = legal_total limits bodies way.capacities way.written s way.legal ∙ sym way.made
 
@@ -147,16 +147,20 @@ begins_next began (Then parts y) x s before stops limits bodies begins = before
 
 pub one_written : {W : Type 0} (contents : W → Option (List ℕ)) (began old new : Writing W) (parts : Parts) (h : List Entry) → HasWritten contents began old parts
     → WritesPart contents old h new → (x : Content) × (x.entries ≡ h) × HasWritten contents began new (Then parts x)
-one_written contents began old new parts h has writes = (x, next.entries, record {
-      in_order = (has.in_order, next.right, follows began parts x old.state has.stops limits bodies next.begins);
-      appended = Appends-settled (contents began.out) (contents old.out) (contents new.out) [] (texts parts) (text x) (texts parts, has.appended, append-nil (texts parts)) writes.appended;
-      one_run = run_join began.limits began.state old.state new.state (entries_of parts) x.entries has.one_run led;
-      begins = begins_next began parts x old.state has.begins has.stops limits bodies next.begins;
-      stops = (limits, bodies, here, next.end);
-      entries = omega (arith, writes.entries, has.entries, long, length-append (entries_of parts) x.entries);
-      number = omega (arith, writes.parts, has.number);
-      same = (writes.same.0 ∙ has.same.0, writes.same.1 ∙ has.same.1);
-    }) where
+one_written contents began old new parts h has writes = (
+  x,
+  next.entries,
+  record {
+    in_order = (has.in_order, next.right, follows began parts x old.state has.stops limits bodies next.begins);
+    appended = Appends-settled (contents began.out) (contents old.out) (contents new.out) [] (texts parts) (text x) (texts parts, has.appended, append-nil (texts parts)) writes.appended;
+    one_run = run_join began.limits began.state old.state new.state (entries_of parts) x.entries has.one_run led;
+    begins = begins_next began parts x old.state has.begins has.stops limits bodies next.begins;
+    stops = (limits, bodies, here, next.end);
+    entries = omega (arith, writes.entries, has.entries, long, length-append (entries_of parts) x.entries);
+    number = omega (arith, writes.parts, has.number);
+    same = (writes.same.0 ∙ has.same.0, writes.same.1 ∙ has.same.1);
+  },
+) where
   x : Content
   x = writes.part
 

@@ -78,12 +78,7 @@ fn take_all(replay: &mut Replay, history: &History) -> Result<(), PartError>
 }
 
 /// The part with these entries, before its end is known.
-fn unended<'a>(
-    limits: Limits,
-    bodies: u16,
-    start: &'a Start,
-    entries: &'a History,
-) -> TraceView<'a>
+fn unended<'a>(limits: Limits, bodies: u16, start: &'a Start, entries: &'a History) -> TraceView<'a>
     ensures { content_of result ≡ record { limits = limits; bodies = bodies; begins = AtState (state_of start.now); entries = entries.now.list; end = Running } }
 {
     TraceView {
@@ -159,6 +154,8 @@ impl<W: Outlet> PartWriter<W> {
     ///
     /// `Device` comes only where the outlet failed, and `OutOfMemory` only where memory was refused. Once it has failed it fails so each
     /// time: what went out of the part that failed is no whole part, so none may follow.
+    ///
+    /// That the outlet is told first that the part begins, no clause says.
     pub fn write(&mut self, history: &History) -> Result<(), PartError>
         ensures written { OnOk result (WritesPart W.contents self.old history.now.list self.new) }
         ensures no_step { IfErr result (λ e. e ≡ NoStep → self.old.failed ≡ None → GoesOn self.old history.now.list → ⊥) }
@@ -170,19 +167,14 @@ impl<W: Outlet> PartWriter<W> {
         if let Some(error) = self.failed {
             return Err(error);
         }
+        let number = self.parts + 1;
         let part = unended(self.limits, self.bodies, &self.start, history);
-        match write_next(
-            self.alloc,
-            &mut self.replay,
-            part,
-            self.parts + 1,
-            &mut self.out,
-        ) {
+        match write_next(self.alloc, &mut self.replay, part, number, &mut self.out) {
             Ok(next) => {
                 self.start = next;
                 self.outcome = self.replay.outcome();
                 self.entries += history.len() as u64;
-                self.parts += 1;
+                self.parts = number;
                 Ok(())
             }
             Err(error) => {

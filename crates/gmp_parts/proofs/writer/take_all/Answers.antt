@@ -1,9 +1,9 @@
-use Rattle.std.proofs.Common.{◌≡◌, Some, List, ◌∷◌, ◌++◌, [], false, length, take, refl, sym, ap, subst, ◌∙◌}
+use Rattle.std.proofs.Common.{◌≡◌, Some, List, false, length, take, sym, ap, subst, ◌∙◌}
 use Rattle.std.proofs.lemmas.Iterator.Consumers.{YieldsList-at, YieldsList-from_first, YieldsList-so_far, YieldsList-turn}
 use Rattle.std.proofs.lemmas.List.{map-id}
 use Rattle.std.proofs.lemmas.List.Elements.{All-push}
 use Rattle.std.proofs.lemmas.Option.{slice_get-get_or}
-use Rattle.std.specs.List.{All, slice_get}
+use Rattle.std.specs.List.{slice_get}
 use Rattle.gmp_seq.specs.declared.call.Entry.{Entry}
 use Rattle.gmp_seq.specs.declared.call.Limits.{Limits}
 use Rattle.gmp_seq.specs.Fits.{Fits}
@@ -20,7 +20,7 @@ loop-entry-preserved c =
     let old = c.loop-entry.replay in
     let yes = subst (Decides (IsStep old.limits c.new-entry.result) old.state c.step.new.self.state) c.if-not-branch.false c.in_ok-step.ensures.decides in
     let step = subst (λ (e : Entry). IsStep a.limits e old.state c.step.new.self.state) c.new-entry.ensures.value
-        (subst (λ (l : Limits). IsStep l c.new-entry.result old.state c.step.new.self.state) k.limits yes) in
+    (subst (λ (l : Limits). IsStep l c.new-entry.result old.state c.step.new.self.state) k.limits yes) in
     record {
       limits = c.in_ok-step.ensures.limits ∙ k.limits;
       run = run_next a.limits a.state old.state c.step.new.self.state c.loop-entry.yielded c.in-Some.entry k.run step;
@@ -39,8 +39,8 @@ returns-then-not-branch-clause-no_step c said leads =
     let at : slice_get es i ≡ Some e = slice_get-get_or es i e t.0 ∙ ap Some (sym t.1) in
     let so_far : c.loop-entry.yielded ≡ take i es = sym (map-id c.loop-entry.yielded) ∙ YieldsList-so_far road c.loop-entry.yielded _ c.loop-entry.yielded_by in
     let not = subst (λ (x : Entry). Decides (IsStep a.limits x) c.loop-entry.replay.state c.step.new.self.state false) c.new-entry.ensures.value
-        (subst (λ (l : Limits). Decides (IsStep l c.new-entry.result) c.loop-entry.replay.state c.step.new.self.state false) k.limits
-        (subst (Decides (IsStep c.loop-entry.replay.limits c.new-entry.result) c.loop-entry.replay.state c.step.new.self.state) c.if-not-branch.true c.in_ok-step.ensures.decides)) in
+    (subst (λ (l : Limits). Decides (IsStep l c.new-entry.result) c.loop-entry.replay.state c.step.new.self.state false) k.limits
+    (subst (Decides (IsStep c.loop-entry.replay.limits c.new-entry.result) c.loop-entry.replay.state c.step.new.self.state) c.if-not-branch.true c.in_ok-step.ensures.decides)) in
     never a.limits a.state leads.1.0 es i c.requires
     (no_step a.limits a.state c.loop-entry.replay.state c.step.new.self.state es i e
     (subst (λ (h : List Entry). Run a.limits a.state h c.loop-entry.replay.state) so_far k.run) at not) leads.1.1
