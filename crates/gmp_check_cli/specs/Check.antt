@@ -1,19 +1,13 @@
 -- What `check` says and writes.
 use Rattle.std.specs.Prelude.{◌≡◌, ◌⊎◌, ℕ, List, Option, IfSome}
 use Rattle.std.specs.Io.KnownBytes.{Appends}
-use Rattle.gmp_seq.specs.declared.call.Outcome.{Outcome}
 use Rattle.gmp_trace.specs.declared.bad.Bad.{Bad}
 use Rattle.gmp_trace.specs.HasText.{HasText}
 use Rattle.gmp_trace.specs.Reading.{IsFault}
 use Rattle.gmp_trace.specs.Summary.{summary_text}
 use Rattle.gmp_trace.specs.Text.{Content, text}
-use Rattle.gmp_check.specs.Checked.{IsFirstBad, IsRight}
-
--- It has a text, its entries are a run from its beginning, and its end tells the outcome that they lead to.
-pub record IsRightTrace (x : Content) : Type 0 where
-  pub has_text : HasText x
-  pub outcome : Option Outcome
-  pub right : IsRight x outcome
+use Rattle.gmp_check.specs.Checked.{IsFirstBad}
+use Rattle.gmp_parts.specs.Parts.{IsRightTrace}
 
 -- these bytes are its text
 abbrev pub IsRead : List ℕ → Content → Type 0

@@ -3,7 +3,8 @@
 ghost use Rattle.std.specs.Prelude.{◌≡◌, ◌≢◌, ◌↔◌, ◌<◌, ◌≤◌, ◌||◌, true, false, length, IfErr, IfOk, IfSome};
 ghost use Rattle.gmp_trace.specs.declared.bad.Bad.{Bad};
 ghost use Rattle.gmp_trace.specs.Text.{content};
-ghost use Rattle.gmp_check_cli.specs.Check.{HasNoRightTrace, HasRightTrace, IsBadLine, IsRead, IsRightTrace, WritesSummary};
+ghost use Rattle.gmp_parts.specs.Parts.{IsRightTrace};
+ghost use Rattle.gmp_check_cli.specs.Check.{HasNoRightTrace, HasRightTrace, IsBadLine, IsRead, WritesSummary};
 ghost use Rattle.gmp_words.specs.Said.{is_of_check, is_of_input, is_of_trace};
 ghost use Rattle.gmp_words.specs.declared.said.Said.TheVariants.{BadTrace, InputTooLong, Nothing, OutputFailed};
 

@@ -9,9 +9,10 @@ use Rattle.gmp_trace.specs.Text.{Content, text}
 use Rattle.gmp_check_cli.specs.Check.{HasNoRightTrace, IsBadLine}
 use Rattle.gmp_join_cli.specs.declared.joining.Joined.{Joined}
 use Rattle.gmp_join_cli.specs.declared.stopping.Stop.{Stop}
-use Rattle.gmp_join_cli.proofs.Parts.{one_run}
-use Rattle.gmp_join_cli.specs.Join.{AreInOrder, HasRunInParts, IsApart, IsBadPart, IsLastStop, IsLongBehind, IsNextApart, IsReadSoFar, IsStop, IsTold, JoinsNext, Parts, Tells, WritesJoined, count, entries_of, joined_text, parts_line, texts}
-use Rattle.gmp_join_cli.specs.Join.Parts.{NoPart, Then}
+use Rattle.gmp_parts.proofs.Parts.{one_run}
+use Rattle.gmp_join_cli.specs.Join.{HasRunInParts, IsApart, IsBadPart, IsLastStop, IsLongBehind, IsNextApart, IsReadSoFar, IsStop, IsTold, JoinsNext, Tells, WritesJoined}
+use Rattle.gmp_parts.specs.Parts.{AreInOrder, Parts, count, entries_of, joined_text, parts_line, texts}
+use Rattle.gmp_parts.specs.Parts.Parts.{NoPart, Then}
 
 pub long_behind : (input now : Option (List ℕ)) (most : ℕ) (joined : Joined) → IsReadSoFar input now joined → IfSome now (λ rest. most < length rest) → IfSome input (IsLongBehind most)
 long_behind None now most joined so_far long = tt

@@ -1,70 +1,18 @@
 -- What `join` says and writes.
-use Rattle.std.specs.Prelude.{◌≡◌, ◌≢◌, ℕ, ◌+◌, ◌<◌, List, [], ◌∷◌, ◌++◌, Option, None, Some, IfSome, codes, length}
+use Rattle.std.specs.Prelude.{◌≡◌, ◌≢◌, ℕ, ◌+◌, ◌<◌, List, ◌++◌, Option, None, Some, IfSome, length}
 use Rattle.std.specs.Io.KnownBytes.{Appends, Consumes}
-use Rattle.gmp_seq.specs.declared.call.Entry.{Entry}
 use Rattle.gmp_seq.specs.Run.{Run}
 use Rattle.gmp_start.specs.declared.start.Start.{Start}
 use Rattle.gmp_start.specs.Start.{state_of}
 use Rattle.gmp_trace.specs.declared.bad.Bad.{Bad}
 use Rattle.gmp_trace.specs.declared.trace.End.TheVariants as end_
-use Rattle.gmp_trace.specs.Pieces.{line, number}
-use Rattle.gmp_trace.specs.Summary.{entries_line, outcome_line}
 use Rattle.gmp_trace.specs.Text.{Content, text}
 use Rattle.gmp_check.specs.Checked.{start_of}
-use Rattle.gmp_check.specs.Parts.{Meets}
-use Rattle.gmp_check_cli.specs.Check.{HasNoRightTrace, IsBadLine, IsRightTrace}
+use Rattle.gmp_parts.specs.Parts.{AreInOrder, Follows, IsRightTrace, Parts, count, entries_of, joined_text, texts, whole}
+use Rattle.gmp_parts.specs.Parts.Parts.{NoPart, Then}
+use Rattle.gmp_check_cli.specs.Check.{HasNoRightTrace, IsBadLine}
 use Rattle.gmp_join_cli.specs.declared.joining.Joined.{Joined}
 use Rattle.gmp_join_cli.specs.declared.stopping.Stop.{Stop}
-
--- Parts
-
--- traces one behind another: none, or some and then this one
-pub data Parts : Type 0 where
-  NoPart : Parts
-  Then : Parts → Content → Parts
-
-abbrev pub count : Parts → ℕ
-count NoPart = 0
-count (Then parts x) = count parts + 1
-
--- their texts, one behind another
-abbrev pub texts : Parts → List ℕ
-texts NoPart = []
-texts (Then parts x) = texts parts ++ text x
-
--- their entries, one behind another
-abbrev pub entries_of : Parts → List Entry
-entries_of NoPart = []
-entries_of (Then parts x) = entries_of parts ++ x.entries
-
--- x goes on where the last of them stops; behind none anything may begin
-abbrev pub Follows : Parts → Content → Type 0
-Follows NoPart x = Unit {0}
-Follows (Then parts y) x = Meets y x
-
--- each is right, and goes on where the one before stops
-abbrev pub AreInOrder : Parts → Type 0
-AreInOrder NoPart = Unit {0}
-AreInOrder (Then parts x) = AreInOrder parts × IsRightTrace x × Follows parts x
-
--- the first of these and x
-abbrev pub first : Parts → Content → Content
-first NoPart x = x
-first (Then parts y) x = first parts y
-
--- these and x as one trace: it begins as the first of them, has the entries of all, and ends as x
-abbrev pub whole : Parts → Content → Content
-whole parts x = record (first parts x) { entries = entries_of parts ++ x.entries; end = x.end }
-
--- What is read and written
-
--- how many parts there are
-abbrev pub parts_line : ℕ → List ℕ
-parts_line n = line (codes "parts:") (number n ∷ [])
-
--- of these parts and x: how the run ends, how many entries it has, and how many parts they are
-abbrev pub joined_text : Parts → Content → List ℕ
-joined_text parts x = outcome_line (whole parts x).end ++ entries_line (length (whole parts x).entries) ++ parts_line (count (Then parts x))
 
 -- The bytes are the texts of right traces, one behind another, each of which goes on where the one before stops. As one trace they are right
 -- too: one run from the state before the first entry to that behind the last.

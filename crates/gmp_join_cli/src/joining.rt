@@ -1,23 +1,22 @@
 //! The run in parts: one part after another is judged. What is known of those before is where the last one stops, and how long they are
 //! together.
 
-ghost use Rattle.std.specs.Prelude.{◌≡◌, ◌≢◌, ◌↔◌, ℕ, ◌+◌, ◌<◌, ◌++◌, ◌∷◌, [], ◌||◌, ◌^◌, true, false, length, codes, IfErr, IfOk, IfSome, IsTrue, OnOk, Option};
-ghost use Rattle.std.specs.Io.KnownBytes.{Appends};
+ghost use Rattle.std.specs.Prelude.{◌≡◌, ◌≢◌, ◌↔◌, ℕ, ◌+◌, ◌<◌, [], ◌||◌, ◌^◌, true, false, length, IfErr, IfOk, IfSome, IsTrue, Option};
 ghost use Rattle.gmp_seq.specs.declared.call.Outcome.{Outcome};
 ghost use Rattle.gmp_trace.specs.declared.bad.Bad.{Bad};
-ghost use Rattle.gmp_trace.specs.declared.writing.WriteError.TheVariants.{OutOfMemory};
-ghost use Rattle.gmp_trace.specs.Summary.{entries_line, outcome_line};
 ghost use Rattle.gmp_trace.specs.Text.{Content, content};
 ghost use Rattle.gmp_check.specs.Checked.{IsRight};
-ghost use Rattle.gmp_check_cli.specs.Check.{HasNoRightTrace, IsBadLine, IsRead, IsRightTrace};
+ghost use Rattle.gmp_parts.specs.Parts.{Follows, IsRightTrace, Parts};
+ghost use Rattle.gmp_check_cli.specs.Check.{HasNoRightTrace, IsBadLine, IsRead};
 ghost use Rattle.gmp_words.specs.Said.{is_of_input, is_of_join, is_of_next, is_of_part, is_of_trace};
 ghost use Rattle.gmp_words.specs.declared.said.Said.TheVariants.{Apart, BadPart, BadTrace, InputTooLong, Nothing, OutputFailed};
-ghost use Rattle.gmp_join_cli.specs.Join.{Follows, HasRunInParts, IsApart, IsBadPart, IsLongBehind, IsNextApart, IsTold, JoinsNext, Parts, Tells, WritesJoined, parts_line};
+ghost use Rattle.gmp_join_cli.specs.Join.{HasRunInParts, IsApart, IsBadPart, IsLongBehind, IsNextApart, IsTold, JoinsNext, Tells, WritesJoined};
 
 use crate::stopping::{Stop, goes_on, stop_of};
 use crate::taking::next_part;
 use gmp_check_cli::{Progress, judged};
-use gmp_trace::{Bad, End, Trace, Why, WriteError};
+use gmp_parts::tell;
+use gmp_trace::{Bad, Trace, Why};
 use gmp_words::{Ended, MAX_TRACE, Said};
 use std::alloc::{AllocError, Global};
 use std::io::{Read, Write};
@@ -147,38 +146,6 @@ fn all_parts<R: Read, P: Progress>(
         joined = joined.with(alloc, bytes, progress)?;
     }
     Err(Ended::unreadable())
-}
-
-/// The words of an end, as the summary has them.
-#[tactic(auto, unfolding(gmp_trace::specs::Summary::outcome_line))]
-fn words_of(end: End) -> &'static str
-    ensures { codes "outcome: " ++ (result.now ++ 10 ∷ []) ≡ outcome_line end }
-{
-    match end {
-        End::MainEnded => "main ended",
-        End::AllAsleep => "all asleep",
-        End::BookFull => "book full",
-        End::Running => "running",
-    }
-}
-
-/// Writes the three lines.
-fn tell<W: Write>(
-    alloc: Global,
-    end: End,
-    entries: u64,
-    parts: u64,
-    writer: &mut W,
-) -> Result<(), WriteError>
-    ensures written { OnOk result (Appends (W.contents writer.old) (W.contents writer.new) (outcome_line end ++ entries_line entries ++ parts_line parts)) }
-    ensures unsent { IfErr result (λ e. e ≡ OutOfMemory → W.contents writer.new ≡ W.contents writer.old) }
-{
-    let words = words_of(end);
-    let text = format!(in alloc; "outcome: {words}\nentries: {entries}\nparts: {parts}\n")?;
-    if writer.write_all(text.as_bytes()).is_err() {
-        return Err(WriteError::Device);
-    }
-    Ok(())
 }
 
 /// Reads the parts of a run, one behind another, and judges each as `check` does; each but the first has to go on where the one before

@@ -8,7 +8,7 @@ ghost use Rattle.gmp_trace.specs.declared.trace.End.TheVariants as end_;
 ghost use Rattle.gmp_trace.specs.Text.{Content, content};
 ghost use Rattle.gmp_check.specs.Checked.{IsRight, start_of};
 ghost use Rattle.gmp_check.specs.Parts.{Meets};
-ghost use Rattle.gmp_check_cli.specs.Check.{IsRightTrace};
+ghost use Rattle.gmp_parts.specs.Parts.{IsRightTrace};
 ghost use Rattle.gmp_join_cli.specs.Join.{IsStop};
 
 use gmp_check::{OutOfMemory, state_before};

@@ -12,11 +12,16 @@ use Rattle.gmp_trace.specs.Text.{Content, end_of}
 use Rattle.gmp_trace.specs.Text.Begins.{AtOpening}
 use Rattle.gmp_words.specs.declared.ended.Verdict.{Verdict}
 use Rattle.gmp_words.specs.declared.ended.Verdict.TheVariants.{Safe, Deadlock, Fault, Leak, Unknown}
+use Rattle.gmp_words.specs.declared.options.Segments.{Segments}
 use Rattle.gmp_words.specs.declared.options.Settings.{Settings}
 
 -- the limits that the command line gives
 abbrev pub limits_of : Settings → Limits
 limits_of s = record { procs = s.procs; machines = s.machines; channels = s.channels; entries = s.entries; room = s.entries }
+
+-- the same of a run in these segments
+abbrev pub limits_in : Segments → Settings → Limits
+limits_in x s = record (limits_of s) { entries = x.entries; room = x.room }
 
 -- the exit status where a run ended so
 abbrev pub status_of : End → ℕ

@@ -9,7 +9,7 @@ use Rattle.gmp_trace.specs.declared.bad.Why.TheVariants as why
 use Rattle.gmp_trace.specs.declared.writing.WriteError.{WriteError}
 use Rattle.gmp_trace.specs.declared.writing.WriteError.TheVariants as write_error
 use Rattle.gmp_trace.specs.Bad.{bad_text}
-use Rattle.gmp_words.specs.declared.said.Said.TheVariants.{Nothing, BadLine, BadTrace, BadPart, Apart, InputTooLong, InputUnreadable, OutputFailed, BadLimits, OutOfMemory, Mismatch, NoTrace, Usage}
+use Rattle.gmp_words.specs.declared.said.Said.TheVariants.{Nothing, BadLine, BadTrace, BadPart, Apart, InputTooLong, InputUnreadable, OutputFailed, BadLimits, OutOfMemory, Mismatch, NoRun, NoTrace, Usage}
 
 -- why there is no trace
 abbrev pub untraced_text : Untraced → List ℕ
@@ -29,12 +29,13 @@ text_of OutputFailed = codes "gmp: output failed" ++ 10 ∷ []
 text_of BadLimits = codes "gmp: bad limits" ++ 10 ∷ []
 text_of OutOfMemory = codes "gmp: out of memory" ++ 10 ∷ []
 text_of (Mismatch m) = codes "gmp: audit: machine " ++ (decimal m.0 ++ 10 ∷ [])
+text_of NoRun = codes "gmp: audit: no run" ++ 10 ∷ []
 text_of (NoTrace why) = untraced_text why
 text_of (Usage text) = string_bytes text
 
 -- the program may end so with this status: 0 main ended, the check passed, or no run has what is not wanted, 2 all asleep, 3 book full, 4 no
--- end yet, 7 a fault, 8 a leak, 9 not known; 1 input, output, script or trace, 5 memory, 6 a count of calls that is not that of the history, or
--- no trace, 64 limits or command line; help that was asked for is 0
+-- end yet, 7 a fault, 8 a leak, 9 not known; 1 input, output, script or trace, 5 memory, 6 a count of calls that is not that of the history,
+-- parts that are no run, or no trace, 64 limits or command line; help that was asked for is 0
 abbrev pub goes_with : Said → ℕ → Bool
 goes_with Nothing status = status == 0 || (status == 2 || (status == 3 || (status == 4 || (status == 7 || (status == 8 || status == 9)))))
 goes_with (BadLine line) status = status == 1
@@ -47,6 +48,7 @@ goes_with OutputFailed status = status == 1
 goes_with BadLimits status = status == 64
 goes_with OutOfMemory status = status == 5
 goes_with (Mismatch m) status = status == 6
+goes_with NoRun status = status == 6
 goes_with (NoTrace why) status = status == 6
 goes_with (Usage text) status = status == 64 || status == 0
 
@@ -77,6 +79,7 @@ is_of_step (BadTrace bad) = false
 is_of_step (BadPart part bad) = false
 is_of_step (Apart part) = false
 is_of_step (Mismatch m) = false
+is_of_step NoRun = false
 is_of_step (NoTrace why) = false
 is_of_step (Usage text) = false
 is_of_step _ = true

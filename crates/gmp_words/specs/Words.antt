@@ -1,9 +1,10 @@
 -- The command and the options among the words of a command line.
-use Rattle.std.specs.Prelude.{◌≡◌, ℕ, true, ◌+◌, Bool, false, codes, slice_get, ◌&&◌, ◌||◌, ◌==◌, nat_lt, List, [], ◌∷◌, drop, take, length, slice_index, Option, Some, None, is_some, if◌then◌else◌}
+use Rattle.std.specs.Prelude.{◌≡◌, ℕ, true, ◌+◌, Bool, false, codes, slice_get, ◌&&◌, ◌||◌, ◌==◌, nat_lt, List, [], ◌∷◌, drop, take, length, slice_index, Option, Some, None, is_some, not, min, option_map, if◌then◌else◌}
 use Rattle.std.specs.List.{list_all, list_any, slice_split}
 use Rattle.std.specs.Str.{bytes_eq}
 use Rattle.std.specs.Option.{option_map_or}
 use Rattle.gmp_script.specs.Numbers.{parsed_number}
+use Rattle.gmp_words.specs.declared.options.Segments.{Segments}
 use Rattle.gmp_words.specs.declared.options.Settings.{Settings}
 use Rattle.gmp_words.specs.declared.options.Task.{Task}
 use Rattle.gmp_words.specs.declared.options.Wanted.{Wanted}
@@ -78,6 +79,25 @@ pub record AreWanted {W : Type 0} (text : W → List ℕ) (words : List W) (w : 
   pub no_fault : w.no_fault ≡ list_any (λ name. bytes_eq name (codes "no-fault")) (names_wanted text words)
   pub no_leak : w.no_leak ≡ list_any (λ name. bytes_eq name (codes "no-leak")) (names_wanted text words)
 
+-- the words name a folder for the segments of the history
+abbrev pub names_folder : {W : Type 0} → (W → List ℕ) → List W → Bool
+names_folder text words = is_some (given text words (codes "--segments"))
+
+-- `--room` goes with `--segments` alone, and `--trace` doesn't
+abbrev pub go_together : {W : Type 0} → (W → List ℕ) → List W → Bool
+go_together text words =
+    (if names_folder text words then not (is_given text words (codes "--trace"))
+    else not (is_some (given text words (codes "--room"))))
+
+-- the most entries of a history that is kept whole, or of one in segments, of which no more are kept than it may have
+abbrev pub AreEntries : {W : Type 0} → (W → List ℕ) → List W → ℕ → Option Segments → Type 0
+AreEntries text words entries None =
+    (names_folder text words ≡ false) × number_given text words (codes "--entries") 10000 ≡ Some entries
+AreEntries text words entries (Some x) =
+    (names_folder text words ≡ true) × (entries ≡ 10000)
+    × number_given text words (codes "--entries") 10000 ≡ Some x.entries
+    × option_map (λ room. min room x.entries) (number_given text words (codes "--room") 1000000) ≡ Some x.room
+
 -- The settings are what the words say: the task that they name, the number that they give each option behind it, or its default, and the
 -- flags.
 pub record AreSaid {W : Type 0} (text : W → List ℕ) (words : List W) (s : Settings) : Type 0 where
@@ -86,7 +106,8 @@ pub record AreSaid {W : Type 0} (text : W → List ℕ) (words : List W) (s : Se
   pub has_procs : s.has_procs ≡ is_some (given text (behind words) (codes "--procs"))
   pub machines : number_given text (behind words) (codes "--machines") 1 ≡ Some s.machines
   pub channels : number_given text (behind words) (codes "--channels") 16 ≡ Some s.channels
-  pub entries : number_given text (behind words) (codes "--entries") 10000 ≡ Some s.entries
+  pub entries : AreEntries text (behind words) s.entries s.segments
+  pub together : go_together text (behind words) ≡ true
   pub word : number_given text (behind words) (codes "--word") 0 ≡ Some s.word
   pub acts : number_given text (behind words) (codes "--acts") 10000000 ≡ Some s.acts
   pub random : number_given text (behind words) (codes "--random") 0 ≡ Some s.random

@@ -215,6 +215,17 @@ impl Ended {
         }
     }
 
+    /// The parts that were written are no run to its end, with as many entries as the machines made calls.
+    pub fn no_run() -> Self
+        ensures status { result.status ≡ 6 }
+        ensures said { result.said ≡ Said.NoRun }
+    {
+        Ended {
+            status: 6,
+            said: Said::NoRun,
+        }
+    }
+
     /// The command line was refused, with this text.
     pub fn usage(text: String) -> Self
         ensures status { result.status ≡ 64 }

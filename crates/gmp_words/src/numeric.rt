@@ -12,6 +12,7 @@ use gmp_script::number;
 use std::alloc::Global;
 
 /// An option that takes a number.
+#[derive(Clone, Copy)]
 pub struct Numeric {
     /// The option without its dashes.
     pub id: &'static str,

@@ -37,6 +37,18 @@ pub struct Wanted {
     pub no_leak: bool,
 }
 
+/// How long a run is whose history is handed out in segments, and how much of it is kept.
+#[derive(Clone, Copy, Debug, PartialEq, Eq)]
+pub struct Segments {
+    /// The most entries that the run may have: 16 to 9,223,372,036,854,775,807.
+    pub entries: u64,
+    /// The most of them that are kept at a time: 16 to 1,000,000, and no more than the run may have.
+    pub room: u32,
+    pub ghost entries_in_range: { (16 ≤ entries) × (entries ≤ 9223372036854775807) },
+    pub ghost room_in_range: { (16 ≤ room) × (room ≤ 1000000) },
+    pub ghost room_within: { room ≤ entries },
+}
+
 /// What the command line says: the task, and the number of each option.
 #[derive(Clone, Copy, Debug, PartialEq, Eq)]
 pub struct Settings {
@@ -49,8 +61,10 @@ pub struct Settings {
     pub machines: u8,
     /// The most channels that a run may have: 0 to 1,024.
     pub channels: u16,
-    /// The most entries that a history may have: 16 to 1,000,000.
+    /// The most entries that a history may have: 16 to 1,000,000. Of a run in segments, those say it.
     pub entries: u32,
+    /// The segments of a run whose history is not kept whole. Which folder they go to, `folder` says.
+    pub segments: Option<Segments>,
     /// The word that every choice draws.
     pub word: u64,
     /// The most acts that the machines may make: 1 to 1,000,000,000.
@@ -81,9 +95,9 @@ pub struct Settings {
 
 impl Settings {
     ghost use Rattle.std.specs.Prelude.{◌≡◌};
-    ghost use Rattle.gmp_words.specs.Runs.{limits_of};
+    ghost use Rattle.gmp_words.specs.Runs.{limits_in, limits_of};
 
-    /// The limits of a run.
+    /// The limits of a run whose history is kept whole.
     pub fn limits(&self) -> Limits
         ensures { result ≡ limits_of self.now }
     {
@@ -93,6 +107,17 @@ impl Settings {
             channels: self.channels,
             entries: u64::from(self.entries),
             room: self.entries,
+        }
+    }
+
+    /// The limits of a run in these segments.
+    pub fn limits_in(&self, segments: Segments) -> Limits
+        ensures { result ≡ limits_in segments self.now }
+    {
+        Limits {
+            entries: segments.entries,
+            room: segments.room,
+            ..self.limits()
         }
     }
 }

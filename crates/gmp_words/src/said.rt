@@ -42,6 +42,8 @@ pub enum Said {
     OutOfMemory,
     /// The least machine whose count of calls is not the number of its entries.
     Mismatch(MNo),
+    /// The parts that were written are no run to its end, with as many entries as the machines made calls.
+    NoRun,
     /// There is no trace of what was found.
     NoTrace(Untraced),
     /// A text of the command line's parser: why it refused, or the help that was asked for.
@@ -67,6 +69,7 @@ impl fmt::Display for Said {
             Said::BadLimits => f.write_str("gmp: bad limits\n"),
             Said::OutOfMemory => f.write_str("gmp: out of memory\n"),
             Said::Mismatch(m) => writeln!(f, "gmp: audit: machine {}", m.0),
+            Said::NoRun => f.write_str("gmp: audit: no run\n"),
             Said::NoTrace(Untraced::Crowded(procs)) => {
                 writeln!(f, "gmp: no trace: too few processors: {procs}")
             }

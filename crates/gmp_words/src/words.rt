@@ -1,324 +1,23 @@
 //! Reads the words of the command line. `clap` reads it first and says what is wrong; then the numbers are read anew by `Numeric`.
-//! Each option and each command is a function or a constant here, with its texts.
 
-ghost use Rattle.std.specs.Prelude.{◌≡◌, ◌≢◌, ◌⊎◌, codes, string_bytes, true, Some, IfOk, IfErr, IfSome};
+ghost use Rattle.std.specs.Prelude.{◌≡◌, ◌≢◌, ◌≤◌, ◌⊎◌, ℕ, List, codes, string_bytes, true, Some, IsSome, IfOk, IfErr, IfSome};
+ghost use Rattle.core.specs.Str.{IsUtf8};
 ghost use Rattle.gmp_words.specs.Said.{is_of_words};
-ghost use Rattle.gmp_words.specs.Words.{AreSaid, AreWanted, behind, is_given, is_named, number_given};
+ghost use Rattle.gmp_words.specs.Words.{AreEntries, AreSaid, AreWanted, behind, given, go_together, is_given, is_named, names_folder, number_given};
 ghost use Rattle.clap.specs.Values.{kind_of};
 
+use crate::commands::{
+    ACTS, AT, CHANNELS, ENTRIES, ENTRIES_IN_SEGMENTS, FROM, MACHINES, PROCS, RANDOM, ROOM, STATES,
+    TO, WORD, command,
+};
 use crate::ended::Ended;
-use crate::numeric::{Numeric, given};
-use crate::options::{Settings, Task, Wanted};
+use crate::numeric::given;
+use crate::options::{Segments, Settings, Task, Wanted};
 use crate::said::Said;
 use crate::wanting;
+use clap::Command;
 use clap::error::ErrorKind;
-use clap::{Arg, ArgAction, Command};
-use gmp_seq::{LEAST_ROOM, MOST_CHANNELS, MOST_MACHINES, MOST_PROCS};
-use std::alloc::{AllocError, Global};
-
-/// The most entries of a trace that the program writes: all are kept at once.
-pub const MOST_ENTRIES: u32 = 1_000_000;
-
-// The options, each with the range that its type of settings has: what is read is narrowed without a loss.
-const PROCS: Numeric = Numeric {
-    id: "procs",
-    option: "--procs",
-    help: "Processors, 1 to 32 [default: 1]",
-    least: 1,
-    most: MOST_PROCS as u64,
-    default: 1,
-};
-
-/// The same for `explore`.
-const PROCS_OF_ALL: Numeric = Numeric {
-    help: "Processors, 1 to 32 [default: one for each goroutine, but 32 at most]",
-    ..PROCS
-};
-
-const MACHINES: Numeric = Numeric {
-    id: "machines",
-    option: "--machines",
-    help: "Machines, 1 to 64 [default: 1]",
-    least: 1,
-    most: MOST_MACHINES as u64,
-    default: 1,
-};
-
-const CHANNELS: Numeric = Numeric {
-    id: "channels",
-    option: "--channels",
-    help: "The most channels, 0 to 1024 [default: 16]",
-    least: 0,
-    most: MOST_CHANNELS as u64,
-    default: 16,
-};
-
-const ENTRIES: Numeric = Numeric {
-    id: "entries",
-    option: "--entries",
-    help: "The most entries, 16 to 1000000 [default: 10000]",
-    least: LEAST_ROOM as u64,
-    most: MOST_ENTRIES as u64,
-    default: 10_000,
-};
-
-const WORD: Numeric = Numeric {
-    id: "word",
-    option: "--word",
-    help: "The word that every choice draws, 0 to 18446744073709551615 [default: 0]",
-    least: 0,
-    most: u64::MAX,
-    default: 0,
-};
-
-const ACTS: Numeric = Numeric {
-    id: "acts",
-    option: "--acts",
-    help: "The most acts of machines, 1 to 1000000000 [default: 10000000]",
-    least: 1,
-    most: 1_000_000_000,
-    default: 10_000_000,
-};
-
-const RANDOM: Numeric = Numeric {
-    id: "random",
-    option: "--random",
-    help: "The number that seeds each machine's words, 0 to 18446744073709551615 [default: 0]",
-    least: 0,
-    most: u64::MAX,
-    default: 0,
-};
-
-const AT: Numeric = Numeric {
-    id: "at",
-    option: "--at",
-    help: "The entry from which the part begins, 0 to 18446744073709551615 [default: 0]",
-    least: 0,
-    most: u64::MAX,
-    default: 0,
-};
-
-const FROM: Numeric = Numeric {
-    id: "from",
-    option: "--from",
-    help: "The first entry that is drawn, 0 to 18446744073709551615 [default: 0]",
-    least: 0,
-    most: u64::MAX,
-    default: 0,
-};
-
-const TO: Numeric = Numeric {
-    id: "to",
-    option: "--to",
-    help: "The entry before which the picture ends [default: 5000 entries behind the first]",
-    least: 0,
-    most: u64::MAX,
-    default: u64::MAX,
-};
-
-const STATES: Numeric = Numeric {
-    id: "states",
-    option: "--states",
-    help: "The most states that are looked at, 1 to 100000000 [default: 1000000]",
-    least: 1,
-    most: 100_000_000,
-    default: 1_000_000,
-};
-
-/// The program's version, and that of the traces that it writes and reads.
-const VERSION: &str = "0.1.0 (gmp-trace 1, 2, 3)";
-
-/// What stands behind the help of the program.
-const STATUSES: &str =
-    "A script, or for check, join, cut, explain and draw a trace, comes on standard input; what is asked for goes to standard
-output.
-
-Exit status:
-  0   main ended, the trace is right, or help or the version was asked for
-  1   the input is bad or can't be read, or the output can't be written
-  2   all goroutines are asleep: deadlock; explore: in some run
-  3   the history is full
-  4   step: no end yet, by --acts or since all machines are parked
-  5   memory was refused
-  6   run: a machine's count of its calls is not that of the history; explore: no trace of what was found
-  7   explore: in some run a goroutine is told a fault
-  8   explore: some run leaves a goroutine or a value behind
-  9   explore: not known, since there are more states than --states says
-  64  the command line or the limits are bad
-
-Try: gmp step < examples/hello.gmp | gmp check";
-
-/// What stands behind the help of `step`; those of the other commands follow.
-const STEP_INPUT: &str = "The script comes on standard input, and the trace goes to standard output.
-
-Exit status: 0 main ended, 2 deadlock, 3 the history is full, 4 no end yet (--acts, or all machines are parked),
-1 bad script, input or output, 5 out of memory, 64 bad command line or limits.";
-
-const RUN_INPUT: &str =
-    "The script comes on standard input, and the summary or the trace goes to standard output.
-The lines `clock` of a script are passed over: a moment is in nanoseconds since the program's start.
-
-Exit status: 0 main ended, 2 deadlock, 3 the history is full, 1 bad script, input or output, 5 out of memory,
-6 a count of calls that is not that of the history, 64 bad command line or limits.";
-
-const CHECK_INPUT: &str =
-    "The trace comes on standard input, and its summary goes to standard output.
-
-Exit status: 0 the trace is right, 1 it is not (the first bad line is named), or bad input or output,
-5 out of memory, 64 bad command line.";
-
-const JOIN_INPUT: &str =
-    "Traces come on standard input, one behind another as they are written: the parts of one run, each of which begins at the
-state where the one before stops. How the last one ends, how many entries there are and how many parts goes to standard
-output once all of them are read.
-
-Exit status: 0 the parts are one run, 1 one of them is not right or doesn't go on where the one before stops (the first
-such part is named), or bad input or output, 5 out of memory, 64 bad command line.";
-
-const CUT_INPUT: &str =
-    "The trace comes on standard input, and the part of it goes to standard output: a trace that begins at the state
-before entry N, which anybody can check alone.
-
-Exit status: 0 the part was written, 1 the trace is not right (the first bad line is named), or bad input or output,
-5 out of memory, 64 bad command line, or there is no such part.";
-
-const EXPLAIN_INPUT: &str =
-    "The trace comes on standard input, and what it tells of its run goes to standard output, one fact a line: how it ended,
-what each goroutine does and since when, who waits for whom, and what each machine did. Of an entry that is no step
-it says which replies are allowed there, or what is missing.
-
-Exit status: as of check.";
-
-const DRAW_INPUT: &str =
-    "The trace comes on standard input, and a picture of it (SVG) goes to standard output: a lane for each machine and
-each channel, from left to right by entries.
-
-Exit status: as of check.";
-
-const EXPLORE_INPUT: &str =
-    "The script comes on standard input. What no run is to have is looked for in all runs of it, by any machines, processors and
-clock: what goes wrong goes to standard output with the choices that lead there, or how many states were looked at.
-
-Exit status: 0 no run has it, 2 a deadlock, 7 a fault, 8 a leak, 9 not known (there are more states), 1 bad script,
-input or output, 5 out of memory, 6 no trace of what was found, 64 bad command line or limits.";
-
-/// The command with these options.
-fn with<'a>(
-    alloc: Global,
-    command: Command<'a>,
-    options: &[Numeric],
-) -> Result<Command<'a>, AllocError> {
-    let mut command = command;
-    for option in options {
-        command = command.arg(option.arg(alloc))?;
-    }
-    Ok(command)
-}
-
-/// The command `step`, with its options.
-fn step<'a>(alloc: Global) -> Result<Command<'a>, AllocError> {
-    let step = Command::new(alloc, "step")
-        .about("Runs a script in one thread and prints the trace")
-        .after_help(STEP_INPUT);
-    with(
-        alloc,
-        step,
-        &[PROCS, MACHINES, CHANNELS, ENTRIES, WORD, ACTS],
-    )
-}
-
-/// The command `run`, with its options.
-fn run<'a>(alloc: Global) -> Result<Command<'a>, AllocError> {
-    let run = Command::new(alloc, "run")
-        .about("Runs a script by machines in threads and prints the summary")
-        .after_help(RUN_INPUT);
-    with(alloc, run, &[PROCS, MACHINES, CHANNELS, ENTRIES, RANDOM])?.arg(trace(
-        alloc,
-        "Prints the trace, and not the summary",
-    ))
-}
-
-/// The flag `--trace`, with what `--help` says of it.
-fn trace<'a>(alloc: Global, help: &'static str) -> Arg<'a> {
-    Arg::new(alloc, "trace")
-        .long("trace")
-        .action(ArgAction::SetTrue)
-        .help(help)
-}
-
-/// The command `check`, which has no options.
-fn check<'a>(alloc: Global) -> Command<'a> {
-    Command::new(alloc, "check")
-        .about("Reads a trace, checks it and prints its summary")
-        .after_help(CHECK_INPUT)
-}
-
-/// The command `join`, which has no options.
-fn join<'a>(alloc: Global) -> Command<'a> {
-    Command::new(alloc, "join")
-        .about("Reads the parts of a run, checks that they are one run and prints how long it is")
-        .after_help(JOIN_INPUT)
-}
-
-/// The command `cut`, with its option.
-fn cut<'a>(alloc: Global) -> Result<Command<'a>, AllocError> {
-    let cut = Command::new(alloc, "cut")
-        .about("Reads a trace, checks it and prints the part from an entry on")
-        .after_help(CUT_INPUT);
-    with(alloc, cut, &[AT])
-}
-
-/// The command `explain`, with its flag.
-fn explain<'a>(alloc: Global) -> Result<Command<'a>, AllocError> {
-    Command::new(alloc, "explain")
-        .about("Reads a trace, checks it and says what it tells of its run")
-        .after_help(EXPLAIN_INPUT)
-        .arg(
-            Arg::new(alloc, "json")
-                .long("json")
-                .action(ArgAction::SetTrue)
-                .help("Prints one JSON object, and not lines"),
-        )
-}
-
-/// The command `draw`, with its options.
-fn draw<'a>(alloc: Global) -> Result<Command<'a>, AllocError> {
-    let draw = Command::new(alloc, "draw")
-        .about("Reads a trace, checks it and prints a picture of it")
-        .after_help(DRAW_INPUT);
-    with(alloc, draw, &[FROM, TO])
-}
-
-/// The command `explore`, with its options.
-fn explore<'a>(alloc: Global) -> Result<Command<'a>, AllocError> {
-    let explore = Command::new(alloc, "explore")
-        .about(
-            "Looks at all runs of a script and prints what goes wrong in one, or that nothing does",
-        )
-        .after_help(EXPLORE_INPUT);
-    with(alloc, explore, &[PROCS_OF_ALL, CHANNELS, STATES])?
-        .arg(wanting::arg(alloc))?
-        .arg(trace(alloc, "Prints a trace of what goes wrong"))
-}
-
-/// The program with all its commands.
-fn command<'a>(alloc: Global) -> Result<Command<'a>, AllocError> {
-    Command::new(alloc, "gmp")
-        .version(VERSION)
-        .about(
-            "Runs scripts of goroutines, logs each call of their scheduler, and checks such logs",
-        )
-        .after_help(STATUSES)
-        .subcommand_required(true)
-        .subcommand(step(alloc)?)?
-        .subcommand(run(alloc)?)?
-        .subcommand(check(alloc))?
-        .subcommand(join(alloc))?
-        .subcommand(cut(alloc)?)?
-        .subcommand(explain(alloc)?)?
-        .subcommand(draw(alloc)?)?
-        .subcommand(explore(alloc)?)
-}
+use std::alloc::Global;
 
 /// What a refusal by `clap` ends with: its own text, and for help or the version that was asked for status 0.
 fn refused(alloc: Global, error: &clap::Error) -> Ended
@@ -397,23 +96,82 @@ fn of_trace(options: &[String]) -> Option<OfTrace>
     })
 }
 
+/// Whether the words name a folder for the segments of the history.
+fn names_folder(options: &[String]) -> bool
+    ensures { result ≡ names_folder string_bytes options.now }
+{
+    given(b"--segments", options).is_some()
+}
+
+/// Whether no option is among the words that another one excludes, or that wants another one.
+fn go_together(options: &[String]) -> bool
+    ensures { result ≡ go_together string_bytes options.now }
+{
+    if names_folder(options) {
+        !is_given(options, b"--trace")
+    } else {
+        given(b"--room", options).is_none()
+    }
+}
+
+/// How long a run is: of a whole history the first, of segments the second.
+#[derive(Clone, Copy)]
+struct Length {
+    entries: u32,
+    segments: Option<Segments>,
+}
+
+/// What the options say of a run's length.
+///
+/// None where a number is out of range, or is not written in digits alone.
+fn length_of(options: &[String]) -> Option<Length>
+    ensures said { IfSome result (λ x. AreEntries string_bytes options.now x.entries x.segments) }
+    ensures in_range { IfSome result (λ x. (16 ≤ x.entries) × (x.entries ≤ 1000000)) }
+{
+    if !names_folder(options) {
+        return Some(Length {
+            entries: ENTRIES.read(options)? as u32,
+            segments: None,
+        });
+    }
+    let entries = ENTRIES_IN_SEGMENTS.read(options)?;
+    let room = ROOM.read(options)?.min(entries) as u32;
+    Some(Length {
+        entries: ENTRIES.default as u32,
+        segments: Some(Segments { entries, room }),
+    })
+}
+
+/// The folder that a run in segments writes into.
+///
+/// None where the words name none, or its name isn't UTF-8.
+pub fn folder(words: &[String]) -> Option<&str>
+    ensures value { IfSome result (λ text. given string_bytes (behind words.now) (codes "--segments") ≡ Some text.now) }
+    ensures succeeds { (text : List ℕ) → given string_bytes (behind words.now) (codes "--segments") ≡ Some text → IsUtf8 text → IsSome result }
+{
+    str::from_utf8(given(b"--segments", behind(words))?).ok()
+}
+
 /// What the words say for this task.
 ///
 /// None where a number is out of range, or is not written in digits alone.
 fn settings_of(task: Task, wanted: Wanted, words: &[String]) -> Option<Settings>
     requires task { is_named string_bytes words.now task ≡ true }
     requires wanted { AreWanted string_bytes (behind words.now) wanted }
+    requires together { go_together string_bytes (behind words.now) ≡ true }
     ensures { IfSome result (AreSaid string_bytes words.now) }
 {
     let options = behind(words);
     let of_trace = of_trace(options)?;
+    let length = length_of(options)?;
     Some(Settings {
         task,
         procs: PROCS.read(options)? as u8,
         has_procs: given(b"--procs", options).is_some(),
         machines: MACHINES.read(options)? as u8,
         channels: CHANNELS.read(options)? as u16,
-        entries: ENTRIES.read(options)? as u32,
+        entries: length.entries,
+        segments: length.segments,
         word: WORD.read(options)?,
         acts: ACTS.read(options)? as u32,
         random: RANDOM.read(options)?,
@@ -434,7 +192,7 @@ pub fn settings<'a>(alloc: Global, words: &'a [String]) -> Result<Settings, Ende
     ensures ok { IfOk result (AreSaid string_bytes words.now) }
     ensures err { IfErr result (λ e. is_of_words e.said ≡ true) }
 {
-    let mut command: Command<'a> = command(alloc)?;
+    let mut command: Command<'a> = command(alloc, names_folder(behind(words)))?;
     if let Err(error) = command.try_get_matches_from_mut(words) {
         return Err(refused(alloc, &error));
     }
@@ -448,6 +206,14 @@ pub fn settings<'a>(alloc: Global, words: &'a [String]) -> Result<Settings, Ende
         let error = command.error(ErrorKind::InvalidValue, "nothing of this name is wanted")?;
         return Err(refused(alloc, &error));
     };
+    // And this, for options that it takes together.
+    if !go_together(behind(words)) {
+        let error = command.error(
+            ErrorKind::ArgumentConflict,
+            "--room goes with --segments, and --trace does not",
+        )?;
+        return Err(refused(alloc, &error));
+    }
     let Some(settings) = settings_of(task, wanted, words) else {
         let error = command.error(
             ErrorKind::InvalidValue,

@@ -3,7 +3,7 @@ use Rattle.gmp_trace.specs.Text.{Content, content}
 use Rattle.gmp_check.proofs.Texts.{part_has_text}
 use Rattle.gmp_check.specs.Checked.{IsRight}
 use Rattle.gmp_check.specs.Parts.{IsPart}
-use Rattle.gmp_check_cli.specs.Check.{IsRightTrace}
+use Rattle.gmp_parts.specs.Parts.{IsRightTrace}
 use Rattle.gmp_check_cli.proofs.cutting.cut.Goals as goal
 
 -- the part of a right trace is one

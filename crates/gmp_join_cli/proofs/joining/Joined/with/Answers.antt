@@ -1,7 +1,7 @@
 use Rattle.std.proofs.Common.{ℕ, ◌+◌, IsTrue, ap, arith, rules, length-append}
 use Rattle.gmp_trace.specs.Text.{content}
-use Rattle.gmp_join_cli.proofs.Parts.{parts_few}
-use Rattle.gmp_join_cli.specs.Join.{entries_of}
+use Rattle.gmp_parts.proofs.Parts.{parts_few}
+use Rattle.gmp_parts.specs.Parts.{entries_of}
 use Rattle.gmp_join_cli.proofs.joining.Joined.with.Goals as goal
 
 pub overflow_add-result : goal.overflow_add-result

@@ -2,8 +2,8 @@ use Rattle.std.proofs.Common.{◌≡◌, ◌∙◌, ℕ, List, ◌++◌, ◌∷�
 use Rattle.std.specs.Io.KnownBytes.{Appends}
 use Rattle.gmp_trace.specs.declared.trace.End.{End}
 use Rattle.gmp_trace.specs.Summary.{entries_line, outcome_line}
-use Rattle.gmp_join_cli.specs.Join.{parts_line}
-use Rattle.gmp_join_cli.proofs.joining.tell.Goals as goal
+use Rattle.gmp_parts.specs.Parts.{parts_line}
+use Rattle.gmp_parts.proofs.telling.tell.Goals as goal
 
 three_lines : (words : List ℕ) (end : End) (n k : ℕ) → codes "outcome: " ++ (words ++ 10 ∷ []) ≡ outcome_line end
     → codes "outcome: " ++ (words ++ (codes "\nentries: " ++ (decimal n ++ (codes "\nparts: " ++ (decimal k ++ 10 ∷ [])))))

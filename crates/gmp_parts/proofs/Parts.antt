@@ -13,9 +13,9 @@ use Rattle.gmp_check.proofs.Keeping.{run_keeps}
 use Rattle.gmp_check.proofs.Texts.{join_has_text, joined_right}
 use Rattle.gmp_check.specs.Checked.{IsRight, start_of}
 use Rattle.gmp_check.specs.Parts.{IsJoined, Meets}
-use Rattle.gmp_check_cli.specs.Check.{IsRightTrace}
-use Rattle.gmp_join_cli.specs.Join.{AreInOrder, Parts, entries_of, whole}
-use Rattle.gmp_join_cli.specs.Join.Parts.{NoPart, Then}
+use Rattle.gmp_parts.specs.Parts.{IsRightTrace}
+use Rattle.gmp_parts.specs.Parts.{AreInOrder, Parts, entries_of, whole}
+use Rattle.gmp_parts.specs.Parts.Parts.{NoPart, Then}
 
 joined_run : (x y : Content) (t : State) → Meets x y → Run y.limits (start_of y) y.entries t → Run x.limits (start_of x) (x.entries ++ y.entries) t
 joined_run x y t meets run =
