@@ -1,12 +1,12 @@
 //! Main: for each request it starts a goroutine, to which it hands the request over, and it adds the answers up.
 
 use crate::request::{Answer, Request};
-use gmp_host::{Ask, Fault, Goroutine, Nonsense, Note, Outputs, Select, Spawner, Time, Woke};
+use gmp_host::{Ask, Channel, Fault, Goroutine, Nonsense, Note, Outputs, Spawner, Time, Woke};
 
 /// How many requests are served at a time: for each there is a goroutine.
 pub const AT_ONCE: u16 = 64;
 
-/// How long main waits for an answer before it counts it as late, in milliseconds.
+/// How long a request waits for a place before it is late, in milliseconds.
 const PATIENCE: u64 = 60_000;
 
 /// What main does next.
@@ -29,10 +29,11 @@ enum Step {
 pub struct Shared {
     pub spawner: Spawner<Request>,
     pub answers: Outputs<Answer>,
+    pub places: Channel,
     pub time: Time,
     /// The sum of the answers.
     pub sum: Note,
-    /// How many answers were late.
+    /// How many requests were late.
     pub late: Note,
 }
 
@@ -65,19 +66,23 @@ impl Front {
     fn goes_on(&mut self) -> Ask {
         let served = self.handed.saturating_sub(self.answered);
         if self.handed < self.count && served < u64::from(AT_ONCE) {
-            return self.hands(Request::new(self.handed.saturating_add(1)));
+            return self.hands();
         }
         if self.answered < self.count {
-            return self.hears();
+            self.step = Step::Hears;
+            return self.shared.answers.told.recv();
         }
         Ask::Exit
     }
 
-    /// Hands the request over, and starts a goroutine for it.
-    fn hands(&mut self, request: Request) -> Ask {
+    /// Hands the next request over, and starts a goroutine for it.
+    fn hands(&mut self) -> Ask {
+        let Shared { places, time, .. } = &self.shared;
+        let number = self.handed.saturating_add(1);
+        let request = Request::new(number, *places, time.in_ms(PATIENCE));
         match self.shared.spawner.spawn(request) {
             Ok(ask) => {
-                self.handed = self.handed.saturating_add(1);
+                self.handed = number;
                 self.step = Step::Starts;
                 ask
             }
@@ -88,14 +93,6 @@ impl Front {
         }
     }
 
-    /// Waits to hear of an answer.
-    fn hears(&mut self) -> Ask {
-        self.step = Step::Hears;
-        Select::new()
-            .recv(self.shared.answers.told)
-            .until(self.shared.time.in_ms(PATIENCE))
-    }
-
     /// Takes an answer.
     fn takes(&mut self) -> Ask {
         let Some(answer) = self.shared.answers.take() else {
@@ -103,7 +100,10 @@ impl Front {
             return Ask::Yield;
         };
         self.answered = self.answered.saturating_add(1);
-        self.shared.sum.add(answer.double);
+        match answer.double {
+            Some(double) => self.shared.sum.add(double),
+            None => self.shared.late.add(1),
+        }
         self.goes_on()
     }
 }
@@ -123,13 +123,7 @@ impl Goroutine for Front {
                 self.step = Step::Starts;
                 Ok(Ask::Spawn)
             }
-            (Step::Hears, Woke::Chose(0, Some((_, true)))) | (Step::Takes, Woke::Done) => {
-                Ok(self.takes())
-            }
-            (Step::Hears, Woke::Late) => {
-                self.shared.late.add(1);
-                Ok(self.hears())
-            }
+            (Step::Hears, Woke::Got(_, true)) | (Step::Takes, Woke::Done) => Ok(self.takes()),
             _ => Err(Nonsense),
         }
     }

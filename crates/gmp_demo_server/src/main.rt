@@ -11,6 +11,7 @@ mod request;
 
 use crate::front::{AT_ONCE, Front, Shared};
 use crate::judge::Judge;
+use crate::request::PLACES;
 use anyhow::{Context, Result};
 use gmp_host::{Host, Settings};
 use std::env;
@@ -33,13 +34,14 @@ fn main(rt: HostRuntime) -> Result<ExitCode> {
     let count: u64 = word.as_str().parse()?;
     let settings = settings();
     let mut host = Host::new(alloc, settings)?;
-    let told = host.channel(0)?;
+    let (told, places) = (host.channel(0)?, host.channel(PLACES)?);
     let (sum, late) = (host.note()?, host.note()?);
     let answers = host.outputs(u32::from(AT_ONCE), told)?;
     let spawner = host.spawner(u32::from(AT_ONCE))?;
     let shared = Shared {
         spawner: spawner.share()?,
         answers: answers.share()?,
+        places,
         time: host.time()?,
         sum: sum.share()?,
         late: late.share()?,
@@ -50,7 +52,7 @@ fn main(rt: HostRuntime) -> Result<ExitCode> {
         let goroutine = host.boxed(spawner.goroutine(&answers)?)?;
         host.push(goroutine)?;
     }
-    let judge = Judge::new(alloc, settings.limits(), AT_ONCE + 1, &[0])?;
+    let judge = Judge::new(alloc, settings.limits(), AT_ONCE + 1, &[0, PLACES])?;
     let (ended, judge) = host.run_into(&rt, judge);
     let ended = ended?;
     println!(rt;

@@ -1,5 +1,5 @@
 -- What a run came to, of whose history each piece was handed out, the last one too.
-use Rattle.std.proofs.Common.{◌≡◌, ◌<◌, ◌^◌, ℕ, List, [], ◌∷◌, ◌++◌, Some, length, ap, sym, subst, ◌∙◌, arith}
+use Rattle.std.proofs.Common.{◌≡◌, ◌<◌, ◌^◌, ℕ, List, [], ◌∷◌, ◌++◌, Some, length, append-nil, ap, sym, subst, ◌∙◌, arith}
 use Rattle.gmp_seq.proofs.Counts.{legal_total}
 use Rattle.gmp_seq.proofs.InOrder.{legal_in_order}
 use Rattle.gmp_seq.specs.declared.call.Entry.{Entry}
@@ -11,7 +11,7 @@ use Rattle.gmp_run.specs.declared.ending.Report.{Report}
 use Rattle.gmp_run.specs.Desks.{joined}
 use Rattle.gmp_run.specs.Reports.{IsPiecesReport}
 use Rattle.gmp_host.specs.declared.ending.Ended.{Ended}
-use Rattle.gmp_host.specs.Ends.{IsOfPieces}
+use Rattle.gmp_host.specs.Ends.{IsOfPieces, StopsPieces}
 
 module _ {T S : Type 0} (takes : S → List Entry → S → Type 0) (limits : Limits) (capacities : List ℕ) (bodies : ℕ) (began : S) (r : Report T) (mid : S)
     (p : IsPiecesReport takes limits capacities bodies began r mid) where
@@ -36,5 +36,28 @@ module _ {T S : Type 0} (takes : S → List Entry → S → Type 0) (limits : Li
         legal = subst (λ (h : List Entry). IsLegal limits bodies capacities h p.report.last) (sym one_more) p.report.legal;
         outcome = p.report.outcome ∙ sym outcome;
         entries = ap (λ (h : List Entry). length h) one_more ∙ (p.report.calls ∙ sym entries);
+        within = p.report.within;
+      }
+
+  -- it stopped the run before, or took none of the last piece
+  pub stopped_before : StopsPieces takes limits capacities bodies began mid
+  stopped_before = record {
+    pieces = p.pieces;
+    left = r.history.list;
+    taken = p.taken;
+    last = p.report.last;
+    legal = p.report.legal;
+    within = p.report.within;
+  }
+
+  pub stopped_at_last : (sink : S) → takes mid [] sink → StopsPieces takes limits capacities bodies began sink
+  stopped_at_last sink took =
+      let none_more = joined_one_more p.pieces [] ∙ append-nil (joined p.pieces) in
+      record {
+        pieces = p.pieces ++ [] ∷ [];
+        left = r.history.list;
+        taken = takes_one_more takes began mid sink p.pieces [] p.taken took;
+        last = p.report.last;
+        legal = subst (λ (h : List Entry). IsLegal limits bodies capacities (h ++ r.history.list) p.report.last) (sym none_more) p.report.legal;
         within = p.report.within;
       }

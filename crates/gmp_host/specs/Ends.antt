@@ -1,5 +1,5 @@
 -- What is told of a run.
-use Rattle.std.specs.Prelude.{◌≡◌, ℕ, List, length, Some}
+use Rattle.std.specs.Prelude.{◌≡◌, ℕ, List, ◌++◌, length, Some}
 use Rattle.gmp_seq.specs.declared.call.Entry.{Entry}
 use Rattle.gmp_seq.specs.declared.call.Limits.{Limits}
 use Rattle.gmp_seq.specs.Fits.{AreLimits}
@@ -27,4 +27,14 @@ pub record IsOfPieces {S : Type 0} (takes : S → List Entry → S → Type 0) (
   pub legal : IsLegal limits bodies capacities (joined pieces) last
   pub outcome : last.outcome ≡ Some ended.outcome
   pub entries : length (joined pieces) ≡ ended.entries
+  pub within : AreLimits limits bodies capacities
+
+-- The sink took these pieces and then stopped the run: in order, and with the entries that it left, they are a legal run, from the opening under
+-- these limits, with these capacities and so many bodies.
+pub record StopsPieces {S : Type 0} (takes : S → List Entry → S → Type 0) (limits : Limits) (capacities : List ℕ) (bodies : ℕ) (began : S) (sink : S) : Type 0 where
+  pub pieces : List (List Entry)
+  pub left : List Entry
+  pub taken : TakesAll takes began pieces sink
+  pub last : State
+  pub legal : IsLegal limits bodies capacities (joined pieces ++ left) last
   pub within : AreLimits limits bodies capacities

@@ -1,6 +1,6 @@
 //! How a run ended, or how it fell short.
 
-ghost use Rattle.std.specs.Prelude.{◌≡◌};
+ghost use Rattle.std.specs.Prelude.{◌≡◌, ◌≢◌};
 ghost use Rattle.gmp_base.specs.declared.refusal.Refusal.TheVariants as refusal;
 ghost use Rattle.gmp_host.specs.declared.ending.Short.TheVariants as short;
 
@@ -62,6 +62,8 @@ pub enum Short {
 }
 
 impl From<AllocError> for Short {
+    ghost from_gives = { λ _ why. why ≡ short.OutOfMemory };
+
     fn from(_error: AllocError) -> Short {
         Short::OutOfMemory
     }
@@ -74,7 +76,7 @@ impl<T: Drop> From<AllocFailed<T>> for Short {
 }
 
 impl From<Refusal> for Short {
-    ghost from_gives = { λ why e. e ≡ short.BadLimits → why ≡ refusal.BadLimits };
+    ghost from_gives = { λ why e. (e ≡ short.BadLimits → why ≡ refusal.BadLimits) × (e ≢ short.Stopped) };
 
     fn from(why: Refusal) -> Short {
         match why {

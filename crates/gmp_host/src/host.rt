@@ -1,8 +1,8 @@
 //! A host's goroutines and channels, and their run.
-ghost use Rattle.std.specs.Prelude.{◌≡◌, ◌≢◌, ◌++◌, ◌∷◌, ◌<◌, ◌^◌, [], IfErr, IfOk, OnErr, OnOk, Some, length};
+ghost use Rattle.std.specs.Prelude.{◌≡◌, ◌≢◌, ◌↔◌, ◌++◌, ◌∷◌, ◌<◌, ◌^◌, [], IfErr, IfOk, OnErr, OnOk, Some, length};
 ghost use Rattle.gmp_turn.specs.Whole.{IsWholeRun};
 ghost use Rattle.gmp_seq.specs.Fits.{AreLimits};
-ghost use Rattle.gmp_host.specs.Ends.{IsOfLegalRun, IsOfPieces};
+ghost use Rattle.gmp_host.specs.Ends.{IsOfLegalRun, IsOfPieces, StopsPieces};
 ghost use Rattle.gmp_host.specs.Openings.{limits_of};
 ghost use Rattle.gmp_run.specs.Counts.{all_calls};
 
@@ -104,14 +104,19 @@ impl Host {
     /// Where bodies leave their outputs, with memory for so many, at least one. Each goroutine that left one tells of it on this channel. One
     /// that finds no room yields again and again, which uses entries up.
     pub fn outputs<O: Drop>(&self, room: u32, told: Channel) -> Result<Outputs<O>, Short>
-        ensures room { IfOk result (λ _. 0 < room) }
+        ensures room { IfOk result (λ it. it.room ≡ room) }
         ensures told { IfOk result (λ it. it.told ≡ told) }
+        ensures limits { (result ≡ Err Short.BadLimits) ↔ (room ≡ 0) }
+        ensures memory { IfErr result (λ e. e ≢ Short.BadLimits → e ≡ Short.OutOfMemory) }
     {
         Outputs::new(self.alloc, room, told)
     }
 
     /// What starts goroutines and hands over their bodies, with memory for so many that no goroutine took yet.
-    pub fn spawner<T: Task>(&self, room: u32) -> Result<Spawner<T>, Short> {
+    pub fn spawner<T: Task>(&self, room: u32) -> Result<Spawner<T>, Short>
+        ensures room { IfOk result (λ it. it.room ≡ room) }
+        ensures memory { IfErr result (λ e. e ≡ Short.OutOfMemory) }
+    {
         Spawner::new(self.alloc, room)
     }
 
@@ -247,6 +252,8 @@ impl Host {
         ensures limits { IfErr result.0 (λ e. e ≡ Short.BadLimits
             → AreLimits (limits_of self.settings) (length self.bodies.items) self.capacities.items → ⊥) }
         ensures unused { IfErr result.0 (λ e. e ≢ Short.Stopped → result.1 ≡ sink) }
+        ensures stopped { IfErr result.0 (λ e. e ≡ Short.Stopped
+            → StopsPieces S.takes (limits_of self.settings) self.capacities.items (length self.bodies.items) sink result.1) }
     {
         if !self.is_pushed() {
             return (Err(Short::NotPushed), sink);

@@ -1,6 +1,6 @@
 //! Goroutines that are handed their bodies when they are started, and leave what these found out.
 
-ghost use Rattle.std.specs.Prelude.{◌≡◌, ◌<◌, IfErr, IfOk};
+ghost use Rattle.std.specs.Prelude.{◌≡◌, ◌≢◌, ◌↔◌, IfErr, IfOk};
 
 use crate::channel::Channel;
 use crate::ending::Short;
@@ -32,6 +32,8 @@ pub trait Task: Drop {
 #[derive(Drop)]
 pub struct Outputs<O> {
     left: Queue<O>,
+    /// How many may be there at a time.
+    pub room: u32,
     /// Where a goroutine sends 1 for each output that it left, once that is there, unless this is nil.
     pub told: Channel,
 }
@@ -39,23 +41,26 @@ pub struct Outputs<O> {
 impl<O: Drop> Outputs<O> {
     /// None yet, with memory for so many, at least one.
     pub(crate) fn new(alloc: Global, room: u32, told: Channel) -> Result<Self, Short>
-        ensures room { IfOk result (λ _. 0 < room) }
+        ensures room { IfOk result (λ it. it.room ≡ room) }
         ensures told { IfOk result (λ it. it.told ≡ told) }
+        ensures limits { (result ≡ Err Short.BadLimits) ↔ (room ≡ 0) }
+        ensures memory { IfErr result (λ e. e ≢ Short.BadLimits → e ≡ Short.OutOfMemory) }
     {
         if room == 0 {
             return Err(Short::BadLimits);
         }
-        let left = Queue::new(alloc, room as usize)?;
-        Ok(Outputs { left, told })
+        let left = Queue::new(alloc, room)?;
+        Ok(Outputs { left, room, told })
     }
 
     /// One more handle of them.
-    pub fn share(&self) -> Result<Self, Short> {
+    pub fn share(&self) -> Result<Self, Short>
+        ensures room { IfOk result (λ it. it.room ≡ self.now.room) }
+        ensures told { IfOk result (λ it. it.told ≡ self.now.told) }
+    {
         let left = self.left.share()?;
-        Ok(Outputs {
-            left,
-            told: self.told,
-        })
+        let Outputs { room, told, .. } = *self;
+        Ok(Outputs { left, room, told })
     }
 
     /// The oldest that is there. For each receive on `told` there is one. It is none too where other threads were at
@@ -74,29 +79,43 @@ impl<O: Drop> Outputs<O> {
 #[derive(Drop)]
 pub struct Spawner<T> {
     bodies: Queue<T>,
+    /// How many bodies may be handed over at a time that no goroutine took yet.
+    pub room: u32,
 }
 
 impl<T: Drop> Spawner<T> {
-    /// With memory for so many bodies that are handed over and not taken yet.
-    pub(crate) fn new(alloc: Global, room: u32) -> Result<Self, Short> {
-        let bodies = Queue::new(alloc, room as usize)?;
-        Ok(Spawner { bodies })
+    /// With memory for so many bodies.
+    pub(crate) fn new(alloc: Global, room: u32) -> Result<Self, Short>
+        ensures room { IfOk result (λ it. it.room ≡ room) }
+        ensures memory { IfErr result (λ e. e ≡ Short.OutOfMemory) }
+    {
+        let bodies = Queue::new(alloc, room)?;
+        Ok(Spawner { bodies, room })
     }
+}
 
+// Nothing is asked of `T`: a body that isn't `Drop` can't be let go, so none is lost here.
+impl<T> Spawner<T> {
     /// One more handle of it.
-    pub fn share(&self) -> Result<Self, Short> {
+    pub fn share(&self) -> Result<Self, Short>
+        ensures room { IfOk result (λ it. it.room ≡ self.now.room) }
+        ensures memory { IfErr result (λ e. e ≡ Short.OutOfMemory) }
+    {
         let bodies = self.bodies.share()?;
-        Ok(Spawner { bodies })
+        Ok(Spawner {
+            bodies,
+            room: self.room,
+        })
     }
 
     /// Hands the body over, to be run by the goroutine that the ask starts. The answer is `Woke::Done`, or `Fault::NoSuchBody` where none is
     /// free: the body stays handed over then, and who yields may ask `Ask::Spawn` for it again, or take one back. It comes back at once where
-    /// there is no room for it, or other threads were at the bodies all the while.
+    /// there is no room for it, or other threads were at the bodies all the while. It isn't let go on the way, of whatever type it is.
     pub fn spawn(&self, body: T) -> Result<Ask, T>
         ensures ask { IfOk result (λ it. it ≡ Ask.Spawn) }
         ensures back { IfErr result (λ it. it ≡ body) }
     {
-        self.bodies.put(body)?;
+        self.bodies.put(body, self.room)?;
         Ok(Ask::Spawn)
     }
 
@@ -179,7 +198,7 @@ impl<T: Task> Spawned<T> {
             Stage::Leaves(output) => output,
             _ => return Ask::Exit,
         };
-        if let Err(output) = self.outputs.left.put(output) {
+        if let Err(output) = self.outputs.left.put(output, self.outputs.room) {
             self.stage = Stage::Leaves(output);
             return Ask::Yield;
         }
