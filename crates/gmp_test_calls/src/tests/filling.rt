@@ -102,13 +102,14 @@ fn follow(
     Ok(piece.len())
 }
 
-/// The machines act in turn as in `play`, and each time that there is no room for another entry all are handed out. It tells how many were.
+/// The machines act in turn as in `play`, and each time that there is no room for another entry all are handed out; so are those that are left.
+/// It tells how many were handed out for want of room, and how many in all.
 fn play_in_pieces(
     rt: &impl Abort,
     alloc: Global,
     core: &mut Core<ScriptBody>,
     replay: &mut Replay,
-) -> Result<usize, Fail> {
+) -> Result<(usize, usize), Fail> {
     let mut count = 0usize;
     for _ in 0..ROUNDS {
         for m in MACHINES {
@@ -121,16 +122,12 @@ fn play_in_pieces(
             }
         }
     }
-    Ok(count)
+    let left = follow(rt, alloc, core, replay)?;
+    Ok((count, count.saturating_add(left)))
 }
 
 /// A run of this limit of entries that keeps 16 at a time: with what was handed out it has as many as where all are kept, and the same end.
-fn fills_in_pieces(
-    rt: &impl Abort,
-    alloc: Global,
-    row: Row,
-    entries: u32,
-) -> Result<(), Fail> {
+fn fills_in_pieces(rt: &impl Abort, alloc: Global, row: Row, entries: u32) -> Result<(), Fail> {
     let (text, procs, whole) = row;
     let limits = Limits {
         procs,
@@ -139,21 +136,20 @@ fn fills_in_pieces(
         entries: u64::from(entries),
         room: 16,
     };
-    let mut core = opened(rt, alloc, text, limits)?;
-    let bodies = script(alloc, &mut text.as_bytes())
+    let goroutines = text.matches("body").count() as u16;
+    let mut replay = Replay::open(alloc, limits, goroutines, &[])
         .ok()
-        .ok_or("the script")?
-        .bodies
-        .len() as u16;
-    let mut replay = Replay::open(alloc, limits, bodies, &[]).ok().ok_or("limits")?;
-    let handed = play_in_pieces(rt, alloc, &mut core, &mut replay)?;
-    let left = follow(rt, alloc, &mut core, &mut replay)?;
-    let all = handed.saturating_add(left);
+        .ok_or("limits")?;
+    let mut core = opened(rt, alloc, text, limits)?;
+    let played = play_in_pieces(rt, alloc, &mut core, &mut replay);
+    let is_done = are_done(&core);
+    let outcome = core.close();
+    let (handed, all) = played?;
     assert_eq!(rt; all, whole.min(entries as usize), "{entries}: {text}");
-    assert!(rt; handed == 16 || all == 16, "{entries}: {text}");
-    assert!(rt; are_done(&core), "{entries}: {text}");
-    assert_eq!(rt; replay.outcome(), core.outcome(), "{entries}: {text}");
-    assert!(rt; core.close().is_some(), "{entries}: {text}");
+    assert_eq!(rt; handed > 0, entries > 16, "{entries}: {text}");
+    assert!(rt; is_done, "{entries}: {text}");
+    assert!(rt; outcome.is_some(), "{entries}: {text}");
+    assert_eq!(rt; replay.outcome(), outcome, "{entries}: {text}");
     Ok(())
 }
 

@@ -86,11 +86,7 @@ fn options_of_explore_are_read(rt: HostRuntime) -> Result<(), Fail> {
 fn segments_are_read(rt: HostRuntime) -> Result<(), Fail> {
     for (line, want, name) in [
         ("gmp run --entries 1000000", None, None),
-        (
-            "gmp run --segments d",
-            Some((10_000, 10_000)),
-            Some("d"),
-        ),
+        ("gmp run --segments d", Some((10_000, 10_000)), Some("d")),
         (
             "gmp run --segments=/d --entries 9223372036854775807 --room=16",
             Some((9_223_372_036_854_775_807, 16)),
