@@ -27,6 +27,10 @@ use gmp_run_cli::{run, run_in_segments};
 use gmp_words::{Ended, Settings, Task, arguments, folder, settings};
 use std::io::{self, IsTerminal};
 use std::process::ExitCode;
+use std::rt::Files;
+use std::sync::Wait;
+use std::thread::Threads;
+use std::time::Clock;
 
 /// Says how it ended, on standard error, or at status 0 on standard output, and gives the exit code.
 fn finish(rt: &(impl Print + Eprint), ended: &Ended) -> ExitCode {
@@ -62,7 +66,14 @@ fn look(rt: &HostRuntime, settings: &Settings) -> Ended {
 
 /// Runs the script on standard input by threads: its history goes to the folder that the words name, or its trace or summary to standard
 /// output.
-fn run_script(rt: &HostRuntime, settings: &Settings, words: &[String]) -> Ended {
+fn run_script<R: Threads + Wait + Clock + Files + Input + Print + AllocGlobal + Sync>(
+    rt: &R,
+    settings: &Settings,
+    words: &[String],
+) -> Ended
+where
+    R::File: Send,
+{
     let alloc = rt.alloc();
     let (reader, writer, clock) = (&mut rt.reader(), &mut io::writer(rt), &Since::now(rt));
     let Some(segments) = settings.segments else {
@@ -73,9 +84,7 @@ fn run_script(rt: &HostRuntime, settings: &Settings, words: &[String]) -> Ended 
         return Ended::output_failed();
     };
     let folder = Folder::new(rt, alloc, name);
-    let ran = run_in_segments(
-        rt, alloc, settings, segments, folder, reader, writer, clock,
-    );
+    let ran = run_in_segments(rt, alloc, settings, segments, folder, reader, writer, clock);
     ran.ended
 }
 
