@@ -11,8 +11,10 @@
 //! the program can rely on it.
 #![tactic(auto)]
 
+mod folder;
 mod line;
 
+use crate::folder::Folder;
 use crate::line::Line;
 use gmp_check_cli::{check, cut};
 use gmp_cli::step;
@@ -21,8 +23,8 @@ use gmp_explain::explain;
 use gmp_explore_cli::explore;
 use gmp_host::Since;
 use gmp_join_cli::join;
-use gmp_run_cli::run;
-use gmp_words::{Ended, Settings, Task, arguments, settings};
+use gmp_run_cli::{run, run_in_segments};
+use gmp_words::{Ended, Settings, Task, arguments, folder, settings};
 use std::io::{self, IsTerminal};
 use std::process::ExitCode;
 
@@ -58,6 +60,25 @@ fn look(rt: &HostRuntime, settings: &Settings) -> Ended {
     found.ended
 }
 
+/// Runs the script on standard input by threads: its history goes to the folder that the words name, or its trace or summary to standard
+/// output.
+fn run_script(rt: &HostRuntime, settings: &Settings, words: &[String]) -> Ended {
+    let alloc = rt.alloc();
+    let (reader, writer, clock) = (&mut rt.reader(), &mut io::writer(rt), &Since::now(rt));
+    let Some(segments) = settings.segments else {
+        return run(rt, alloc, settings, reader, writer, clock);
+    };
+    // Each word is UTF-8, and `settings` has found that one names a folder.
+    let Some(name) = folder(words) else {
+        return Ended::output_failed();
+    };
+    let folder = Folder::new(rt, alloc, name);
+    let ran = run_in_segments(
+        rt, alloc, settings, segments, folder, reader, writer, clock,
+    );
+    ran.ended
+}
+
 /// Reads the command line, does what it says, and ends with what came of it.
 fn main(rt: HostRuntime) -> ExitCode {
     let alloc = rt.alloc();
@@ -69,14 +90,7 @@ fn main(rt: HostRuntime) -> ExitCode {
         Err(ended) => ended,
         Ok(settings) => match settings.task {
             Task::Step => step(alloc, &settings, &mut rt.reader(), &mut io::writer(&rt)),
-            Task::Run => run(
-                &rt,
-                alloc,
-                &settings,
-                &mut rt.reader(),
-                &mut io::writer(&rt),
-                &Since::now(&rt),
-            ),
+            Task::Run => run_script(&rt, &settings, &words),
             Task::Check => check(
                 alloc,
                 &mut rt.reader(),

@@ -10,7 +10,7 @@ use Rattle.gmp_trace.specs.Text.{Content, end_of, text}
 use Rattle.gmp_check.specs.Checked.{start_of}
 use Rattle.gmp_check.specs.Replayed.{Replayed}
 use Rattle.gmp_parts.specs.declared.error.PartError.{PartError}
-use Rattle.gmp_parts.specs.Parts.{AreInOrder, IsRightTrace, Parts, count, entries_of, texts}
+use Rattle.gmp_parts.specs.Parts.{AreInOrder, IsRightTrace, Parts, count, entries_of, first, texts}
 use Rattle.gmp_parts.specs.Parts.Parts.{NoPart, Then}
 
 -- The run's size, the state behind all entries that were written, how many entries and parts those are, why nothing more is written, and
@@ -58,14 +58,21 @@ StopsAt began NoPart s = s ≡ began.state
 StopsAt began (Then parts x) s =
     (x.limits ≡ began.limits) × (x.bodies ≡ began.bodies) × Run x.limits (start_of x) x.entries s × (x.end ≡ end_of s.outcome)
 
+-- the first of these parts begins where the writing began
+abbrev pub BeginsAt : {W : Type 0} → Writing W → Parts → Type 0
+BeginsAt began NoPart = Unit {0}
+BeginsAt began (Then parts x) =
+    ((first parts x).limits ≡ began.limits) × ((first parts x).bodies ≡ began.bodies) × (start_of (first parts x) ≡ began.state)
+
 -- Since it began these parts were written, in order: one run to the present state.
 pub record HasWritten {W : Type 0} (contents : W → Option (List ℕ)) (began now : Writing W) (parts : Parts) : Type 0 where
   pub in_order : AreInOrder parts
   pub appended : Appends (contents began.out) (contents now.out) (texts parts)
   pub one_run : Run began.limits began.state (entries_of parts) now.state
+  pub begins : BeginsAt began parts
   pub stops : StopsAt began parts now.state
   pub entries : now.entries ≡ began.entries + length (entries_of parts)
-  pub parts : now.parts ≡ began.parts + count parts
+  pub number : now.parts ≡ began.parts + count parts
   pub same : (now.limits ≡ began.limits) × (now.bodies ≡ began.bodies)
 
 -- Within the crate
@@ -77,10 +84,11 @@ pub record IsUnderWay (limits : Limits) (bodies entries parts : ℕ) (s : State)
   pub range : AreLimits limits bodies capacities
   pub fits : All Fits written
   pub legal : IsLegal limits bodies capacities written s
-  pub entries : entries ≡ length written
-  pub parts : parts ≤ entries
+  pub made : entries ≡ length written
+  -- a part has an entry at least
+  pub few : parts ≤ entries
 
 -- So much is kept of it. While nothing failed, the replay is in that state.
 pub record IsHeld (limits : Limits) (bodies entries parts : ℕ) (failed : Option PartError) (s : State) (replay : Replayed) : Type 0 where
   pub under_way : IsUnderWay limits bodies entries parts s
-  pub replay : failed ≡ None → replay ≡ record { limits = limits; state = s }
+  pub follows : failed ≡ None → replay ≡ record { limits = limits; state = s }

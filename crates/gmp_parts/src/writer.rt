@@ -5,7 +5,10 @@ ghost use Rattle.gmp_seq.specs.Fits.{AreLimits, Fits};
 ghost use Rattle.gmp_seq.specs.Run.{Run};
 ghost use Rattle.gmp_seq.specs.State.{opening};
 ghost use Rattle.gmp_start.specs.Start.{state_of};
+ghost use Rattle.gmp_trace.specs.declared.trace.End.TheVariants.{Running};
 ghost use Rattle.gmp_trace.specs.Text.{IsCounted, begins_of, content_of, end_of, text};
+ghost use Rattle.gmp_trace.specs.Text.Begins.{AtState};
+ghost use Rattle.gmp_check.specs.Consistent.{IsConsistentUnder};
 ghost use Rattle.gmp_check.specs.Replayed.{IsOpenError};
 ghost use Rattle.gmp_parts.specs.declared.error.PartError.TheVariants.{NoStep};
 ghost use Rattle.gmp_parts.specs.Writing.{GoesOn, LeadsOn, WritesPart};
@@ -53,6 +56,7 @@ impl<W> Model for PartWriter<W> {
 
 /// Takes the entries, each of which has to be a step, and there has to be one.
 fn take_all(replay: &mut Replay, history: &History) -> Result<(), PartError>
+    requires { IsConsistentUnder replay.old.limits replay.old.state }
     ensures some { OnOk result (history.now.list ≢ []) }
     ensures run { OnOk result (Run replay.old.limits replay.old.state history.now.list replay.new.state) }
     ensures fits { OnOk result (All Fits history.now.list) }
@@ -73,6 +77,24 @@ fn take_all(replay: &mut Replay, history: &History) -> Result<(), PartError>
     Ok(())
 }
 
+/// The part with these entries, before its end is known.
+fn unended<'a>(
+    limits: Limits,
+    bodies: u16,
+    start: &'a Start,
+    entries: &'a History,
+) -> TraceView<'a>
+    ensures { content_of result ≡ record { limits = limits; bodies = bodies; begins = AtState (state_of start.now); entries = entries.now.list; end = Running } }
+{
+    TraceView {
+        limits,
+        bodies,
+        beginning: BeginningView::Start(start),
+        entries,
+        end: End::Running,
+    }
+}
+
 /// Takes the entries of the part, which goes on from the replay's state, and writes it with the end that they lead to, whatever end it has.
 /// The result is the state behind it. Memory for that is taken before anything is written.
 fn write_next<W: Outlet>(
@@ -82,7 +104,8 @@ fn write_next<W: Outlet>(
     number: u64,
     out: &mut W,
 ) -> Result<Start, PartError>
-    requires { IsCounted (begins_of part.beginning) }
+    requires counted { IsCounted (begins_of part.beginning) }
+    requires consistent { IsConsistentUnder replay.old.limits replay.old.state }
     ensures some { OnOk result (part.entry.entries.now.list ≢ []) }
     ensures run { OnOk result (Run replay.old.limits replay.old.state part.entry.entries.now.list replay.new.state) }
     ensures fits { OnOk result (All Fits part.entry.entries.now.list) }
@@ -147,13 +170,7 @@ impl<W: Outlet> PartWriter<W> {
         if let Some(error) = self.failed {
             return Err(error);
         }
-        let part = TraceView {
-            limits: self.limits,
-            bodies: self.bodies,
-            beginning: BeginningView::Start(&self.start),
-            entries: history,
-            end: End::Running,
-        };
+        let part = unended(self.limits, self.bodies, &self.start, history);
         match write_next(
             self.alloc,
             &mut self.replay,

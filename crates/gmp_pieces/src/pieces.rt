@@ -1,12 +1,14 @@
 //! The sink.
-ghost use Rattle.std.specs.Prelude.{[], OnErr, OnOk, ◌≡◌, ◌≤◌};
-ghost use Rattle.gmp_pieces.specs.Pieces.{Takes};
+ghost use Rattle.std.specs.Prelude.{◌≡◌, IfErr, IfSome, None, OnOk, Some};
+ghost use Rattle.gmp_parts.specs.declared.error.PartError.TheVariants.{NoStep};
+ghost use Rattle.gmp_parts.specs.Writing.{GoesOn};
+ghost use Rattle.gmp_pieces.specs.Pieces.{Fails, WritesLeft};
 
 use gmp_history::History;
-use gmp_parts::{Outlet, PartWriter};
+use gmp_parts::{Outlet, PartError, PartWriter};
 use gmp_run::{Sink, Stop};
 
-/// Writes each piece of a run's history as the next part.
+/// Writes each piece of a run's history as the next part. Where one can't be written, the writer tells why (`failed`).
 #[derive(Drop)]
 pub struct Pieces<W>(pub PartWriter<W>);
 
@@ -21,5 +23,25 @@ impl<W: Outlet> Sink for Pieces<W> {
         }
         history.clear();
         Ok(())
+    }
+}
+
+impl<W: Outlet> Pieces<W> {
+    /// Writes what the run left as the last part, if it left anything.
+    ///
+    /// Where a piece could not be written before, what is left isn't written either, and the error is that of the piece.
+    pub fn finish(&mut self, left: &History) -> Result<(), PartError>
+        ensures written { OnOk result (WritesLeft W.contents self.old.0 left.now.list self.new.0) }
+        ensures no_step { IfErr result (λ e. e ≡ NoStep → self.old.0.failed ≡ None → GoesOn self.old.0 left.now.list → ⊥) }
+        ensures failed { IfErr result (λ e. (self.new.0.failed ≡ Some e) × Fails self.old.0 self.new.0) }
+        ensures again { IfSome self.old.0.failed (λ e. (result ≡ Err e) × (self.new ≡ self.old)) }
+    {
+        if let Some(error) = self.0.failed() {
+            return Err(error);
+        }
+        if left.is_empty() {
+            return Ok(());
+        }
+        self.0.write(left)
     }
 }

@@ -31,7 +31,7 @@ over (Some outcome.BookFull) some = λ e. cc
 over None some = absurd (false≢true some)
 
 -- there are two reasons why a run is not begun
-two_ways : (may : Type 0) (why : Refusal) → WhyUnrun may why → (why ≡ refusal.BadLimits) ⊎ (why ≡ refusal.OutOfMemory)
+pub two_ways : (may : Type 0) (why : Refusal) → WhyUnrun may why → (why ≡ refusal.BadLimits) ⊎ (why ≡ refusal.OutOfMemory)
 two_ways may refusal.BadLimits h = inl refl
 two_ways may refusal.OutOfMemory h = inr refl
 two_ways may refusal.Over h = absurd h
@@ -71,11 +71,11 @@ module _ {T : Type 0} (s : Settings) (capacities : List ℕ) (bodies : ℕ) (r :
     told = t.2 ∙ ap status_of t.1.ended;
   }
 
-not_nothing : (why : Refusal) → (why ≡ refusal.BadLimits) ⊎ (why ≡ refusal.OutOfMemory) → said_of_unrun why ≡ Nothing → ⊥
+pub not_nothing : (why : Refusal) → (why ≡ refusal.BadLimits) ⊎ (why ≡ refusal.OutOfMemory) → said_of_unrun why ≡ Nothing → ⊥
 not_nothing why (inl e) n = let told : BadLimits ≡ Nothing = ap said_of_unrun (sym e) ∙ n in cc
 not_nothing why (inr e) n = let told : OutOfMemory ≡ Nothing = ap said_of_unrun (sym e) ∙ n in cc
 
-not_within : (may : Type 0) (why : Refusal) → WhyUnrun may why → (why ≡ refusal.BadLimits) ⊎ (why ≡ refusal.OutOfMemory) → said_of_unrun why ≡ BadLimits → may → ⊥
+pub not_within : (may : Type 0) (why : Refusal) → WhyUnrun may why → (why ≡ refusal.BadLimits) ⊎ (why ≡ refusal.OutOfMemory) → said_of_unrun why ≡ BadLimits → may → ⊥
 not_within may why h (inl e) n are = subst (WhyUnrun may) e h are
 not_within may why h (inr e) n are = let told : OutOfMemory ≡ BadLimits = ap said_of_unrun (sym e) ∙ n in cc
 

@@ -9,18 +9,18 @@ ghost use Rattle.gmp_run_cli.specs.Runs.{WritesReport, WritesTraceOrSummary, is_
 ghost use Rattle.gmp_run_cli.specs.Told.{is_of_report};
 ghost use Rattle.gmp_seq.specs.Fits.{AreLimits};
 
+use crate::boxing::boxed;
 use crate::telling::told;
 use gmp_run::{Clock, Open};
 use gmp_script::Script;
 use gmp_words::{Ended, MAX_SCRIPT, Settings, script};
-use gmp_worker::Boxed;
 use std::alloc::Global;
 use std::io::{Read, Write};
 use std::sync::Wait;
 use std::thread::Threads;
 
 /// The number of the run: the program has one.
-const RUN: u64 = 0;
+pub(crate) const RUN: u64 = 0;
 
 /// Runs the script's bodies in threads, and tells what came of it.
 fn threaded<H: Threads + Wait + Sync, W: Write, C: Clock + Sync>(
@@ -43,18 +43,7 @@ fn threaded<H: Threads + Wait + Sync, W: Write, C: Clock + Sync>(
         bodies,
         ..
     } = script;
-    // Bodies of threads are boxes: `run` of gmp_run takes them of any type.
-    let Ok(mut boxed) = Vec::<Boxed>::with_capacity(alloc, bodies.len()) else {
-        return Ended::out_of_memory();
-    };
-    for body in bodies {
-        let Ok(body) = Box::new(alloc, body) else {
-            return Ended::out_of_memory();
-        };
-        if boxed.push(body).is_err() {
-            return Ended::out_of_memory();
-        }
-    }
+    let boxed = boxed!(alloc, bodies, Ended::out_of_memory());
     let ran = gmp_run::run(
         rt,
         alloc,

@@ -17,7 +17,7 @@ use std::alloc::{AllocError, Global};
 use std::io::Write;
 
 /// What is said of a run that was not begun.
-fn unrun(why: Refusal) -> Ended
+pub(crate) fn unrun(why: Refusal) -> Ended
     ensures { result.said ≡ said_of_unrun why }
 {
     match why {

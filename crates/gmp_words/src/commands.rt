@@ -4,10 +4,10 @@ use crate::numeric::Numeric;
 use crate::wanting;
 use clap::builder::ValueParser;
 use clap::{Arg, ArgAction, Command};
-use gmp_seq::{LEAST_ROOM, MOST_CHANNELS, MOST_MACHINES, MOST_PROCS, MOST_ROOM};
+use gmp_seq::{LEAST_ROOM, MOST_CHANNELS, MOST_MACHINES, MOST_PROCS};
 use std::alloc::{AllocError, Global};
 
-/// The most entries of a trace that the program writes: all are kept at once.
+/// The most entries that are kept at once: those of a trace, or of a part of one.
 pub const MOST_ENTRIES: u32 = 1_000_000;
 
 // The options, each with the range that its type of settings has: what is read is narrowed without a loss.
@@ -70,8 +70,8 @@ pub(crate) const ROOM: Numeric = Numeric {
     option: "--room",
     help: "With --segments, the most entries that are kept, 16 to 1000000 [default: 1000000]",
     least: LEAST_ROOM as u64,
-    most: MOST_ROOM as u64,
-    default: MOST_ROOM as u64,
+    most: MOST_ENTRIES as u64,
+    default: MOST_ENTRIES as u64,
 };
 
 pub(crate) const WORD: Numeric = Numeric {

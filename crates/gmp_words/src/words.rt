@@ -1,7 +1,7 @@
 //! Reads the words of the command line. `clap` reads it first and says what is wrong; then the numbers are read anew by `Numeric`.
 
 ghost use Rattle.std.specs.Prelude.{◌≡◌, ◌≢◌, ◌≤◌, ◌⊎◌, ℕ, List, codes, string_bytes, true, Some, IsSome, IfOk, IfErr, IfSome};
-ghost use Rattle.core.specs.Str.{IsUtf8};
+ghost use Rattle.std.specs.Str.{IsUtf8};
 ghost use Rattle.gmp_words.specs.Said.{is_of_words};
 ghost use Rattle.gmp_words.specs.Words.{AreEntries, AreSaid, AreWanted, behind, given, go_together, is_given, is_named, names_folder, number_given};
 ghost use Rattle.clap.specs.Values.{kind_of};

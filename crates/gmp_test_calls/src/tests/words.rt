@@ -1,19 +1,24 @@
 //! The command line, the input, and how the program ends. `Pieces` is a reader that is interrupted before each piece.
 use gmp_trace::{Bad, Why};
-use gmp_words::{Ended, Said, Settings, Untraced, input, settings};
+use gmp_words::{Ended, Said, Settings, Untraced, folder, input, settings};
 use std::alloc::{AllocError, Global};
 use std::io;
 use std::io::{ErrorKind, Read};
 use std::process::Abort;
 use std::test::Fail;
 
-/// What the words of a command line say, which are parted by single spaces.
-fn read(alloc: Global, line: &str) -> Result<Result<Settings, Ended>, Fail> {
+/// The words of a command line, which are parted by single spaces.
+fn words_of(alloc: Global, line: &str) -> Result<Vec<String>, Fail> {
     let mut words = Vec::new(alloc);
     for word in line.split(' ') {
         words.push(String::from_str(alloc, word)?)?;
     }
-    Ok(settings(alloc, &words))
+    Ok(words)
+}
+
+/// What they say.
+fn read(alloc: Global, line: &str) -> Result<Result<Settings, Ended>, Fail> {
+    Ok(settings(alloc, &words_of(alloc, line)?))
 }
 
 /// The same of a line that is right.
@@ -77,6 +82,35 @@ fn options_of_explore_are_read(rt: HostRuntime) -> Result<(), Fail> {
     Ok(())
 }
 
+#[test]
+fn segments_are_read(rt: HostRuntime) -> Result<(), Fail> {
+    for (line, want, name) in [
+        ("gmp run --entries 1000000", None, None),
+        (
+            "gmp run --segments d",
+            Some((10_000, 10_000)),
+            Some("d"),
+        ),
+        (
+            "gmp run --segments=/d --entries 9223372036854775807 --room=16",
+            Some((9_223_372_036_854_775_807, 16)),
+            Some("/d"),
+        ),
+        (
+            "gmp run --room 1000000 --entries=20 --segments é",
+            Some((20, 20)),
+            Some("é"),
+        ),
+    ] {
+        let s = settings_of(&rt, rt.alloc(), line)?;
+        let got = s.segments.map(|x| (x.entries, x.room));
+        assert_eq!(rt; got, want, "{line}");
+        let words = words_of(rt.alloc(), line)?;
+        assert_eq!(rt; folder(&words), name, "{line}");
+    }
+    Ok(())
+}
+
 /// A line is refused with this status, and a text is told.
 fn is_refused(said: &Result<Settings, Ended>, status: u8) -> bool {
     match said {
@@ -120,6 +154,17 @@ fn bad_lines_are_refused(rt: HostRuntime) -> Result<(), Fail> {
         ("gmp run extra", 64),
         ("gmp run --word 1", 64),
         ("gmp run --acts 1", 64),
+        ("gmp run --entries 1000001", 64),
+        ("gmp run --room 16", 64),
+        ("gmp run --segments", 64),
+        ("gmp run --segments=", 64),
+        ("gmp run --segments d --trace", 64),
+        ("gmp run --segments d --segments d", 64),
+        ("gmp run --segments d --room 15", 64),
+        ("gmp run --segments d --room 1000001", 64),
+        ("gmp run --segments d --entries 15", 64),
+        ("gmp run --segments d --entries 9223372036854775808", 64),
+        ("gmp step --segments d", 64),
         ("gmp run --help", 0),
         ("gmp explore --states 0", 64),
         ("gmp explore --states 100000001", 64),
@@ -178,6 +223,7 @@ fn texts_are_those_asked_for(rt: HostRuntime) -> Result<(), Fail> {
     tells(&rt, alloc, Ended::bad_limits(), 64, "gmp: bad limits\n")?;
     let no_memory = Ended::out_of_memory();
     tells(&rt, alloc, no_memory, 5, "gmp: out of memory\n")?;
+    tells(&rt, alloc, Ended::no_run(), 6, "gmp: audit: no run\n")?;
     for (why, text) in [
         (
             Untraced::Crowded(2),

@@ -6,7 +6,9 @@ use crate::tests::together::run_together;
 use gmp_base::MNo;
 use gmp_check_cli::check;
 use gmp_run::{Open, Report};
-use gmp_run_cli::{run, told};
+use gmp_join_cli::join;
+use gmp_parts::Together;
+use gmp_run_cli::{run, run_in_segments, told};
 use gmp_seq::Limits;
 use gmp_words::{Ended, Said, Settings, script, settings};
 use gmp_worker::{Boxed, Mismatch, PassLog, audit};
@@ -162,6 +164,49 @@ fn what_run_writes_is_right(rt: HostRuntime) -> Result<(), Fail> {
                 passes(&rt, alloc, &output, line);
             }
         }
+    }
+    Ok(())
+}
+
+/// Runs in segments of at most 16 entries, with the status that they lead to.
+const SEGMENTED: [(&str, &str, u8); 4] = [
+    ("gmp run --segments d --room 16", CHANNEL, 0),
+    (
+        "gmp run --segments d --room 16 --procs 4 --machines 6",
+        CLOSED,
+        0,
+    ),
+    ("gmp run --segments d", ALONE, 2),
+    (
+        "gmp run --segments d --room 16 --entries 1000 --procs 2 --machines 2",
+        "body/yield/again",
+        3,
+    ),
+];
+
+/// What `gmp join` writes of these parts, and its status.
+fn joined(alloc: Global, mut parts: &[u8]) -> (u8, Vec<u8>) {
+    let mut output = Vec::new(alloc);
+    let ended = join(alloc, &mut parts, &mut output, &mut ());
+    (ended.status, output)
+}
+
+#[test]
+fn segments_are_one_run(rt: HostRuntime) -> Result<(), Fail> {
+    let alloc = rt.alloc();
+    for (line, script, status) in SEGMENTED {
+        let settings = settings_of(alloc, line)?;
+        let segments = settings.segments.ok_or("no segments")?;
+        let input = lines(alloc, script)?;
+        let (mut input, mut output) = (input.as_slice(), Vec::new(alloc));
+        let outlet = Together(Vec::new(alloc));
+        let ran = run_in_segments(
+            &rt, alloc, &settings, segments, outlet, &mut input, &mut output, &Stopped,
+        );
+        assert_eq!(rt; ran.ended.status, status, "{line}");
+        let Together(parts) = ran.outlet.ok_or("no outlet")?;
+        let (right, told) = joined(alloc, &parts);
+        assert_eq!(rt; (right, told.as_slice()), (0, output.as_slice()), "{line}");
     }
     Ok(())
 }

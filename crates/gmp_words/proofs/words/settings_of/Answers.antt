@@ -11,10 +11,10 @@ pub overflow_cast-result-3 : goal.overflow_cast-result-3
 overflow_cast-result-3 c = omega (arith, c.in_ok-read-3.ensures.in_range)
 
 pub overflow_cast-result-4 : goal.overflow_cast-result-4
-overflow_cast-result-4 c = omega (arith, c.in_ok-read-4.ensures.in_range)
+overflow_cast-result-4 c = omega (arith, c.in_ok-read-5.ensures.in_range)
 
 pub overflow_cast-result-5 : goal.overflow_cast-result-5
-overflow_cast-result-5 c = omega (arith, c.in_ok-read-6.ensures.in_range)
+overflow_cast-result-5 c = omega (arith, c.in_ok-read-7.ensures.in_range)
 
 pub returns : goal.returns
 returns c = record {
@@ -24,6 +24,7 @@ returns c = record {
   machines = search rules;
   channels = search rules;
   entries = search rules;
+  together = c.requires.together;
   word = search rules;
   acts = search rules;
   random = search rules;

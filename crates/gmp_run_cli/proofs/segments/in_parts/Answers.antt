@@ -1,0 +1,39 @@
+use Rattle.std.proofs.Common.{arith, rules, ◌≡◌, ◌∙◌, length}
+use Rattle.std.proofs.lemmas.Iterator.Consumers.{YieldsList-end}
+use Rattle.std.proofs.lemmas.Iterator.Adapters.{YieldsList-from_vec}
+use Rattle.std.proofs.lemmas.Grind.{common_steps}
+use Rattle.gmp_seq.specs.Fits.{AreLimits}
+use Rattle.gmp_words.specs.Runs.{limits_in}
+use Rattle.gmp_run_cli.proofs.InParts.{at_first, begun_within, wrote_run}
+use Rattle.gmp_run_cli.proofs.segments.in_parts.Given.{Over}
+use Rattle.gmp_run_cli.proofs.segments.in_parts.Goals as goal
+
+-- each body has its box, and the run may have these limits
+module _ (g : Over) (c : goal.After-drop-script-2 g) where
+  counted : length c.loop-body.boxed.items ≡ length c.args.script.bodies.items
+  counted =
+      let gives = c.into_iter-body-iterator.ensures.into_iter_gives in
+      let ended = YieldsList-end (YieldsList-from_vec {s = c.into_iter-body-iterator.result} c.args.script.bodies.items gives.0 (search rules)) c.loop-body.yielded c.loop-body.body-iterator c.loop-body.yielded_by c.next.result c.next.new.self c.in-None.is c.next.ensures.steps in
+      c.loop-body.invariant ∙ ended.1
+
+  within : AreLimits (limits_in c.args.segments c.args.settings.now) (length c.args.script.bodies.items) c.args.script.capacities.items
+  within = search rules
+
+  first : c.in-Ok-open.parts ≡ at_first g.O.Write.contents (limits_in c.args.segments c.args.settings.now) (length c.args.script.bodies.items) c.args.script.capacities.items c.args.outlet within
+  first = search rules
+
+pub returns-clause-written : goal.returns-clause-written
+returns-clause-written g c = λ nothing.
+    rw c.into_inner.ensures
+    (wrote_run g.O.Write.contents (λ s. s.0) (limits_in c.args.segments c.args.settings.now) (length c.args.script.bodies.items) c.args.script.capacities.items c.args.outlet
+    (within g c) (record { 0 = c.in-Ok-open.parts }) c.run_into-ran.result.1 (first g c)
+    c.told_in_parts-ended.result.said c.told_in_parts-ended.result.status _ c.told_in_parts-ended.new.pieces.0 _ _ c.run_into-ran.result.0 (counted g c)
+    (search rules) (search rules) c.told_in_parts-ended.ensures.unrun c.told_in_parts-ended.ensures.told nothing)
+
+pub returns-clause-limits : goal.returns-clause-limits
+returns-clause-limits g c = λ bad are.
+    begun_within (limits_in c.args.segments c.args.settings.now) c.args.script.capacities.items _ _ c.told_in_parts-ended.result.said c.run_into-ran.result.0 (counted g c) are
+    (search rules) c.told_in_parts-ended.ensures.unrun c.told_in_parts-ended.ensures.kinds bad
+
+pub loop-body-preserved : goal.loop-body-preserved
+loop-body-preserved g c = grind (arith, common_steps)
