@@ -1,7 +1,10 @@
 //! Main: for each request it starts a goroutine, to which it hands the request over, and it adds the answers up.
 
 use crate::request::{Answer, Request};
-use gmp_host::{Ask, Channel, Fault, Goroutine, Nonsense, Note, Outputs, Spawner, Time, Woke};
+use gmp_host::{
+    Ask, Channel, Fault, Goroutine, Nonsense, Note, Outputs, Short, Spawner, Time, Woke,
+};
+use std::alloc::Global;
 
 /// How many requests are served at a time: for each there is a goroutine.
 pub const AT_ONCE: u16 = 64;
@@ -24,6 +27,41 @@ enum Step {
     Takes,
 }
 
+/// What main notes of the answers.
+#[derive(Drop)]
+pub struct Tally {
+    /// The sum of the answers.
+    pub sum: Note,
+    /// How many requests were late.
+    pub late: Note,
+}
+
+impl Tally {
+    /// Nothing yet.
+    pub fn new(alloc: Global) -> Result<Self, Short> {
+        Ok(Tally {
+            sum: Note::new(alloc)?,
+            late: Note::new(alloc)?,
+        })
+    }
+
+    /// One more handle of it.
+    pub fn share(&self) -> Result<Self, Short> {
+        Ok(Tally {
+            sum: self.sum.share()?,
+            late: self.late.share()?,
+        })
+    }
+
+    /// Notes an answer.
+    fn note(&self, answer: &Answer) {
+        match answer.double {
+            Some(double) => self.sum.add(double),
+            None => self.late.add(1),
+        }
+    }
+}
+
 /// What main shares with its host.
 #[derive(Drop)]
 pub struct Shared {
@@ -31,10 +69,7 @@ pub struct Shared {
     pub answers: Outputs<Answer>,
     pub places: Channel,
     pub time: Time,
-    /// The sum of the answers.
-    pub sum: Note,
-    /// How many requests were late.
-    pub late: Note,
+    pub tally: Tally,
 }
 
 /// Main.
@@ -100,10 +135,7 @@ impl Front {
             return Ask::Yield;
         };
         self.answered = self.answered.saturating_add(1);
-        match answer.double {
-            Some(double) => self.shared.sum.add(double),
-            None => self.shared.late.add(1),
-        }
+        self.shared.tally.note(&answer);
         self.goes_on()
     }
 }

@@ -1,66 +1,73 @@
 //! A server: each request is handed over to a goroutine of its own, which is started for it and ends with it, and leaves its answer. There
-//! are 64 such goroutines, whose numbers are used again and again. The run is longer than its history: 10,000 entries are kept at a time,
-//! and the plain scheduler takes each piece as it comes, and finds each entry to be a step that goes on from those before.
+//! are 64 such goroutines, whose numbers are used again and again. A request waits for one of 16 places, until its deadline at most.
 //!
-//! Its argument says how many requests there are.
+//! The run is longer than its history: 10,000 entries are kept at a time, and each piece goes out as it comes. Each entry is found to be a
+//! step that goes on from those before, by the plain scheduler.
+//!
+//! Its arguments say how many requests there are, and, if its pieces are to be written, a file for them, which may be a named pipe: they are
+//! parts of one run, by which `gmp join` checks it again while it goes on.
 #![tactic(auto)]
 
 mod front;
 mod judge;
 mod request;
+mod served;
 
-use crate::front::{AT_ONCE, Front, Shared};
 use crate::judge::Judge;
-use crate::request::PLACES;
+use crate::served::{BODIES, CAPACITIES, Served, serve, settings};
 use anyhow::{Context, Result};
-use gmp_host::{Host, Settings};
-use std::env;
+use gmp_parts::{PartWriter, Together};
+use gmp_pieces::Pieces;
+use std::alloc::Global;
 use std::process::ExitCode;
+use std::rt::Files;
+use std::sync::Wait;
+use std::thread::Threads;
+use std::time::Clock;
+use std::{env, fs};
 
-/// Room for 10,000 entries at a time, and entries for all requests.
-fn settings() -> Settings {
-    Settings {
-        procs: 4,
-        machines: 4,
-        entries: 1 << 40,
-        room: 10_000,
-        ..Settings::default()
+/// Serves so many requests, and says how many entries were steps. The history goes nowhere.
+fn judged<R: Threads + Wait + Clock + Sync>(
+    rt: &R,
+    alloc: Global,
+    count: u64,
+) -> Result<(Served, u64)> {
+    let judge = Judge::new(alloc, settings().limits(), BODIES, &CAPACITIES)?;
+    let (served, judge) = serve(rt, alloc, count, judge);
+    Ok((served?, judge.steps()))
+}
+
+/// The same, and writes the history to this file.
+fn written<R: Threads + Wait + Clock + Files + Sync>(
+    rt: &R,
+    alloc: Global,
+    count: u64,
+    path: &str,
+) -> Result<(Served, u64)>
+where
+    R::File: Send,
+{
+    let file = Together(fs::create(rt, path)?);
+    let writer = PartWriter::open(alloc, settings().limits(), BODIES, &CAPACITIES, file)?;
+    let (served, Pieces(writer)) = serve(rt, alloc, count, Pieces(writer));
+    if let Some(error) = writer.failed() {
+        return Err(error.into());
     }
+    Ok((served?, writer.entries()))
 }
 
 fn main(rt: HostRuntime) -> Result<ExitCode> {
     let alloc = rt.alloc();
-    let word = env::args(&rt)?.nth(1).context("gmp_demo_server REQUESTS")?;
-    let count: u64 = word.as_str().parse()?;
-    let settings = settings();
-    let mut host = Host::new(alloc, settings)?;
-    let (told, places) = (host.channel(0)?, host.channel(PLACES)?);
-    let (sum, late) = (host.note()?, host.note()?);
-    let answers = host.outputs(u32::from(AT_ONCE), told)?;
-    let spawner = host.spawner(u32::from(AT_ONCE))?;
-    let shared = Shared {
-        spawner: spawner.share()?,
-        answers: answers.share()?,
-        places,
-        time: host.time()?,
-        sum: sum.share()?,
-        late: late.share()?,
+    let mut words = env::args(&rt)?.skip(1);
+    let count = words.next().context("gmp_demo_server REQUESTS [FILE]")?;
+    let count: u64 = count.as_str().parse()?;
+    let (served, steps) = match words.next() {
+        Some(path) => written(&rt, alloc, count, path.as_str())?,
+        None => judged(&rt, alloc, count)?,
     };
-    let front = host.boxed(Front::new(shared, count))?;
-    host.push(front)?;
-    for _ in 0..AT_ONCE {
-        let goroutine = host.boxed(spawner.goroutine(&answers)?)?;
-        host.push(goroutine)?;
-    }
-    let judge = Judge::new(alloc, settings.limits(), AT_ONCE + 1, &[0, PLACES])?;
-    let (ended, judge) = host.run_into(&rt, judge);
-    let ended = ended?;
-    println!(rt;
-        "{ended}, {count} requests, sum {}, late {}",
-        sum.get(),
-        late.get()
-    )?;
-    if judge.steps() != ended.entries {
+    let Served { ended, sum, late } = served;
+    println!(rt; "{ended}, {count} requests, sum {sum}, late {late}")?;
+    if steps != ended.entries {
         println!(rt; "an entry is no step")?;
         return Ok(ExitCode::FAILURE);
     }

@@ -39,17 +39,7 @@ module _ {T S : Type 0} (takes : S → List Entry → S → Type 0) (limits : Li
         within = p.report.within;
       }
 
-  -- it stopped the run before, or took none of the last piece
-  pub stopped_before : StopsPieces takes limits capacities bodies began mid
-  stopped_before = record {
-    pieces = p.pieces;
-    left = r.history.list;
-    taken = p.taken;
-    last = p.report.last;
-    legal = p.report.legal;
-    within = p.report.within;
-  }
-
+  -- the sink took none of the last piece
   pub stopped_at_last : (sink : S) → takes mid [] sink → StopsPieces takes limits capacities bodies began sink
   stopped_at_last sink took =
       let none_more = joined_one_more p.pieces [] ∙ append-nil (joined p.pieces) in

@@ -1,7 +1,7 @@
 //! A queue that threads share. No call waits for another thread: who finds one at it tries again, so often at most.
 
 ghost use Rattle.std.specs.Prelude.{◌≡◌, ◌⊎◌, ◌++◌, ◌∷◌, ◌<◌, ◌≤◌, [], IfErr, OnErr, OnOk, length};
-ghost use Rattle.std_alloc.specs.VecDeque.{deque_capacity};
+ghost use Rattle.std.proofs.Common.{deque_capacity};
 
 use std::alloc::{AllocError, Global};
 use std::collections::VecDeque;

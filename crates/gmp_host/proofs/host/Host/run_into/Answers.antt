@@ -1,11 +1,11 @@
-use Rattle.std.proofs.Common.{◌≡◌, ◌<◌, ◌^◌, ℕ, List, IfOk, length, ap, refl, rules, subst, sym, tests, ◌∙◌}
+use Rattle.std.proofs.Common.{◌≡◌, ◌<◌, ◌^◌, ℕ, List, [], IfOk, length, ap, rules, subst, sym, tests, ◌∙◌}
 use Rattle.gmp_seq.specs.declared.call.Limits.{Limits}
 use Rattle.gmp_run.specs.Counts.{all_calls}
 use Rattle.gmp_run.specs.Reports.{IsPiecesReport}
 use Rattle.gmp_worker.specs.declared.auditing.PassLog.{PassLog}
 use Rattle.gmp_host.specs.declared.ending.Ended.{Ended}
-use Rattle.gmp_host.specs.Ends.{IsOfPieces}
-use Rattle.gmp_host.proofs.Pieces.{few_calls, in_pieces}
+use Rattle.gmp_host.specs.Ends.{IsOfPieces, StopsPieces}
+use Rattle.gmp_host.proofs.Pieces.{few_calls, in_pieces, stopped_at_last}
 use Rattle.gmp_host.proofs.host.Host.run_into.Goals as goal
 
 pub made-requires : goal.made-requires
@@ -34,3 +34,17 @@ returns-clause-ended g c =
     let all = in_pieces takes c.limits.result c.as_slice.result.now bodies c.args.sink c.in-Ok.report mid ran sink ended took (sym c.in-Some.is) made in
     subst (λ (limits : Limits). IsOfPieces takes limits c.args.self.capacities.items bodies c.args.sink ended sink) c.limits.ensures
     (subst (λ (capacities : List ℕ). IsOfPieces takes c.limits.result capacities bodies c.args.sink ended sink) c.as_slice.ensures.value all)
+
+-- the last piece was left
+pub returns-then-is_err-clause-stopped : goal.returns-then-is_err-clause-stopped
+returns-then-is_err-clause-stopped g c is =
+    let takes = g.S.Sink.takes in
+    let mid = c.run_into-ran.result.1 in
+    let sink = c.take.new.self in
+    let bodies = length c.args.self.bodies.items in
+    let ran : IsPiecesReport takes c.limits.result c.as_slice.result.now bodies c.args.sink c.in-Ok.report mid =
+    subst (λ ran. IfOk ran (λ r. IsPiecesReport takes c.limits.result c.as_slice.result.now bodies c.args.sink r mid)) c.in-Ok.is c.run_into-ran.ensures.report in
+    let took : takes mid [] sink = search (rules, tests) in
+    let all = stopped_at_last takes c.limits.result c.as_slice.result.now bodies c.args.sink c.in-Ok.report mid ran sink took in
+    subst (λ (limits : Limits). StopsPieces takes limits c.args.self.capacities.items bodies c.args.sink sink) c.limits.ensures
+    (subst (λ (capacities : List ℕ). StopsPieces takes c.limits.result capacities bodies c.args.sink sink) c.as_slice.ensures.value all)
