@@ -88,13 +88,13 @@ module _ {T W S : Type 0} (contents : W → Option (List ℕ)) (of : S → Writi
       → WritesParts limits capacities bodies status (contents outlet) (contents after.out) old new
   wrote_run said status boxes after old new (Ok r) counted report why unrun told nothing =
       by_end (told nothing) (all_written contents of began sink after report.pieces r.history.list report.taken (told nothing).1.left) where
-    by_end : (end : End) × TellsParts contents (of sink) r after end old new × status ≡ status_of end
-        → (parts : Parts) × (entries_of parts ≡ joined report.pieces ++ r.history.list) × HasWritten contents (of began) after parts
-        → WritesParts limits capacities bodies status (contents outlet) (contents after.out) old new
-    by_end (end, tells, is) (parts, are, has) =
-        let has_first : HasWritten contents (at_first contents limits bodies capacities outlet within) after parts = subst (λ (w : Writing W). HasWritten contents w after parts) first has in
-        subst (λ (n : ℕ). WritesParts limits capacities bodies n (contents outlet) (contents after.out) old new) (sym is)
-        (wrote_parts contents limits bodies capacities outlet within after parts end has_first tells.ended tells.over old new tells.told)
+        by_end : (end : End) × TellsParts contents (of sink) r after end old new × status ≡ status_of end
+            → (parts : Parts) × (entries_of parts ≡ joined report.pieces ++ r.history.list) × HasWritten contents (of began) after parts
+            → WritesParts limits capacities bodies status (contents outlet) (contents after.out) old new
+        by_end (end, tells, is) (parts, are, has) =
+            let has_first : HasWritten contents (at_first contents limits bodies capacities outlet within) after parts = subst (λ (w : Writing W). HasWritten contents w after parts) first has in
+            subst (λ (n : ℕ). WritesParts limits capacities bodies n (contents outlet) (contents after.out) old new) (sym is)
+            (wrote_parts contents limits bodies capacities outlet within after parts end has_first tells.ended tells.over old new tells.told)
   wrote_run said status boxes after old new (Err u) counted report why unrun told nothing =
       absurd (not_nothing u.why (two_ways (AreLimits limits boxes capacities) u.why why) (sym unrun ∙ nothing))
 
