@@ -43,7 +43,7 @@ module _ {W S : Type 0} (contents : W → Option (List ℕ)) (of : S → Writing
   all_pieces began a b (h ∷ pieces) before taken works has = elim taken.1 [
     | inl written ↦
         let all : Has began (of b) ((before ++ h) ++ joined pieces) =
-          all_pieces began taken.0 b pieces (before ++ h) taken.2 works (one_more began (of a) (of taken.0) before h has written) in
+        all_pieces began taken.0 b pieces (before ++ h) taken.2 works (one_more began (of a) (of taken.0) before h has written) in
         (all.0, all.1 ∙ append_assoc before h (joined pieces), all.2)
     | inr fails ↦ absurd (not_both _ (stays taken.0 b pieces taken.2 fails.1.0) works)
   ]

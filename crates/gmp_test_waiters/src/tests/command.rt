@@ -5,9 +5,9 @@ use crate::tests::at_once::Stopped;
 use crate::tests::together::run_together;
 use gmp_base::MNo;
 use gmp_check_cli::check;
-use gmp_run::{Open, Report};
 use gmp_join_cli::join;
 use gmp_parts::Together;
+use gmp_run::{Open, Report};
 use gmp_run_cli::{run, run_in_segments, told};
 use gmp_seq::Limits;
 use gmp_words::{Ended, Said, Settings, script, settings};
@@ -201,7 +201,14 @@ fn segments_are_one_run(rt: HostRuntime) -> Result<(), Fail> {
         let (mut input, mut output) = (input.as_slice(), Vec::new(alloc));
         let outlet = Together(Vec::new(alloc));
         let ran = run_in_segments(
-            &rt, alloc, &settings, segments, outlet, &mut input, &mut output, &Stopped,
+            &rt,
+            alloc,
+            &settings,
+            segments,
+            outlet,
+            &mut input,
+            &mut output,
+            &Stopped,
         );
         assert_eq!(rt; ran.ended.status, status, "{line}");
         let Together(parts) = ran.outlet.ok_or("no outlet")?;
