@@ -68,7 +68,8 @@ emptied k = record k { book = record k.book { history = [] }; own = [] }
 abbrev pub IsWhole : System → Type 0
 IsWhole k = count_of_all k.book ≡ length k.book.history
 
--- The headline, for what the machines began with. It holds of the entries that were handed out and those that are left as one history.
+-- The headline, for what the machines began with. It holds of some entries before those that are left, and these, as one history. Which those
+-- are, the law pieces_are_one_history says: what was handed out, in order.
 pub record HeadlineOf (k : System) : Type 0 where
   pub out : List Entry
   pub headline : Headline k.book.run k.book.limits k.book.bodies k.book.capacities (with_before out k)

@@ -10,7 +10,7 @@ ghost use Rattle.gmp_trace.specs.Text.{IsCounted, begins_of, content_of, end_of,
 ghost use Rattle.gmp_trace.specs.Text.Begins.{AtState};
 ghost use Rattle.gmp_check.specs.Consistent.{IsConsistentUnder};
 ghost use Rattle.gmp_check.specs.Replayed.{IsOpenError};
-ghost use Rattle.gmp_parts.specs.declared.error.PartError.TheVariants.{NoStep};
+ghost use Rattle.gmp_parts.specs.declared.error.PartError.TheVariants.{Device, NoStep};
 ghost use Rattle.gmp_parts.specs.Writing.{GoesOn, LeadsOn, WritesPart};
 
 use crate::error::PartError;
@@ -25,7 +25,8 @@ use std::marker::Model;
 
 /// Writes a run in parts, piece by piece of its history.
 ///
-/// A piece takes the time of its replay and of its text. Memory is taken for the state once more, and for 64 KiB of text.
+/// A piece takes the time of its replay and of its text. Memory is taken for the state once more, for 64 KiB of text, and for the text of the
+/// state.
 #[derive(Drop)]
 pub struct PartWriter<W> {
     alloc: Global,
@@ -62,6 +63,7 @@ fn take_all(replay: &mut Replay, history: &History) -> Result<(), PartError>
     ensures fits { OnOk result (All Fits history.now.list) }
     ensures limits { replay.new.limits ≡ replay.old.limits }
     ensures no_step { IfErr result (λ e. e ≡ NoStep → LeadsOn replay.old.limits replay.old.state history.now.list → ⊥) }
+    ensures kinds { IfErr result (λ e. e ≢ Device) }
 {
     if history.is_empty() {
         return Err(PartError::NoStep);
@@ -108,7 +110,9 @@ fn write_next<W: Outlet>(
     ensures next { IfOk result (λ s. state_of s ≡ record replay.new.state { outcome = None }) }
     ensures appended { OnOk result (Appends (W.contents out.old) (W.contents out.new) (text (record (content_of part.entry) { end = end_of replay.new.state.outcome }))) }
     ensures no_step { IfErr result (λ e. e ≡ NoStep → LeadsOn replay.old.limits replay.old.state part.entry.entries.now.list → ⊥) }
-    ensures unsent { IfErr result (λ e. e ≡ NoStep → out.new ≡ out.old) }
+    // Nothing is sent before all entries are found to be steps.
+    ensures unsent { (LeadsOn replay.old.limits replay.old.state part.entry.entries.now.list → ⊥) → out.new ≡ out.old }
+    ensures device { IfErr result (λ e. e ≡ Device → LeadsOn replay.old.limits replay.old.state part.entry.entries.now.list) }
 {
     take_all(replay, part.entries)?;
     let next = replay.copied(alloc)?;
@@ -159,7 +163,9 @@ impl<W: Outlet> PartWriter<W> {
     pub fn write(&mut self, history: &History) -> Result<(), PartError>
         ensures written { OnOk result (WritesPart W.contents self.old history.now.list self.new) }
         ensures no_step { IfErr result (λ e. e ≡ NoStep → self.old.failed ≡ None → GoesOn self.old history.now.list → ⊥) }
-        ensures unsent { IfErr result (λ e. e ≡ NoStep → self.new.out ≡ self.old.out) }
+        ensures goes_on { OnOk result (GoesOn self.old history.now.list) }
+        ensures unsent { (GoesOn self.old history.now.list → ⊥) → self.new.out ≡ self.old.out }
+        ensures device { IfErr result (λ e. e ≡ Device → self.old.failed ≡ None → GoesOn self.old history.now.list) }
         // Of what is known of the run nothing changes.
         ensures failed { IfErr result (λ e. self.new ≡ record self.old { failed = Some e; out = self.new.out }) }
         ensures again { IfSome self.old.failed (λ e. (result ≡ Err e) × (self.new ≡ self.old)) }

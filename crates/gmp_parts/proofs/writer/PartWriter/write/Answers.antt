@@ -12,7 +12,7 @@ use Rattle.gmp_trace.specs.Text.{Content, IsCounted, end_of, text}
 use Rattle.gmp_check.specs.Consistent.{IsConsistentUnder}
 use Rattle.gmp_check.specs.Replayed.{Replayed}
 use Rattle.gmp_parts.proofs.Written.{consistent, counted, few, lasts, replay_is, run_of, under_way_next, with_outcome, wrote}
-use Rattle.gmp_parts.specs.Writing.{Writing, WritesPart}
+use Rattle.gmp_parts.specs.Writing.{GoesOn, Writing, WritesPart}
 use Rattle.gmp_parts.proofs.writer.PartWriter.write.Goals as goal
 
 pub overflow_add-number : goal.overflow_add-number
@@ -74,3 +74,17 @@ returns-in-Ok-clause-written g c =
     (subst (λ (o : Option Outcome). Appends (g.W.Write.contents i.out) (g.W.Write.contents c.write_next.new.out)
     (text (record { limits = i.limits; bodies = i.bodies; begins = AtState (state_of i.start); entries = h; end = end_of o }))) (sym c.outcome-self-inside.ensures.value) put)
     (ap (λ n. i.entries + n) c.len.ensures.value) refl (refl, refl) (c.in_default.is, c.in_default.is))
+
+pub returns-in-Ok-clause-goes_on : goal.returns-in-Ok-clause-goes_on
+returns-in-Ok-clause-goes_on g c =
+    let i = c.self.inside in
+    let old : State = record (state_of i.start) { outcome = i.outcome } in
+    let new : State = record (state_of c.in-Ok.next) { outcome = c.outcome-self-inside.result } in
+    let h = c.args.history.now.list in
+    let same : c.unended-part.result.entries.now.list ≡ h = ap (λ (x : Content). x.entries) c.unended-part.ensures in
+    let at : i.replay ≡ record { limits = i.limits; state = old } = c.self.invariant.follows c.in_default.is in
+    let behind : new ≡ c.write_next.new.replay.state = with_outcome (state_of c.in-Ok.next) c.write_next.new.replay.state c.outcome-self-inside.result c.in-Ok.ensures.next c.outcome-self-inside.ensures.value in
+    let run : Run i.limits old h new = run_of i.replay i.limits old c.write_next.new.replay.state new c.unended-part.result.entries.now.list h at same behind c.in-Ok.ensures.run in
+    let some : h ≢ [] = subst (λ (l : List Entry). l ≢ []) same c.in-Ok.ensures.some in
+    let before : Writing g.row.W.Denot = record { limits = i.limits; bodies = i.bodies; state = old; entries = i.entries; parts = i.parts; failed = i.failed; out = i.out } in
+    subst (λ (w : Writing g.row.W.Denot). GoesOn w h) c.self.view_is (some, (new, run))
