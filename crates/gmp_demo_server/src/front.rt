@@ -2,9 +2,8 @@
 
 use crate::request::{Answer, Request};
 use gmp_host::{
-    Ask, Channel, Fault, Goroutine, Nonsense, Note, Outputs, Short, Spawner, Time, Woke,
+    Ask, Channel, Fault, Goroutine, Host, Nonsense, Note, Outputs, Short, Spawner, Time, Woke,
 };
-use std::alloc::Global;
 
 /// How many requests are served at a time: for each there is a goroutine.
 pub const AT_ONCE: u16 = 64;
@@ -27,27 +26,36 @@ enum Step {
     Takes,
 }
 
-/// What main notes of the answers.
+/// What main shares with its host, and with the goroutines that serve.
 #[derive(Drop)]
-pub struct Tally {
+pub struct Shared {
+    pub spawner: Spawner<Request>,
+    pub answers: Outputs<Answer>,
+    places: Channel,
     /// The sum of the answers.
     pub sum: Note,
     /// How many requests were late.
     pub late: Note,
 }
 
-impl Tally {
-    /// Nothing yet.
-    pub fn new(alloc: Global) -> Result<Self, Short> {
-        Ok(Tally {
-            sum: Note::new(alloc)?,
-            late: Note::new(alloc)?,
+impl Shared {
+    /// Of this host, which hears of answers on `told`, and has this channel of places.
+    pub fn new(host: &Host, told: Channel, places: Channel) -> Result<Self, Short> {
+        Ok(Shared {
+            spawner: host.spawner(u32::from(AT_ONCE))?,
+            answers: host.outputs(u32::from(AT_ONCE), told)?,
+            places,
+            sum: host.note()?,
+            late: host.note()?,
         })
     }
 
     /// One more handle of it.
     pub fn share(&self) -> Result<Self, Short> {
-        Ok(Tally {
+        Ok(Shared {
+            spawner: self.spawner.share()?,
+            answers: self.answers.share()?,
+            places: self.places,
             sum: self.sum.share()?,
             late: self.late.share()?,
         })
@@ -62,20 +70,11 @@ impl Tally {
     }
 }
 
-/// What main shares with its host.
-#[derive(Drop)]
-pub struct Shared {
-    pub spawner: Spawner<Request>,
-    pub answers: Outputs<Answer>,
-    pub places: Channel,
-    pub time: Time,
-    pub tally: Tally,
-}
-
 /// Main.
 #[derive(Drop)]
 pub struct Front {
     shared: Shared,
+    time: Time,
     step: Step,
     /// How many requests there are: the numbers from 1 on.
     count: u64,
@@ -87,9 +86,10 @@ pub struct Front {
 
 impl Front {
     /// Main, which serves so many requests.
-    pub fn new(shared: Shared, count: u64) -> Self {
+    pub fn new(shared: Shared, time: Time, count: u64) -> Self {
         Front {
             shared,
+            time,
             step: Step::Hands,
             count,
             handed: 0,
@@ -112,9 +112,9 @@ impl Front {
 
     /// Hands the next request over, and starts a goroutine for it.
     fn hands(&mut self) -> Ask {
-        let Shared { places, time, .. } = &self.shared;
         let number = self.handed.saturating_add(1);
-        let request = Request::new(number, *places, time.in_ms(PATIENCE));
+        let deadline = self.time.in_ms(PATIENCE);
+        let request = Request::new(number, self.shared.places, deadline);
         match self.shared.spawner.spawn(request) {
             Ok(ask) => {
                 self.handed = number;
@@ -135,7 +135,7 @@ impl Front {
             return Ask::Yield;
         };
         self.answered = self.answered.saturating_add(1);
-        self.shared.tally.note(&answer);
+        self.shared.note(&answer);
         self.goes_on()
     }
 }

@@ -33,11 +33,18 @@ fn judged<R: Threads + Wait + Clock + Sync>(
     count: u64,
 ) -> Result<(Served, u64)> {
     let judge = Judge::new(alloc, settings().limits(), BODIES, &CAPACITIES)?;
-    let (served, judge) = serve(rt, alloc, count, judge);
+    let (served, judge) = serve(rt, alloc, count, judge)?;
     Ok((served?, judge.steps()))
 }
 
-/// The same, and writes the history to this file.
+/// What writes the history to this file.
+fn opened<R: Files>(rt: &R, alloc: Global, path: &str) -> Result<Pieces<Together<R::File>>> {
+    let file = Together(fs::create(rt, path)?);
+    let writer = PartWriter::open(alloc, settings().limits(), BODIES, &CAPACITIES, file)?;
+    Ok(Pieces(writer))
+}
+
+/// The same as `judged`, and writes the history to this file.
 fn written<R: Threads + Wait + Clock + Files + Sync>(
     rt: &R,
     alloc: Global,
@@ -47,13 +54,12 @@ fn written<R: Threads + Wait + Clock + Files + Sync>(
 where
     R::File: Send,
 {
-    let file = Together(fs::create(rt, path)?);
-    let writer = PartWriter::open(alloc, settings().limits(), BODIES, &CAPACITIES, file)?;
-    let (served, Pieces(writer)) = serve(rt, alloc, count, Pieces(writer));
-    if let Some(error) = writer.failed() {
-        return Err(error.into());
+    let pieces = opened(rt, alloc, path)?;
+    let (served, Pieces(writer)) = serve(rt, alloc, count, pieces)?;
+    match writer.failed() {
+        Some(error) => Err(error.into()),
+        None => Ok((served?, writer.entries())),
     }
-    Ok((served?, writer.entries()))
 }
 
 fn main(rt: HostRuntime) -> Result<ExitCode> {

@@ -1,7 +1,7 @@
 //! The server's run.
 
-use crate::front::{AT_ONCE, Front, Shared, Tally};
-use crate::request::{PLACES, Request};
+use crate::front::{AT_ONCE, Front, Shared};
+use crate::request::PLACES;
 use gmp_host::{Ended, Host, Settings, Short, Sink};
 use std::alloc::Global;
 use std::sync::Wait;
@@ -35,52 +35,33 @@ pub fn settings() -> Settings {
     }
 }
 
-/// Gives the host main, which notes the answers, and the goroutines of requests.
-fn fill(host: &mut Host, count: u64, tally: &Tally) -> Result<(), Short> {
-    let [told, places] = CAPACITIES;
-    let (told, places) = (host.channel(told)?, host.channel(places)?);
-    let answers = host.outputs(u32::from(AT_ONCE), told)?;
-    let spawner = host.spawner::<Request>(u32::from(AT_ONCE))?;
-    let shared = Shared {
-        spawner: spawner.share()?,
-        answers: answers.share()?,
-        places,
-        time: host.time()?,
-        tally: tally.share()?,
-    };
-    let front = host.boxed(Front::new(shared, count))?;
-    host.push(front)?;
-    for _ in 0..AT_ONCE {
-        let goroutine = host.boxed(spawner.goroutine(&answers)?)?;
-        host.push(goroutine)?;
-    }
-    Ok(())
-}
-
-/// The host of so many requests, and what is noted of their answers.
-fn opened(alloc: Global, count: u64) -> Result<(Host, Tally), Short> {
-    let mut host = Host::new(alloc, settings())?;
-    let tally = Tally::new(alloc)?;
-    fill(&mut host, count, &tally)?;
-    Ok((host, tally))
-}
-
 /// Serves so many requests, and hands the history to the sink.
-pub fn serve<R: Threads + Wait + Clock + Sync, S: Sink + Send>(
+// A host is filled where it is run: a function that boxes a goroutine may not hand the box out.
+pub fn serve<R: Threads + Wait + Clock + Sync, S: Sink + Send + Drop>(
     rt: &R,
     alloc: Global,
     count: u64,
     sink: S,
-) -> (Result<Served, Short>, S) {
-    let (host, tally) = match opened(alloc, count) {
-        Ok(opened) => opened,
-        Err(short) => return (Err(short), sink),
-    };
+) -> Result<(Result<Served, Short>, S), Short> {
+    let mut host = Host::new(alloc, settings())?;
+    let [told, places] = CAPACITIES;
+    let (told, places) = (host.channel(told)?, host.channel(places)?);
+    let shared = Shared::new(&host, told, places)?;
+    let front = Front::new(shared.share()?, host.time()?, count);
+    let front = host.boxed(front)?;
+    host.push(front)?;
+    for _ in 0..AT_ONCE {
+        let goroutine = host.boxed(shared.spawner.goroutine(&shared.answers)?)?;
+        host.push(goroutine)?;
+    }
     let (ended, sink) = host.run_into(rt, sink);
-    let served = ended.map(|ended| Served {
-        ended,
-        sum: tally.sum.get(),
-        late: tally.late.get(),
-    });
-    (served, sink)
+    let served = match ended {
+        Ok(ended) => Ok(Served {
+            ended,
+            sum: shared.sum.get(),
+            late: shared.late.get(),
+        }),
+        Err(short) => Err(short),
+    };
+    Ok((served, sink))
 }
