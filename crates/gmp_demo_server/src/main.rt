@@ -73,6 +73,11 @@ fn main(rt: HostRuntime) -> Result<ExitCode> {
     };
     let Served { ended, sum, late } = served;
     println!(rt; "{ended}, {count} requests, sum {sum}, late {late}")?;
+    // An answer is twice the request's number, and these are the numbers from 1 on.
+    if late == 0 && sum != count.saturating_mul(count.saturating_add(1)) {
+        println!(rt; "an answer is wrong")?;
+        return Ok(ExitCode::FAILURE);
+    }
     if steps != ended.entries {
         println!(rt; "an entry is no step")?;
         return Ok(ExitCode::FAILURE);
