@@ -10,6 +10,8 @@ use Rattle.gmp_trace.specs.Summary.{entries_line, outcome_line}
 use Rattle.gmp_trace.specs.Text.{Content, end_of}
 use Rattle.gmp_trace.specs.Text.Begins.{AtOpening}
 use Rattle.gmp_check.specs.Checked.{start_of}
+use Rattle.gmp_parts.specs.declared.error.PartError.{PartError}
+use Rattle.gmp_parts.specs.declared.error.PartError.TheVariants as part_error
 use Rattle.gmp_parts.specs.Parts.{AreInOrder, Parts, joined_text, parts_line, texts, whole}
 use Rattle.gmp_parts.specs.Parts.Parts.{Then}
 use Rattle.gmp_parts.specs.Writing.{Writing}
@@ -55,6 +57,12 @@ pub record TellsParts {T W : Type 0} (contents : W → Option (List ℕ)) (befor
   pub over : end ≢ Running
   pub calls : after.entries ≡ all_calls r.logs.items
   pub told : Appends old new (outcome_line end ++ entries_line after.entries ++ parts_line after.parts)
+
+-- what is said where a part was not written
+abbrev pub said_of_part : PartError → Said
+said_of_part part_error.NoStep = said.NoRun
+said_of_part part_error.OutOfMemory = said.OutOfMemory
+said_of_part part_error.Device = said.OutputFailed
 
 -- what may be said where parts were not written whole, or are no run
 abbrev pub is_of_parts : Said → Bool

@@ -1,11 +1,11 @@
 //! What is told of a run whose history went out in parts. It takes any report and any writer of parts, and judges the run by them.
 
-ghost use Rattle.std.specs.Prelude.{◌≡◌, IfErr, IfOk, IfSome, true};
+ghost use Rattle.std.specs.Prelude.{◌≡◌, ◌≢◌, ◌^◌, ◌≤◌, IfErr, IfNone, IfOk, IfSome, IsErrAnd, true};
 ghost use Rattle.gmp_run.specs.Counts.{all_calls};
 ghost use Rattle.gmp_trace.specs.declared.trace.End.{End};
-ghost use Rattle.gmp_words.specs.declared.said.Said.TheVariants.{Nothing};
+ghost use Rattle.gmp_words.specs.declared.said.Said.TheVariants.{Nothing, OutputFailed};
 ghost use Rattle.gmp_words.specs.Runs.{status_of};
-ghost use Rattle.gmp_run_cli.specs.Segments.{TellsParts, is_of_end_in_parts, is_of_parts};
+ghost use Rattle.gmp_run_cli.specs.Segments.{TellsParts, is_of_end_in_parts, is_of_parts, said_of_part};
 ghost use Rattle.gmp_run_cli.specs.Told.{said_of_unrun};
 
 use crate::telling::unrun;
@@ -20,7 +20,7 @@ use std::io::Write;
 
 /// How it ends where a part could not be written.
 fn unwritten(error: PartError) -> Ended
-    ensures { is_of_parts result.said ≡ true }
+    ensures { result.said ≡ said_of_part error }
 {
     match error {
         PartError::NoStep => Ended::no_run(),
@@ -31,7 +31,8 @@ fn unwritten(error: PartError) -> Ended
 
 /// How many calls the logs say; none where they are more than a `u64` counts.
 fn calls_of(logs: &[PassLog]) -> Option<u64>
-    ensures { IfSome result (λ calls. calls ≡ all_calls logs.now) }
+    ensures some { IfSome result (λ calls. calls ≡ all_calls logs.now) }
+    ensures none { IfNone result (2 ^ 64 ≤ all_calls logs.now) }
 {
     let mut calls = 0u64;
     for log in logs {
@@ -52,6 +53,8 @@ fn ended<T, O: Outlet, W: Write>(
 ) -> Result<End, Ended>
     ensures told { IfOk result (λ end. TellsParts O.contents pieces.old.0 report.now pieces.new.0 end (W.contents writer.old) (W.contents writer.new)) }
     ensures kinds { IfErr result (λ e. is_of_parts e.said ≡ true) }
+    ensures stopped { IfSome pieces.old.0.failed (λ error. IsErrAnd result (λ e. e.said ≡ said_of_part error)) }
+    ensures quiet { IfErr result (λ e. e.said ≢ OutputFailed → W.contents writer.new ≡ W.contents writer.old) }
 {
     if let Err(error) = pieces.finish(&report.history) {
         return Err(unwritten(error));
@@ -75,8 +78,9 @@ pub(crate) fn told_in_parts<T: Drop, O: Outlet, W: Write>(
     ensures told { IfOk ran (λ report. result.said ≡ Nothing
         → (end : End) × TellsParts O.contents pieces.old.0 report pieces.new.0 end (W.contents writer.old) (W.contents writer.new) × result.status ≡ status_of end) }
     ensures kinds { IfOk ran (λ report. is_of_end_in_parts result.said ≡ true) }
+    ensures stopped { IfOk ran (λ report. IfSome pieces.old.0.failed (λ error. result.said ≡ said_of_part error)) }
+    ensures quiet { result.said ≢ Nothing → result.said ≢ OutputFailed → W.contents writer.new ≡ W.contents writer.old }
     ensures unrun { IfErr ran (λ u. result.said ≡ said_of_unrun u.why) }
-    ensures silent { IfErr ran (λ u. W.contents writer.new ≡ W.contents writer.old) }
     ensures unsent { IfErr ran (λ u. pieces.new ≡ pieces.old) }
 {
     match ran {
