@@ -27,10 +27,6 @@ use gmp_run_cli::{run, run_in_segments};
 use gmp_words::{Ended, Settings, Task, arguments, folder, settings};
 use std::io::{self, IsTerminal};
 use std::process::ExitCode;
-use std::rt::Files;
-use std::sync::Wait;
-use std::thread::Threads;
-use std::time::Clock;
 
 /// Says how it ended, on standard error, or at status 0 on standard output, and gives the exit code.
 fn finish(rt: &(impl Print + Eprint), ended: &Ended) -> ExitCode {
@@ -64,30 +60,6 @@ fn look(rt: &HostRuntime, settings: &Settings) -> Ended {
     found.ended
 }
 
-/// Runs the script on standard input by threads: its history goes to the folder that the words name, or its trace or summary to standard
-/// output.
-fn run_script<R: Threads + Wait + Clock + Files + Input + Print + AllocGlobal + Sync>(
-    rt: &R,
-    settings: &Settings,
-    words: &[String],
-) -> Ended
-where
-    R::File: Send,
-{
-    let alloc = rt.alloc();
-    let (reader, writer, clock) = (&mut rt.reader(), &mut io::writer(rt), &Since::now(rt));
-    let Some(segments) = settings.segments else {
-        return run(rt, alloc, settings, reader, writer, clock);
-    };
-    // Each word is UTF-8, and `settings` has found that one names a folder.
-    let Some(name) = folder(words) else {
-        return Ended::output_failed();
-    };
-    let folder = Folder::new(rt, alloc, name);
-    let ran = run_in_segments(rt, alloc, settings, segments, folder, reader, writer, clock);
-    ran.ended
-}
-
 /// Reads the command line, does what it says, and ends with what came of it.
 fn main(rt: HostRuntime) -> ExitCode {
     let alloc = rt.alloc();
@@ -99,7 +71,32 @@ fn main(rt: HostRuntime) -> ExitCode {
         Err(ended) => ended,
         Ok(settings) => match settings.task {
             Task::Step => step(alloc, &settings, &mut rt.reader(), &mut io::writer(&rt)),
-            Task::Run => run_script(&rt, &settings, &words),
+            // Here, since main alone may hand the host's folder to threads.
+            Task::Run => match (settings.segments, folder(&words)) {
+                (None, _) => run(
+                    &rt,
+                    alloc,
+                    &settings,
+                    &mut rt.reader(),
+                    &mut io::writer(&rt),
+                    &Since::now(&rt),
+                ),
+                (Some(segments), Some(name)) => {
+                    let ran = run_in_segments(
+                        &rt,
+                        alloc,
+                        &settings,
+                        segments,
+                        Folder::new(&rt, alloc, name),
+                        &mut rt.reader(),
+                        &mut io::writer(&rt),
+                        &Since::now(&rt),
+                    );
+                    ran.ended
+                }
+                // Each word is UTF-8, and `settings` has found that one names a folder.
+                (Some(_), None) => Ended::output_failed(),
+            },
             Task::Check => check(
                 alloc,
                 &mut rt.reader(),

@@ -136,7 +136,8 @@ fn fills_in_pieces(rt: &impl Abort, alloc: Global, row: Row, entries: u32) -> Re
         entries: u64::from(entries),
         room: 16,
     };
-    let goroutines = text.matches("body").count() as u16;
+    let goroutines = text.matches("body").count();
+    let goroutines = u16::try_from(goroutines).ok().ok_or("goroutines")?;
     let mut replay = Replay::open(alloc, limits, goroutines, &[])
         .ok()
         .ok_or("limits")?;
