@@ -83,10 +83,10 @@ pub record AreWanted {W : Type 0} (text : W → List ℕ) (words : List W) (w : 
 abbrev pub names_folder : {W : Type 0} → (W → List ℕ) → List W → Bool
 names_folder text words = is_some (given text words (codes "--segments"))
 
--- `--room` goes with `--segments` alone, and `--trace` doesn't
+-- `--room` goes with `--segments` alone, and `--trace` and `--scripted` don't
 abbrev pub go_together : {W : Type 0} → (W → List ℕ) → List W → Bool
 go_together text words =
-    (if names_folder text words then not (is_given text words (codes "--trace"))
+    (if names_folder text words then not (is_given text words (codes "--trace")) && not (is_given text words (codes "--scripted"))
     else not (is_some (given text words (codes "--room"))))
 
 -- the most entries of a history that is kept whole, or of one in segments, of which no more are kept than it may have
@@ -112,6 +112,7 @@ pub record AreSaid {W : Type 0} (text : W → List ℕ) (words : List W) (s : Se
   pub acts : number_given text (behind words) (codes "--acts") 10000000 ≡ Some s.acts
   pub random : number_given text (behind words) (codes "--random") 0 ≡ Some s.random
   pub trace : s.trace ≡ is_given text (behind words) (codes "--trace")
+  pub scripted : s.scripted ≡ is_given text (behind words) (codes "--scripted")
   pub at : number_given text (behind words) (codes "--at") 0 ≡ Some s.at
   pub json : s.json ≡ is_given text (behind words) (codes "--json")
   pub from : number_given text (behind words) (codes "--from") 0 ≡ Some s.from

@@ -152,7 +152,8 @@ Exit status:
   3   the history is full
   4   step: no end yet, by --acts or since all machines are parked
   5   memory was refused
-  6   run: a machine's count of its calls is not that of the history; explore: no trace of what was found
+  6   run: a machine's count of its calls is not that of the history, or it is none of the script; explore: no trace of
+      what was found
   7   explore: in some run a goroutine is told a fault
   8   explore: some run leaves a goroutine or a value behind
   9   explore: not known, since there are more states than --states says
@@ -173,7 +174,8 @@ With --segments DIR the history goes into files DIR/part-000000001.trace and so 
 by `cat DIR/part-* | gmp join`. What join would say of them goes to standard output. DIR has to be there.
 
 Exit status: 0 main ended, 2 deadlock, 3 the history is full, 1 bad script, input or output, 5 out of memory,
-6 a count of calls that is not that of the history, 64 bad command line or limits.";
+6 a count of calls that is not that of the history, or with --scripted a history that is none of the script, 64 bad command
+line or limits.";
 
 const CHECK_INPUT: &str =
     "The trace comes on standard input, and its summary goes to standard output.
@@ -253,6 +255,7 @@ fn run<'a>(alloc: Global, in_segments: bool) -> Result<Command<'a>, AllocError> 
     };
     with(alloc, run, &[PROCS, MACHINES, CHANNELS, entries, RANDOM])?
         .arg(trace(alloc, "Prints the trace, and not the summary"))?
+        .arg(scripted(alloc)?)?
         .arg(segments(alloc)?)?
         .arg(ROOM.arg(alloc).requires_arg("segments")?)
 }
@@ -266,6 +269,15 @@ fn segments<'a>(alloc: Global) -> Result<Arg<'a>, AllocError> {
         .value_parser(ValueParser::NonEmptyString)
         .help("Writes the history into files of this folder, and keeps --room entries of it")
         .conflicts_with("trace")
+}
+
+/// The flag `--scripted`.
+fn scripted<'a>(alloc: Global) -> Result<Arg<'a>, AllocError> {
+    Arg::new(alloc, "scripted")
+        .long("scripted")
+        .action(ArgAction::SetTrue)
+        .help("Audits too that each goroutine asked what its body says, in order")
+        .conflicts_with("segments")
 }
 
 /// The flag `--trace`, with what `--help` says of it.

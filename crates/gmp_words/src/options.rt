@@ -73,6 +73,8 @@ pub struct Settings {
     pub random: u64,
     /// Whether a run in threads prints its trace, and not its summary.
     pub trace: bool,
+    /// Whether its audit holds it against the script.
+    pub scripted: bool,
     /// The entry from which the part of a trace begins, counted from 0.
     pub at: u64,
     /// Whether facts are told as one JSON object, and not as lines.

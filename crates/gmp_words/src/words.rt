@@ -108,7 +108,7 @@ fn go_together(options: &[String]) -> bool
     ensures { result ≡ go_together string_bytes options.now }
 {
     if names_folder(options) {
-        !is_given(options, b"--trace")
+        !is_given(options, b"--trace") && !is_given(options, b"--scripted")
     } else {
         given(b"--room", options).is_none()
     }
@@ -176,6 +176,7 @@ fn settings_of(task: Task, wanted: Wanted, words: &[String]) -> Option<Settings>
         acts: ACTS.read(options)? as u32,
         random: RANDOM.read(options)?,
         trace: is_given(options, b"--trace"),
+        scripted: is_given(options, b"--scripted"),
         at: of_trace.at,
         json: of_trace.json,
         from: of_trace.from,
@@ -210,7 +211,7 @@ pub fn settings<'a>(alloc: Global, words: &'a [String]) -> Result<Settings, Ende
     if !go_together(behind(words)) {
         let error = command.error(
             ErrorKind::ArgumentConflict,
-            "--room goes with --segments, and --trace does not",
+            "--room goes with --segments, and --trace and --scripted do not",
         )?;
         return Err(refused(alloc, &error));
     }

@@ -29,6 +29,7 @@ returns c = record {
   acts = search rules;
   random = search rules;
   trace = search rules;
+  scripted = search rules;
   at = search rules;
   json = search rules;
   from = search rules;
