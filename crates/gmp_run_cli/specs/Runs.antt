@@ -10,13 +10,15 @@ use Rattle.gmp_words.specs.declared.said.Said.{Said}
 use Rattle.gmp_words.specs.declared.said.Said.TheVariants as said
 use Rattle.gmp_words.specs.Said.{is_of_step}
 use Rattle.gmp_words.specs.Runs.{IsTraceOf, limits_of, status_of}
-use Rattle.gmp_run_cli.specs.Told.{IsPrinted}
+use Rattle.gmp_run_cli.specs.Told.{IsOfScript, IsPrinted}
 
--- What was written is the text or the summary of the trace of a legal run by so many bodies, which ended, and the status tells how.
-pub record WritesTraceOrSummary (s : Settings) (capacities : List ℕ) (bodies status : ℕ) (old new : Option (List ℕ)) : Type 0 where
+-- What was written is the text or the summary of the trace of a legal run by as many bodies as the script has, which ended, and the status
+-- tells how. Where it is asked for, the run is one of the script's bodies.
+pub record WritesTraceOrSummary (s : Settings) (capacities : List ℕ) (script : List Commands) (status : ℕ) (old new : Option (List ℕ)) : Type 0 where
   pub trace : Content
   pub legal : IsTraceOf (limits_of s) capacities trace
-  pub stock : trace.bodies ≡ bodies
+  pub stock : trace.bodies ≡ length script
+  pub scripted : s.scripted ≡ true → IsOfScript (limits_of s) capacities script trace.entries
   pub over : trace.end ≢ Running
   pub has_text : HasText trace
   pub written : IsPrinted s.trace trace old new
@@ -28,9 +30,10 @@ pub record WritesReport (s : Settings) (input : Option (List ℕ)) (status : ℕ
   pub readings : List ℕ
   pub bodies : List Commands
   pub script : IfSome input (λ all. IsScript (lines all) capacities readings bodies)
-  pub writes : WritesTraceOrSummary s capacities (length bodies) status old new
+  pub writes : WritesTraceOrSummary s capacities bodies status old new
 
 -- what may be said by `run`
 abbrev pub is_of_threads : Said → Bool
 is_of_threads (said.Mismatch m) = true
+is_of_threads said.NoRun = true
 is_of_threads other = is_of_step other

@@ -1,5 +1,11 @@
 -- What is printed of a run in threads, and what its audit says.
 use Rattle.std.specs.Prelude.{◌≡◌, ◌<◌, ◌^◌, ℕ, Bool, true, false, List, Option, length}
+use Rattle.gmp_seq.specs.declared.call.Entry.{Entry}
+use Rattle.gmp_seq.specs.declared.call.Limits.{Limits}
+use Rattle.gmp_seq.specs.Fits.{AreLimits}
+use Rattle.gmp_seq.specs.State.{State}
+use Rattle.gmp_scene.specs.Reached.{IsRunOf}
+use Rattle.gmp_script.specs.Script.{Commands}
 use Rattle.std.specs.Io.KnownBytes.{Appends}
 use Rattle.gmp_base.specs.declared.number.MNo.{MNo}
 use Rattle.gmp_base.specs.declared.refusal.Refusal.{Refusal}
@@ -33,6 +39,14 @@ AllAgree r = (m : ℕ) → m < 2 ^ 8 → AgreesWithLogs r.history.list r.logs.it
 abbrev pub IsLeast : {T : Type 0} → Report T → MNo → Type 0
 IsLeast r m = (e : Mismatch) × IsMismatch r.history.list r.logs.items e × e.m ≡ m
 
+-- The entries are a legal run by these bodies: each goroutine asks what its body says, in order. It begins at the opening, and its limits are in
+-- range.
+pub record IsOfScript (limits : Limits) (capacities : List ℕ) (script : List Commands) (entries : List Entry) : Type 0 where
+  pub within : AreLimits limits (length script) capacities
+  pub last : State
+  pub after : List Commands
+  pub run : IsRunOf limits capacities script entries last after
+
 -- every machine agrees, and the trace or the summary of the run, which ended so, was written
 pub record Prints {T : Type 0} (shows_trace : Bool) (capacities : List ℕ) (r : Report T) (end : End) (old new : Option (List ℕ)) : Type 0 where
   pub agree : AllAgree r
@@ -58,6 +72,7 @@ is_of_print _ = false
 abbrev pub is_short : Said → Bool
 is_short said.BadLimits = true
 is_short (said.Mismatch m) = true
+is_short said.NoRun = true
 is_short other = is_of_print other
 
 -- what may be said of a run that ended

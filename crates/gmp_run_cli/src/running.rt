@@ -1,6 +1,6 @@
 //! One run of a script in threads. The script's readings of the clock are passed over: a thread's clock is the machine's.
 
-ghost use Rattle.std.specs.Prelude.{◌≡◌, ◌<◌, ◌≤◌, ℕ, true, false, length, IfSome};
+ghost use Rattle.std.specs.Prelude.{◌≡◌, ◌<◌, ◌≤◌, ℕ, true, false, All, length, IfOk, IfSome, is_some};
 ghost use Rattle.gmp_script.specs.Lines.{lines, IsFirstBadLine};
 ghost use Rattle.gmp_words.specs.declared.said.Said.TheVariants.{BadLine, BadLimits, InputTooLong, Nothing, OutputFailed};
 ghost use Rattle.gmp_words.specs.Said.{is_before_writing, is_of_input};
@@ -12,9 +12,9 @@ ghost use Rattle.gmp_seq.specs.Fits.{AreLimits};
 use crate::boxing::boxed;
 use crate::telling::told;
 use gmp_run::{Clock, Open};
-use gmp_script::Script;
+use gmp_script::{Script, ScriptBody};
 use gmp_words::{Ended, MAX_SCRIPT, Settings, script};
-use std::alloc::Global;
+use std::alloc::{AllocError, Global};
 use std::io::{Read, Write};
 use std::sync::Wait;
 use std::thread::Threads;
@@ -22,7 +22,33 @@ use std::thread::Threads;
 /// The number of the run: the program has one.
 pub(crate) const RUN: u64 = 0;
 
-/// Runs the script's bodies in threads, and tells what came of it.
+/// The same bodies once more.
+fn copied(alloc: Global, bodies: &[ScriptBody]) -> Result<Vec<ScriptBody>, AllocError>
+    ensures { IfOk result (λ copies. copies.items ≡ bodies.now) }
+{
+    let mut copies = Vec::with_capacity(alloc, bodies.len())?;
+    for body in bodies {
+        copies.push(body.copied(alloc)?)?;
+    }
+    Ok(copies)
+}
+
+/// The bodies against which the run is to be held, if it is.
+fn against(
+    alloc: Global,
+    scripted: bool,
+    bodies: &[ScriptBody],
+) -> Result<Option<Vec<ScriptBody>>, AllocError>
+    ensures some { IfOk result (λ kept. IfSome kept (λ copies. copies.items ≡ bodies.now)) }
+    ensures asked { IfOk result (λ kept. is_some kept ≡ scripted) }
+{
+    if !scripted {
+        return Ok(None);
+    }
+    Ok(Some(copied(alloc, bodies)?))
+}
+
+/// Runs the script's bodies, which have asked nothing yet, in threads, and tells what came of it.
 fn threaded<H: Threads + Wait + Sync, W: Write, C: Clock + Sync>(
     rt: &H,
     alloc: Global,
@@ -31,8 +57,9 @@ fn threaded<H: Threads + Wait + Sync, W: Write, C: Clock + Sync>(
     writer: &mut W,
     clock: &C,
 ) -> Ended
+    requires fresh { All (λ b. b.next ≡ 0) script.bodies.items }
     ensures written { result.said ≡ Nothing
-        → WritesTraceOrSummary settings.now script.capacities.items (length script.bodies.items) result.status (W.contents writer.old) (W.contents writer.new) }
+        → WritesTraceOrSummary settings.now script.capacities.items script.bodies.items result.status (W.contents writer.old) (W.contents writer.new) }
     ensures kinds { is_of_report result.said ≡ true }
     ensures quiet { is_before_writing result.said ≡ true → W.contents writer.new ≡ W.contents writer.old }
     ensures limits { result.said ≡ BadLimits → ¬ (AreLimits (limits_of settings.now) (length script.bodies.items) script.capacities.items) }
@@ -43,6 +70,9 @@ fn threaded<H: Threads + Wait + Sync, W: Write, C: Clock + Sync>(
         bodies,
         ..
     } = script;
+    let Ok(kept) = against(alloc, settings.scripted, &bodies) else {
+        return Ended::out_of_memory();
+    };
     let boxed = boxed!(alloc, bodies, Ended::out_of_memory());
     let ran = gmp_run::run(
         rt,
@@ -56,10 +86,11 @@ fn threaded<H: Threads + Wait + Sync, W: Write, C: Clock + Sync>(
         &Open,
         settings.random,
     );
-    told(alloc, settings, &capacities, ran, writer)
+    told(alloc, settings, &capacities, kept.as_deref(), ran, writer)
 }
 
 /// Reads a script, runs its bodies by machines in threads, audits the run, and writes its trace or its summary, as the settings say.
+/// Where they ask for it, the audit is too that the run is one of the script's: what no run of it has (`gmp explore`), this one hasn't.
 ///
 /// It ends with what is wrong where something is: the input, the script's first bad line, the limits, the audit, the output, or memory. The
 /// script's readings of the clock are passed over. Where main waits for good among goroutines that go on for good, the run ends once the

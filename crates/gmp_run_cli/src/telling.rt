@@ -1,15 +1,18 @@
-//! What is told of a run in threads. It takes any report, with no condition, and judges it by its logs before anything is printed: so what
-//! is said of a wrong one can be tried.
+//! What is told of a run in threads. It takes any report, with no condition, and judges it by its logs, and by the script where that is
+//! asked for, before anything is printed: so what is said of a wrong one can be tried.
 
-ghost use Rattle.std.specs.Prelude.{◌≡◌, ◌<◌, IfOk, IfErr, length, true};
+ghost use Rattle.std.specs.Prelude.{◌≡◌, ◌<◌, ◌⊎◌, All, IfOk, IfErr, IfSome, IsSomeAnd, OnOk, length, true};
 ghost use Rattle.gmp_base.specs.declared.number.MNo.{MNo};
 ghost use Rattle.gmp_words.specs.Said.{is_before_writing};
-ghost use Rattle.gmp_words.specs.declared.said.Said.TheVariants.{BadLimits, Mismatch, Nothing};
-ghost use Rattle.gmp_run_cli.specs.Told.{IsLeast, IsPrinted, Prints, TellsEnd, is_of_print, is_of_report, is_short, said_of_unrun, trace_of};
+ghost use Rattle.gmp_words.specs.declared.said.Said.TheVariants.{BadLimits, Mismatch, NoRun, Nothing, OutOfMemory};
+ghost use Rattle.gmp_run_cli.specs.Told.{IsLeast, IsOfScript, IsPrinted, Prints, TellsEnd, is_of_print, is_of_report, is_short, said_of_unrun, trace_of};
 ghost use Rattle.gmp_trace.specs.Text.{IsCounted, begins_at, content};
 
 use gmp_base::Refusal;
+use gmp_check::OpenError;
+use gmp_follow::follows;
 use gmp_run::{Report, Unrun};
+use gmp_script::ScriptBody;
 use gmp_trace::{Beginning, End, Trace, summary, write};
 use gmp_words::{Ended, Settings};
 use gmp_worker::audit;
@@ -23,6 +26,29 @@ pub(crate) fn unrun(why: Refusal) -> Ended
     match why {
         Refusal::BadLimits => Ended::bad_limits(),
         _ => Ended::out_of_memory(),
+    }
+}
+
+/// Whether the run is one of these bodies, where it is held against any.
+fn judged<T>(
+    alloc: Global,
+    capacities: &[u32],
+    against: Option<&[ScriptBody]>,
+    report: &Report<T>,
+) -> Result<(), Ended>
+    requires fresh { IfSome against (λ script. All (λ b. b.next ≡ 0) script.now) }
+    ensures right { OnOk result (IfSome against (λ script. IsOfScript report.now.limits capacities.now script.now report.now.history.list)) }
+    ensures wrong { IfErr result (λ e. e.said ≡ NoRun
+        → IsSomeAnd against (λ script. IsOfScript report.now.limits capacities.now script.now report.now.history.list → ⊥)) }
+    ensures kinds { IfErr result (λ e. (e.said ≡ NoRun) ⊎ (e.said ≡ OutOfMemory)) }
+{
+    let Some(script) = against else {
+        return Ok(());
+    };
+    match follows(alloc, report.limits, script, capacities, &report.history) {
+        Ok(true) => Ok(()),
+        Ok(false) | Err(OpenError::BadLimits) => Err(Ended::no_run()),
+        Err(OpenError::OutOfMemory) => Err(Ended::out_of_memory()),
     }
 }
 
@@ -77,11 +103,16 @@ fn reported<T: Drop, W: Write>(
     alloc: Global,
     shows_trace: bool,
     capacities: &[u32],
+    against: Option<&[ScriptBody]>,
     report: Report<T>,
     writer: &mut W,
 ) -> Result<End, Ended>
+    requires fresh { IfSome against (λ script. All (λ b. b.next ≡ 0) script.now) }
     ensures printed { IfOk result (λ end. Prints shows_trace capacities.now report end (W.contents writer.old) (W.contents writer.new)) }
+    ensures scripted { IfOk result (λ _. IfSome against (λ script. IsOfScript report.limits capacities.now script.now report.history.list)) }
     ensures kinds { IfErr result (λ e. is_short e.said ≡ true) }
+    ensures no_run { IfErr result (λ e. e.said ≡ NoRun
+        → IsSomeAnd against (λ script. IsOfScript report.limits capacities.now script.now report.history.list → ⊥)) }
     ensures limits { IfErr result (λ e. e.said ≡ BadLimits → 65535 < length report.bodies.items) }
     ensures mismatch { IfErr result (λ e. (m : MNo) → e.said ≡ Mismatch m → IsLeast report m) }
     ensures quiet { IfErr result (λ e. is_before_writing e.said ≡ true → W.contents writer.new ≡ W.contents writer.old) }
@@ -93,11 +124,13 @@ fn reported<T: Drop, W: Write>(
     if let Err(mismatch) = audit(&report.history, &report.logs) {
         return Err(Ended::mismatch(mismatch.m));
     }
+    judged(alloc, capacities, against, &report)?;
     let trace = trace_of(alloc, capacities, report, bodies)?;
     print(alloc, shows_trace, &trace, writer)
 }
 
-/// Audits the report of a run that was opened with these capacities, and writes its trace or its summary, as the settings say.
+/// Audits the report of a run that was opened with these capacities, and writes its trace or its summary, as the settings say. Where bodies
+/// of a script are given, which have asked nothing yet, the audit is too that the run is one of them.
 ///
 /// It ends with what is wrong where something is: more bodies than a trace can count, the audit, the output, or memory. Of a run that was
 /// not begun it says why.
@@ -105,12 +138,18 @@ pub fn told<T: Drop, W: Write>(
     alloc: Global,
     settings: &Settings,
     capacities: &[u32],
+    against: Option<&[ScriptBody]>,
     ran: Result<Report<T>, Unrun<T>>,
     writer: &mut W,
 ) -> Ended
+    requires fresh { IfSome against (λ script. All (λ b. b.next ≡ 0) script.now) }
     ensures printed { IfOk ran (λ report. result.said ≡ Nothing
         → TellsEnd settings.now.trace capacities.now report result.status (W.contents writer.old) (W.contents writer.new)) }
+    ensures scripted { IfOk ran (λ report. result.said ≡ Nothing
+        → IfSome against (λ script. IsOfScript report.limits capacities.now script.now report.history.list)) }
     ensures kinds { IfOk ran (λ report. is_of_report result.said ≡ true) }
+    ensures no_run { IfOk ran (λ report. result.said ≡ NoRun
+        → IsSomeAnd against (λ script. IsOfScript report.limits capacities.now script.now report.history.list → ⊥)) }
     ensures limits { IfOk ran (λ report. result.said ≡ BadLimits → 65535 < length report.bodies.items) }
     ensures mismatch { IfOk ran (λ report. (m : MNo) → result.said ≡ Mismatch m → IsLeast report m) }
     ensures unrun { IfErr ran (λ u. result.said ≡ said_of_unrun u.why) }
@@ -120,7 +159,7 @@ pub fn told<T: Drop, W: Write>(
     ensures silent { IfErr ran (λ u. W.contents writer.new ≡ W.contents writer.old) }
 {
     match ran {
-        Ok(report) => match reported(alloc, settings.trace, capacities, report, writer) {
+        Ok(report) => match reported(alloc, settings.trace, capacities, against, report, writer) {
             Ok(end) => Ended::written(end),
             Err(ended) => ended,
         },

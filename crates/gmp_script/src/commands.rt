@@ -71,6 +71,32 @@ impl Command {
             Command::Exit | Command::Again => Ask::Exit,
         }
     }
+
+    /// The same command once more. It takes no memory.
+    fn copied(&self) -> Self
+        ensures { result ≡ self.now }
+    {
+        match self {
+            Command::Yield => Command::Yield,
+            Command::Go(g) => Command::Go(*g),
+            Command::Make(capacity) => Command::Make(*capacity),
+            Command::Send(c, value) => Command::Send(*c, *value),
+            Command::Recv(c) => Command::Recv(*c),
+            Command::Close(c) => Command::Close(*c),
+            Command::Len(c) => Command::Len(*c),
+            Command::Cap(c) => Command::Cap(*c),
+            Command::Procs(n) => Command::Procs(*n),
+            Command::Select(cases, has_default, until) => {
+                Command::Select(cases.copied(), *has_default, *until)
+            }
+            Command::Sleep(until) => Command::Sleep(*until),
+            Command::Park => Command::Park,
+            Command::Ready(g) => Command::Ready(*g),
+            Command::Block(number) => Command::Block(*number),
+            Command::Exit => Command::Exit,
+            Command::Again => Command::Again,
+        }
+    }
 }
 
 /// The ask of a select. It has a function of its own, since it is wide: whoever asks something else makes none.
@@ -93,7 +119,7 @@ impl Model for ScriptBody {
 }
 
 impl ScriptBody {
-    ghost use Rattle.std.specs.Prelude.{◌≡◌, ◌++◌, ◌∷◌, ◌<◌, [], false, length, OnOk, OnErr, IsTrue, ◌↔◌};
+    ghost use Rattle.std.specs.Prelude.{◌≡◌, ◌++◌, ◌∷◌, ◌<◌, [], false, length, IfOk, OnOk, OnErr, IsTrue, ◌↔◌};
     ghost use Rattle.gmp_script.specs.Script.{begins_again, place_of};
 
     /// A body with no command.
@@ -129,6 +155,20 @@ impl ScriptBody {
     {
         self.commands.push(command)?;
         Ok(())
+    }
+
+    /// The same body once more, which has come as far.
+    pub fn copied(&self, alloc: Global) -> Result<Self, AllocError>
+        ensures { IfOk result (λ body. body ≡ self.now) }
+    {
+        let mut commands = Vec::with_capacity(alloc, self.commands.len())?;
+        for command in &self.commands {
+            commands.push(command.copied())?;
+        }
+        Ok(ScriptBody {
+            commands,
+            next: self.next,
+        })
     }
 
     /// The place of the command that is asked next: after the last one before `Again` comes the first.
