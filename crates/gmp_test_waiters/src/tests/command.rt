@@ -37,7 +37,7 @@ const ROWS: [Row; 14] = [
     ("gmp run --trace", ALONE, 2, None),
     ("gmp run --trace --procs 4 --machines 6", ALONE, 2, None),
     (
-        "gmp run --trace",
+        "gmp run --trace --scripted",
         CHANNEL,
         0,
         Some(
@@ -45,13 +45,18 @@ const ROWS: [Row; 14] = [
         ),
     ),
     (
-        "gmp run --trace --procs 4 --machines 6 --random 7",
+        "gmp run --trace --scripted --procs 4 --machines 6 --random 7",
         CHANNEL,
         0,
         None,
     ),
     ("gmp run --trace", CLOSED, 0, None),
-    ("gmp run --trace --procs 4 --machines 6", CLOSED, 0, None),
+    (
+        "gmp run --scripted --trace --procs 4 --machines 6",
+        CLOSED,
+        0,
+        None,
+    ),
     ("gmp run --trace --entries 16", "body/yield/again", 3, None),
     // The summary.
     (
@@ -168,19 +173,22 @@ fn what_run_writes_is_right(rt: HostRuntime) -> Result<(), Fail> {
     Ok(())
 }
 
-/// Runs in segments of at most 16 entries, with the status that they lead to.
-const SEGMENTED: [(&str, &str, u8); 4] = [
-    ("gmp run --segments d --room 16", CHANNEL, 0),
+/// Runs in segments, with the status that they lead to, and how what is told of them ends: with how many parts there are, where that is the
+/// same each time.
+const SEGMENTED: [(&str, &str, u8, &str); 4] = [
+    ("gmp run --segments d --room 16", CHANNEL, 0, "parts: 2/"),
     (
         "gmp run --segments d --room 16 --procs 4 --machines 6",
         CLOSED,
         0,
+        "/",
     ),
-    ("gmp run --segments d", ALONE, 2),
+    ("gmp run --segments d", ALONE, 2, "parts: 1/"),
     (
         "gmp run --segments d --room 16 --entries 1000 --procs 2 --machines 2",
         "body/yield/again",
         3,
+        "parts: 63/",
     ),
 ];
 
@@ -194,7 +202,7 @@ fn joined(alloc: Global, mut parts: &[u8]) -> (u8, Vec<u8>) {
 #[test]
 fn segments_are_one_run(rt: HostRuntime) -> Result<(), Fail> {
     let alloc = rt.alloc();
-    for (line, script, status) in SEGMENTED {
+    for (line, script, status, tail) in SEGMENTED {
         let settings = settings_of(alloc, line)?;
         let segments = settings.segments.ok_or("no segments")?;
         let input = lines(alloc, script)?;
@@ -214,6 +222,8 @@ fn segments_are_one_run(rt: HostRuntime) -> Result<(), Fail> {
         let Together(parts) = ran.outlet.ok_or("no outlet")?;
         let (right, told) = joined(alloc, &parts);
         assert_eq!(rt; (right, told.as_slice()), (0, output.as_slice()), "{line}");
+        let tail = lines(alloc, tail)?;
+        assert!(rt; output.ends_with(tail.as_slice()), "{line}");
     }
     Ok(())
 }
@@ -259,13 +269,16 @@ fn report_of<R: Threads + Wait + Sync>(
     Ok(report)
 }
 
-/// The command ended with machine 0 named, and wrote nothing.
-fn is_named(rt: &impl Abort, alloc: Global, ended: &Ended, output: &[u8]) -> Result<(), Fail> {
+/// The audit found something wrong, which was told so, and nothing was written.
+fn is_named(
+    rt: &impl Abort,
+    alloc: Global,
+    ended: &Ended,
+    text: &str,
+    output: &[u8],
+) -> Result<(), Fail> {
     let said = format!(in alloc; "{}", ended.said)?;
-    assert_eq!(rt;
-        (ended.status, said.as_str(), output.len()),
-        (6, "gmp: audit: machine 0\n", 0)
-    );
+    assert_eq!(rt; (ended.status, said.as_str(), output.len()), (6, text, 0));
     Ok(())
 }
 
@@ -284,8 +297,8 @@ fn is_found<R: Threads + Wait + Abort + Sync>(
     let m = MNo(0);
     assert_eq!(rt; found, Err(Mismatch { m, said, found: 7 }));
     let mut output = Vec::new(alloc);
-    let ended = told(alloc, settings, &[], Ok(report), &mut output);
-    is_named(rt, alloc, &ended, &output)
+    let ended = told(alloc, settings, &[], None, Ok(report), &mut output);
+    is_named(rt, alloc, &ended, "gmp: audit: machine 0\n", &output)
 }
 
 #[test]
@@ -293,6 +306,32 @@ fn wrong_logs_are_found(rt: HostRuntime) -> Result<(), Fail> {
     let settings = settings_of(rt.alloc(), "gmp run")?;
     for row in LOGS {
         is_found(&rt, rt.alloc(), &settings, row)?;
+    }
+    Ok(())
+}
+
+#[test]
+fn another_script_is_found(rt: HostRuntime) -> Result<(), Fail> {
+    let alloc = rt.alloc();
+    let settings = settings_of(alloc, "gmp run --scripted")?;
+    for (text, found) in [
+        (YIELDS, false),
+        ("body/exit", true),
+        ("body/yield/yield", true),
+    ] {
+        let report = report_of(&rt, alloc, settings.limits(), &[7])?;
+        let input = lines(alloc, text)?;
+        let other = script(alloc, &mut input.as_slice())
+            .ok()
+            .ok_or("the script")?;
+        let mut output = Vec::new(alloc);
+        let against = Some(other.bodies.as_slice());
+        let ended = told(alloc, &settings, &[], against, Ok(report), &mut output);
+        if found {
+            is_named(&rt, alloc, &ended, "gmp: audit: no run\n", &output)?;
+        } else {
+            assert_eq!(rt; ended.status, 0);
+        }
     }
     Ok(())
 }

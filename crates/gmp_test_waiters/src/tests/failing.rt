@@ -1,12 +1,14 @@
-//! `gmp run` with a reader that fails at each of its reads, and with a writer that fails behind each number of bytes.
+//! `gmp run` with a reader that fails at each of its reads, with a writer that fails behind each number of bytes, and with an outlet of parts
+//! that does.
 
 use super::at_once::Stopped;
 use super::command::settings_of;
-use gmp_run_cli::run;
+use gmp_parts::Outlet;
+use gmp_run_cli::{run, run_in_segments};
 use gmp_words::{Ended, Said, Settings};
 use std::alloc::Global;
 use std::io;
-use std::io::{ErrorKind, Read};
+use std::io::{ErrorKind, Read, Write};
 use std::process::Abort;
 use std::sync::Wait;
 use std::test::*;
@@ -114,6 +116,90 @@ fn output_of_run_may_fail_behind_each_byte(rt: HostRuntime) -> Result<(), Fail> 
             let is_right = is_cut(&rt, rt.alloc(), &settings, text.as_bytes(), room);
             assert!(rt; is_right, "{line}: {room}");
         }
+    }
+    Ok(())
+}
+
+/// A run in three parts, of 16, 16 and 8 entries.
+const IN_PARTS: &str = "gmp run --segments d --room 16 --entries 40";
+
+const AGAIN: &str = "body
+yield
+again
+";
+
+/// What is told of its parts.
+const TOLD: &str = "outcome: book full
+entries: 40
+parts: 3
+";
+
+/// An outlet that takes so many bytes, and then fails.
+#[derive(Drop)]
+struct Narrow {
+    left: usize,
+}
+
+impl Write for Narrow {
+    fn write(&mut self, buf: &[u8]) -> io::Result<usize> {
+        if self.left == 0 {
+            return Err(io::Error::from(ErrorKind::StorageFull));
+        }
+        let taken = buf.len().min(self.left);
+        self.left -= taken;
+        Ok(taken)
+    }
+
+    fn flush(&mut self) -> io::Result<()> {
+        Ok(())
+    }
+}
+
+impl Outlet for Narrow {
+    fn begin(&mut self, _number: u64) -> io::Result<()> {
+        Ok(())
+    }
+}
+
+/// How the run in parts ends whose outlet takes so many bytes and whose writer so many, and how many the outlet would still take.
+fn in_parts<H: Threads + Wait + Sync>(
+    rt: &H,
+    alloc: Global,
+    room: usize,
+    told: usize,
+) -> Result<(Ended, usize), Fail> {
+    let settings = settings_of(alloc, IN_PARTS)?;
+    let segments = settings.segments.ok_or("no segments")?;
+    let mut written = [0u8; 64];
+    let mut output = written.get_mut(..told).ok_or("too many")?;
+    let ran = run_in_segments(
+        rt,
+        alloc,
+        &settings,
+        segments,
+        Narrow { left: room },
+        &mut AGAIN.as_bytes(),
+        &mut output,
+        &Stopped,
+    );
+    let outlet = ran.outlet.ok_or("no outlet")?;
+    Ok((ran.ended, outlet.left))
+}
+
+#[test]
+fn parts_may_fail_behind_each_byte(rt: HostRuntime) -> Result<(), Fail> {
+    let alloc = rt.alloc();
+    let (whole, left) = in_parts(&rt, alloc, 100_000, TOLD.len())?;
+    assert_eq!(rt; whole.status, 3);
+    let length = 100_000 - left;
+    for room in 0..=length {
+        let (ended, left) = in_parts(&rt, alloc, room, TOLD.len())?;
+        let wanted = if room < length { 1 } else { 3 };
+        assert_eq!(rt; (ended.status, left), (wanted, 0), "{room}");
+    }
+    for told in 0..TOLD.len() {
+        let (ended, left) = in_parts(&rt, alloc, length, told)?;
+        assert_eq!(rt; (ended.status, left), (1, 0), "{told}");
     }
     Ok(())
 }

@@ -118,7 +118,7 @@ fn ends<R: Threads + Wait + Abort + Sync>(
     let (capacities, report) = ran(rt, alloc, settings, text, gate)?;
     are_left_out(rt, &report, gate);
     let mut trace = Vec::new(alloc);
-    let ended = told(alloc, settings, &capacities, Ok(report), &mut trace);
+    let ended = told(alloc, settings, &capacities, None, Ok(report), &mut trace);
     assert_eq!(rt; ended.status, status, "{text}");
     let checked = checked(alloc, &trace);
     assert_eq!(rt; checked.status, 0, "{text}");
@@ -152,7 +152,14 @@ fn those_left_out_have_no_entries(rt: HostRuntime) -> Result<(), Fail> {
     let settings = settings_of(alloc, "gmp run --procs 2 --machines 3")?;
     let (capacities, report) = ran(&rt, alloc, &settings, "chan 0/body/recv 0", &Admits(0))?;
     let mut summary = Vec::new(alloc);
-    let ended = told(alloc, &settings, &capacities, Ok(report), &mut summary);
+    let ended = told(
+        alloc,
+        &settings,
+        &capacities,
+        None,
+        Ok(report),
+        &mut summary,
+    );
     assert_eq!(rt; ended.status, 2);
     let wanted = lines(alloc, BY_ONE)?;
     assert_eq!(rt; summary.as_slice(), wanted.as_slice());

@@ -142,7 +142,7 @@ fn is_cut<R: Threads + Wait + Abort + Sync>(
         0,
     );
     let mut output = Vec::new(alloc);
-    let ended = told(alloc, &settings, &capacities, ran, &mut output);
+    let ended = told(alloc, &settings, &capacities, None, ran, &mut output);
     let (text, status) = wanted(alloc, row, entries)?;
     assert_eq!(rt; ended.status, status, "{line}");
     assert_eq!(rt; output.as_slice(), text.as_slice(), "{line}");

@@ -92,7 +92,7 @@ pub(super) fn run_together<R: Threads + Wait + Abort + Sync>(
         report.logs
     );
     let mut output = Vec::new(alloc);
-    let ended = told(alloc, &settings, &capacities, Ok(report), &mut output);
+    let ended = told(alloc, &settings, &capacities, None, Ok(report), &mut output);
     assert_eq!(rt; ended.status, status, "{line}");
     Ok(output)
 }
