@@ -1,5 +1,5 @@
 -- What is written of a run that was reported, and what is said of one that was not begun.
-use Rattle.std.proofs.Common.{◌≡◌, ◌≢◌, ◌⊎◌, ◌<◌, ℕ, List, [], Option, None, Some, IsSome, Result, Ok, Err, IfOk, IfErr, inl, inr, length, sym, ap, ◌∙◌, refl, subst, arith}
+use Rattle.std.proofs.Common.{◌≡◌, ◌≢◌, ◌⊎◌, ◌<◌, ℕ, true, List, [], Option, None, Some, IsSome, Result, Ok, Err, IfOk, IfErr, inl, inr, length, sym, ap, ◌∙◌, refl, subst, arith}
 use Rattle.std.proofs.lemmas.Bool.{false≢true}
 use Rattle.gmp_base.specs.declared.refusal.Refusal.{Refusal}
 use Rattle.gmp_base.specs.declared.refusal.Refusal.TheVariants as refusal
@@ -7,6 +7,7 @@ use Rattle.gmp_seq.specs.declared.call.Limits.{Limits}
 use Rattle.gmp_seq.specs.declared.call.Outcome.{Outcome}
 use Rattle.gmp_seq.specs.declared.call.Outcome.TheVariants as outcome
 use Rattle.gmp_seq.specs.Fits.{AreLimits}
+use Rattle.gmp_script.specs.Script.{Commands}
 use Rattle.gmp_trace.specs.declared.trace.End.TheVariants.{Running}
 use Rattle.gmp_trace.specs.HasText.{HasText}
 use Rattle.gmp_trace.specs.Text.{end_of}
@@ -21,7 +22,7 @@ use Rattle.gmp_words.specs.declared.said.Said.{Said}
 use Rattle.gmp_words.specs.declared.said.Said.TheVariants.{BadLimits, Nothing, OutOfMemory, OutputFailed}
 use Rattle.gmp_words.specs.Runs.{IsTraceOf, limits_of, status_of}
 use Rattle.gmp_run_cli.specs.Runs.{WritesTraceOrSummary}
-use Rattle.gmp_run_cli.specs.Told.{TellsEnd, said_of_unrun, trace_of}
+use Rattle.gmp_run_cli.specs.Told.{IsOfScript, TellsEnd, said_of_unrun, trace_of}
 
 -- a run that has an outcome has ended
 over : (o : Option Outcome) → IsSome o → end_of o ≢ Running
@@ -45,7 +46,7 @@ two_ways may refusal.NotHeld h = absurd h
 two_ways may refusal.NotOver h = absurd h
 two_ways may refusal.Full h = absurd h
 
-module _ {T : Type 0} (s : Settings) (capacities : List ℕ) (bodies : ℕ) (r : Report T) (report : IsRunReport (limits_of s) capacities bodies [] r) where
+module _ {T : Type 0} (s : Settings) (capacities : List ℕ) (script : List Commands) (r : Report T) (report : IsRunReport (limits_of s) capacities (length script) [] r) where
   is_trace : IsTraceOf (limits_of s) capacities (trace_of capacities r)
   is_trace = record {
     opened = report.opened;
@@ -60,11 +61,13 @@ module _ {T : Type 0} (s : Settings) (capacities : List ℕ) (bodies : ℕ) (r :
   unfolding is_trace
   has_text = legal_text (trace_of capacities r) capacities report.last refl is_trace.within (kept_whole r.limits s report.opened) is_trace.legal report.fits
 
-  writes : IsSome r.outcome → (status : ℕ) (old new : Option (List ℕ)) → TellsEnd s.trace capacities r status old new → WritesTraceOrSummary s capacities bodies status old new
-  writes some status old new t = record {
+  writes : IsSome r.outcome → (s.scripted ≡ true → IsOfScript r.limits capacities script r.history.list) → (status : ℕ) (old new : Option (List ℕ)) → TellsEnd s.trace capacities r status old new
+      → WritesTraceOrSummary s capacities script status old new
+  writes some of_script status old new t = record {
     trace = trace_of capacities r;
     legal = is_trace;
     stock = report.stock;
+    scripted = λ on. subst (λ (l : Limits). IsOfScript l capacities script r.history.list) report.opened (of_script on);
     over = over r.outcome some;
     has_text = has_text;
     written = t.1.written;
@@ -91,14 +94,15 @@ tried_last s capacities boxes bodies said (Ok r) counted report why unrun failed
 tried_last s capacities boxes bodies said (Err u) counted report why unrun failed =
     absurd (not_failed u.why (two_ways (IsWholeRun (limits_of s) boxes capacities) u.why why) (sym unrun ∙ failed))
 
-pub wrote : {T : Type 0} (s : Settings) (capacities : List ℕ) (boxes bodies : ℕ) (said : Said) (ran : Result (Report T) (Unrun T)) → boxes ≡ bodies
+pub wrote : {T : Type 0} (s : Settings) (capacities : List ℕ) (boxes : ℕ) (script : List Commands) (said : Said) (ran : Result (Report T) (Unrun T)) → boxes ≡ length script
     → IfOk ran (IsRunReport (limits_of s) capacities boxes []) → IfErr ran (λ (u : Unrun T). WhyUnrun (IsWholeRun (limits_of s) boxes capacities) u.why)
     → IfErr ran (λ (u : Unrun T). said ≡ said_of_unrun u.why) → IfOk ran (λ (r : Report T). IsSome r.outcome)
+    → (s.scripted ≡ true → IfOk ran (λ (r : Report T). said ≡ Nothing → IsOfScript r.limits capacities script r.history.list))
     → (status : ℕ) (old new : Option (List ℕ)) → IfOk ran (λ (r : Report T). said ≡ Nothing → TellsEnd s.trace capacities r status old new) → said ≡ Nothing
-    → WritesTraceOrSummary s capacities bodies status old new
-wrote s capacities boxes bodies said (Ok r) counted report why unrun some status old new printed nothing =
-    writes s capacities bodies r (subst (λ (n : ℕ). IsRunReport (limits_of s) capacities n [] r) counted report) some status old new (printed nothing)
-wrote s capacities boxes bodies said (Err u) counted report why unrun some status old new printed nothing =
+    → WritesTraceOrSummary s capacities script status old new
+wrote s capacities boxes script said (Ok r) counted report why unrun some of_script status old new printed nothing =
+    writes s capacities script r (subst (λ (n : ℕ). IsRunReport (limits_of s) capacities n [] r) counted report) some (λ on. of_script on nothing) status old new (printed nothing)
+wrote s capacities boxes script said (Err u) counted report why unrun some of_script status old new printed nothing =
     absurd (not_nothing u.why (two_ways (IsWholeRun (limits_of s) boxes capacities) u.why why) (sym unrun ∙ nothing))
 
 pub out : {T : Type 0} (s : Settings) (capacities : List ℕ) (boxes bodies : ℕ) (said : Said) (ran : Result (Report T) (Unrun T)) → boxes ≡ bodies
