@@ -1,6 +1,6 @@
 //! One run of a script in threads. The script's readings of the clock are passed over: a thread's clock is the machine's.
 
-ghost use Rattle.std.specs.Prelude.{◌≡◌, ◌<◌, ◌≤◌, ℕ, true, false, All, length, IfOk, IfSome, is_some};
+ghost use Rattle.std.specs.Prelude.{◌≡◌, ◌<◌, ◌≤◌, ℕ, true, false, All, None, Some, if◌then◌else◌, length, option_map, IfOk, IfSome};
 ghost use Rattle.gmp_script.specs.Lines.{lines, IsFirstBadLine};
 ghost use Rattle.gmp_words.specs.declared.said.Said.TheVariants.{BadLine, BadLimits, InputTooLong, Nothing, OutputFailed};
 ghost use Rattle.gmp_words.specs.Said.{is_before_writing, is_of_input};
@@ -39,13 +39,19 @@ fn against(
     scripted: bool,
     bodies: &[ScriptBody],
 ) -> Result<Option<Vec<ScriptBody>>, AllocError>
-    ensures some { IfOk result (λ kept. IfSome kept (λ copies. copies.items ≡ bodies.now)) }
-    ensures asked { IfOk result (λ kept. is_some kept ≡ scripted) }
+    ensures { IfOk result (λ kept. option_map (λ copies. copies.items) kept ≡ (if scripted then Some bodies.now else None)) }
 {
     if !scripted {
         return Ok(None);
     }
     Ok(Some(copied(alloc, bodies)?))
+}
+
+/// The bodies that were kept, lent.
+fn lent(kept: &Option<Vec<ScriptBody>>) -> Option<&[ScriptBody]>
+    ensures { option_map (λ bodies. bodies.now) result ≡ option_map (λ copies. copies.items) kept.now }
+{
+    kept.as_deref()
 }
 
 /// Runs the script's bodies, which have asked nothing yet, in threads, and tells what came of it.
@@ -73,6 +79,7 @@ fn threaded<H: Threads + Wait + Sync, W: Write, C: Clock + Sync>(
     let Ok(kept) = against(alloc, settings.scripted, &bodies) else {
         return Ended::out_of_memory();
     };
+    let script = lent(&kept);
     let boxed = boxed!(alloc, bodies, Ended::out_of_memory());
     let ran = gmp_run::run(
         rt,
@@ -86,7 +93,7 @@ fn threaded<H: Threads + Wait + Sync, W: Write, C: Clock + Sync>(
         &Open,
         settings.random,
     );
-    told(alloc, settings, &capacities, kept.as_deref(), ran, writer)
+    told(alloc, settings, &capacities, script, ran, writer)
 }
 
 /// Reads a script, runs its bodies by machines in threads, audits the run, and writes its trace or its summary, as the settings say.

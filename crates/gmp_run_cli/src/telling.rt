@@ -37,9 +37,9 @@ fn judged<T>(
     report: &Report<T>,
 ) -> Result<(), Ended>
     requires fresh { IfSome against (λ script. All (λ b. b.next ≡ 0) script.now) }
-    ensures right { OnOk result (IfSome against (λ script. IsOfScript report.now.limits capacities.now script.now report.now.history.list)) }
+    ensures right { OnOk result (IfSome against.entry (λ script. IsOfScript report.now.limits capacities.now script.now report.now.history.list)) }
     ensures wrong { IfErr result (λ e. e.said ≡ NoRun
-        → IsSomeAnd against (λ script. IsOfScript report.now.limits capacities.now script.now report.now.history.list → ⊥)) }
+        → IsSomeAnd against.entry (λ script. IsOfScript report.now.limits capacities.now script.now report.now.history.list → ⊥)) }
     ensures kinds { IfErr result (λ e. (e.said ≡ NoRun) ⊎ (e.said ≡ OutOfMemory)) }
 {
     let Some(script) = against else {
@@ -109,10 +109,10 @@ fn reported<T: Drop, W: Write>(
 ) -> Result<End, Ended>
     requires fresh { IfSome against (λ script. All (λ b. b.next ≡ 0) script.now) }
     ensures printed { IfOk result (λ end. Prints shows_trace capacities.now report end (W.contents writer.old) (W.contents writer.new)) }
-    ensures scripted { IfOk result (λ _. IfSome against (λ script. IsOfScript report.limits capacities.now script.now report.history.list)) }
+    ensures scripted { IfOk result (λ _. IfSome against.entry (λ script. IsOfScript report.limits capacities.now script.now report.history.list)) }
     ensures kinds { IfErr result (λ e. is_short e.said ≡ true) }
     ensures no_run { IfErr result (λ e. e.said ≡ NoRun
-        → IsSomeAnd against (λ script. IsOfScript report.limits capacities.now script.now report.history.list → ⊥)) }
+        → IsSomeAnd against.entry (λ script. IsOfScript report.limits capacities.now script.now report.history.list → ⊥)) }
     ensures limits { IfErr result (λ e. e.said ≡ BadLimits → 65535 < length report.bodies.items) }
     ensures mismatch { IfErr result (λ e. (m : MNo) → e.said ≡ Mismatch m → IsLeast report m) }
     ensures quiet { IfErr result (λ e. is_before_writing e.said ≡ true → W.contents writer.new ≡ W.contents writer.old) }
@@ -146,10 +146,10 @@ pub fn told<T: Drop, W: Write>(
     ensures printed { IfOk ran (λ report. result.said ≡ Nothing
         → TellsEnd settings.now.trace capacities.now report result.status (W.contents writer.old) (W.contents writer.new)) }
     ensures scripted { IfOk ran (λ report. result.said ≡ Nothing
-        → IfSome against (λ script. IsOfScript report.limits capacities.now script.now report.history.list)) }
+        → IfSome against.entry (λ script. IsOfScript report.limits capacities.now script.now report.history.list)) }
     ensures kinds { IfOk ran (λ report. is_of_report result.said ≡ true) }
     ensures no_run { IfOk ran (λ report. result.said ≡ NoRun
-        → IsSomeAnd against (λ script. IsOfScript report.limits capacities.now script.now report.history.list → ⊥)) }
+        → IsSomeAnd against.entry (λ script. IsOfScript report.limits capacities.now script.now report.history.list → ⊥)) }
     ensures limits { IfOk ran (λ report. result.said ≡ BadLimits → 65535 < length report.bodies.items) }
     ensures mismatch { IfOk ran (λ report. (m : MNo) → result.said ≡ Mismatch m → IsLeast report m) }
     ensures unrun { IfErr ran (λ u. result.said ≡ said_of_unrun u.why) }
