@@ -24,7 +24,7 @@ use gmp_explore_cli::explore;
 use gmp_host::Since;
 use gmp_join_cli::join;
 use gmp_run_cli::{run, run_in_segments};
-use gmp_words::{Ended, Settings, Task, arguments, folder, settings};
+use gmp_words::{CommandLine, Ended, Settings, Task, arguments, command_line};
 use std::io::{self, IsTerminal};
 use std::process::ExitCode;
 
@@ -67,12 +67,12 @@ fn main(rt: HostRuntime) -> ExitCode {
         Ok(words) => words,
         Err(ended) => return finish(&rt, &ended),
     };
-    let ended = match settings(alloc, &words) {
+    let ended = match command_line(alloc, &words) {
         Err(ended) => ended,
-        Ok(settings) => match settings.task {
+        Ok(CommandLine { settings, folder }) => match settings.task {
             Task::Step => step(alloc, &settings, &mut rt.reader(), &mut io::writer(&rt)),
             // Here, since main alone may hand the host's folder to threads.
-            Task::Run => match (settings.segments, folder(&words)) {
+            Task::Run => match (settings.segments, folder) {
                 (None, _) => run(
                     &rt,
                     alloc,
@@ -94,7 +94,7 @@ fn main(rt: HostRuntime) -> ExitCode {
                     );
                     ran.ended
                 }
-                // Each word is UTF-8, and `settings` has found that one names a folder.
+                // There is no such line: it has segments where it names a folder.
                 (Some(_), None) => Ended::output_failed(),
             },
             Task::Check => check(

@@ -21,7 +21,7 @@ use gmp_explore_cli::explore;
 use gmp_join_cli::join;
 use gmp_run::Clock;
 use gmp_run_cli::run;
-use gmp_words::{Ended, Settings, Task, arguments, settings};
+use gmp_words::{Ended, Settings, Task, arguments, command_line};
 use std::alloc::{AllocError, Global};
 use std::io;
 use std::io::{Read, Write};
@@ -80,7 +80,7 @@ fn settings_of(alloc: Global, line: &str) -> Result<Settings, Ended> {
             return Err(Ended::out_of_memory());
         }
     }
-    settings(alloc, &words)
+    command_line(alloc, &words).map(|line| line.settings)
 }
 
 /// A command, with what it writes, and what it writes where a make is refused memory.

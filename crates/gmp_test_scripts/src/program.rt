@@ -5,7 +5,7 @@ use gmp_cli::step;
 use gmp_draw::draw;
 use gmp_explain::explain;
 use gmp_explore_cli::explore;
-use gmp_words::{Said, settings};
+use gmp_words::{Said, command_line};
 use std::alloc::{AllocError, Global};
 
 /// What it wrote and what it said.
@@ -55,8 +55,8 @@ pub fn stepped_within(alloc: Global, script: &[u8], entries: &str) -> Result<Ran
 /// What the words of a command line say, on a script.
 fn step_by(alloc: Global, words: &[String], script: &[u8]) -> Result<Ran, AllocError> {
     let mut written = Vec::new(alloc);
-    let ended = match settings(alloc, words) {
-        Ok(settings) => step(alloc, &settings, &mut &script[..], &mut written),
+    let ended = match command_line(alloc, words) {
+        Ok(line) => step(alloc, &line.settings, &mut &script[..], &mut written),
         Err(ended) => ended,
     };
     done(alloc, written, ended.status, &ended.said)
@@ -96,9 +96,9 @@ pub fn explored(alloc: Global, script: &[u8], trace: bool) -> Result<Ran, AllocE
         words.push(String::from_str(alloc, "--trace")?)?;
     }
     let mut written = Vec::new(alloc);
-    match settings(alloc, &words) {
-        Ok(settings) => {
-            let found = explore(alloc, &settings, &mut &script[..], &mut written);
+    match command_line(alloc, &words) {
+        Ok(line) => {
+            let found = explore(alloc, &line.settings, &mut &script[..], &mut written);
             let said = format!(in alloc; "{}{}", found.ended.said, found.note)?;
             Ok(Ran {
                 written,

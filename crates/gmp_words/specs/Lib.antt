@@ -1,3 +1,4 @@
 pub mod Said
+pub mod CommandLine
 pub mod Words
 pub mod Runs

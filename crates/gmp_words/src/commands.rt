@@ -1,5 +1,11 @@
 //! The commands as `clap` has them: each option and each command is a function or a constant here, with its texts.
 
+ghost use Rattle.std.specs.Prelude.{◌≡◌, [], IfOk, codes, false, map, true};
+ghost use Rattle.clap.specs.Words.{app_of, rule_of, shape_of};
+ghost use Rattle.clap.specs.declared.builder.command.Command.TheViews.{out-Command as fields_of};
+ghost use Rattle.gmp_words.specs.CommandLine.{flag, folder, gmp, numeric_of, with_more};
+ghost use Rattle.gmp_words.specs.CommandLine as line;
+
 use crate::numeric::Numeric;
 use crate::wanting;
 use clap::builder::ValueParser;
@@ -13,7 +19,6 @@ pub const MOST_ENTRIES: u32 = 1_000_000;
 // The options, each with the range that its type of settings has: what is read is narrowed without a loss.
 pub(crate) const PROCS: Numeric = Numeric {
     id: "procs",
-    option: "--procs",
     help: "Processors, 1 to 32 [default: 1]",
     least: 1,
     most: MOST_PROCS as u64,
@@ -28,7 +33,6 @@ const PROCS_OF_ALL: Numeric = Numeric {
 
 pub(crate) const MACHINES: Numeric = Numeric {
     id: "machines",
-    option: "--machines",
     help: "Machines, 1 to 64 [default: 1]",
     least: 1,
     most: MOST_MACHINES as u64,
@@ -37,7 +41,6 @@ pub(crate) const MACHINES: Numeric = Numeric {
 
 pub(crate) const CHANNELS: Numeric = Numeric {
     id: "channels",
-    option: "--channels",
     help: "The most channels, 0 to 1024 [default: 16]",
     least: 0,
     most: MOST_CHANNELS as u64,
@@ -46,28 +49,21 @@ pub(crate) const CHANNELS: Numeric = Numeric {
 
 pub(crate) const ENTRIES: Numeric = Numeric {
     id: "entries",
-    option: "--entries",
     help: "The most entries, 16 to 1000000 [default: 10000]",
     least: LEAST_ROOM as u64,
     most: MOST_ENTRIES as u64,
     default: 10_000,
 };
 
-/// The same for `run`.
-const ENTRIES_OF_RUN: Numeric = Numeric {
-    help: "The most entries, 16 to 1000000, with --segments to 9223372036854775807 [default: 10000]",
-    ..ENTRIES
-};
-
-/// The same for a run in segments.
+/// The same for `run`, of which those beyond `ENTRIES` are for a run in segments.
 pub(crate) const ENTRIES_IN_SEGMENTS: Numeric = Numeric {
+    help: "The most entries, 16 to 1000000, with --segments to 9223372036854775807 [default: 10000]",
     most: gmp_seq::MOST_ENTRIES,
-    ..ENTRIES_OF_RUN
+    ..ENTRIES
 };
 
 pub(crate) const ROOM: Numeric = Numeric {
     id: "room",
-    option: "--room",
     help: "With --segments, the most entries that are kept, 16 to 1000000 [default: 1000000]",
     least: LEAST_ROOM as u64,
     most: MOST_ENTRIES as u64,
@@ -76,7 +72,6 @@ pub(crate) const ROOM: Numeric = Numeric {
 
 pub(crate) const WORD: Numeric = Numeric {
     id: "word",
-    option: "--word",
     help: "The word that every choice draws, 0 to 18446744073709551615 [default: 0]",
     least: 0,
     most: u64::MAX,
@@ -85,7 +80,6 @@ pub(crate) const WORD: Numeric = Numeric {
 
 pub(crate) const ACTS: Numeric = Numeric {
     id: "acts",
-    option: "--acts",
     help: "The most acts of machines, 1 to 1000000000 [default: 10000000]",
     least: 1,
     most: 1_000_000_000,
@@ -94,7 +88,6 @@ pub(crate) const ACTS: Numeric = Numeric {
 
 pub(crate) const RANDOM: Numeric = Numeric {
     id: "random",
-    option: "--random",
     help: "The number that seeds each machine's words, 0 to 18446744073709551615 [default: 0]",
     least: 0,
     most: u64::MAX,
@@ -103,7 +96,6 @@ pub(crate) const RANDOM: Numeric = Numeric {
 
 pub(crate) const AT: Numeric = Numeric {
     id: "at",
-    option: "--at",
     help: "The entry from which the part begins, 0 to 18446744073709551615 [default: 0]",
     least: 0,
     most: u64::MAX,
@@ -112,7 +104,6 @@ pub(crate) const AT: Numeric = Numeric {
 
 pub(crate) const FROM: Numeric = Numeric {
     id: "from",
-    option: "--from",
     help: "The first entry that is drawn, 0 to 18446744073709551615 [default: 0]",
     least: 0,
     most: u64::MAX,
@@ -121,7 +112,6 @@ pub(crate) const FROM: Numeric = Numeric {
 
 pub(crate) const TO: Numeric = Numeric {
     id: "to",
-    option: "--to",
     help: "The entry before which the picture ends [default: 5000 entries behind the first]",
     least: 0,
     most: u64::MAX,
@@ -130,7 +120,6 @@ pub(crate) const TO: Numeric = Numeric {
 
 pub(crate) const STATES: Numeric = Numeric {
     id: "states",
-    option: "--states",
     help: "The most states that are looked at, 1 to 100000000 [default: 1000000]",
     least: 1,
     most: 100_000_000,
@@ -218,12 +207,23 @@ clock: what goes wrong goes to standard output with the choices that lead there,
 Exit status: 0 no run has it, 2 a deadlock, 7 a fault, 8 a leak, 9 not known (there are more states), 1 bad script,
 input or output, 5 out of memory, 6 no trace of what was found, 64 bad command line or limits.";
 
-/// The command with these options.
+/// A command with its texts and no options.
+fn bare<'a>(alloc: Global, name: &'a str, about: &'a str, input: &'a str) -> Command<'a>
+    ensures shape { shape_of result ≡ line.command name.now [] }
+    ensures local { (fields_of result).has_globals ≡ false }
+{
+    Command::new(alloc, name).about(about).after_help(input)
+}
+
+/// The command with these options too.
 fn with<'a>(
     alloc: Global,
     command: Command<'a>,
     options: &[Numeric],
-) -> Result<Command<'a>, AllocError> {
+) -> Result<Command<'a>, AllocError>
+    ensures shape { IfOk result (λ r. shape_of r ≡ with_more (shape_of command.entry) (map numeric_of options.now)) }
+    ensures local { (fields_of command.entry).has_globals ≡ false → IfOk result (λ r. (fields_of r).has_globals ≡ false) }
+{
     let mut command = command;
     for option in options {
         command = command.arg(option.arg(alloc))?;
@@ -232,119 +232,141 @@ fn with<'a>(
 }
 
 /// The command `step`, with its options.
-fn step<'a>(alloc: Global) -> Result<Command<'a>, AllocError> {
-    let step = Command::new(alloc, "step")
-        .about("Runs a script in one thread and prints the trace")
-        .after_help(STEP_INPUT);
+fn step<'a>(alloc: Global) -> Result<Command<'a>, AllocError>
+    ensures shape { IfOk result (λ r. shape_of r ≡ line.step) }
+    ensures local { IfOk result (λ r. (fields_of r).has_globals ≡ false) }
+{
+    let about = "Runs a script in one thread and prints the trace";
     with(
         alloc,
-        step,
+        bare(alloc, "step", about, STEP_INPUT),
         &[PROCS, MACHINES, CHANNELS, ENTRIES, WORD, ACTS],
     )
 }
 
-/// The command `run`, with its options. What `--entries` may say is another number where the history goes out in segments.
-fn run<'a>(alloc: Global, in_segments: bool) -> Result<Command<'a>, AllocError> {
-    let run = Command::new(alloc, "run")
-        .about("Runs a script by machines in threads and prints the summary")
-        .after_help(RUN_INPUT);
-    let entries = if in_segments {
-        ENTRIES_IN_SEGMENTS
-    } else {
-        ENTRIES_OF_RUN
-    };
-    with(alloc, run, &[PROCS, MACHINES, CHANNELS, entries, RANDOM])?
-        .arg(trace(alloc, "Prints the trace, and not the summary"))?
-        .arg(scripted(alloc)?)?
-        .arg(segments(alloc)?)?
-        .arg(ROOM.arg(alloc).requires_arg("segments")?)
+/// The command `run`, with its options.
+fn run<'a>(alloc: Global) -> Result<Command<'a>, AllocError>
+    ensures shape { IfOk result (λ r. shape_of r ≡ line.run) }
+    ensures local { IfOk result (λ r. (fields_of r).has_globals ≡ false) }
+{
+    let about = "Runs a script by machines in threads and prints the summary";
+    with(
+        alloc,
+        bare(alloc, "run", about, RUN_INPUT),
+        &[PROCS, MACHINES, CHANNELS, ENTRIES_IN_SEGMENTS, RANDOM, ROOM],
+    )?
+    .arg(segments(alloc))?
+    .arg(flag(
+        alloc,
+        "trace",
+        "Prints the trace, and not the summary; not with --segments",
+    ))?
+    .arg(flag(
+        alloc,
+        "scripted",
+        "Audits too that each goroutine asked what its body says, in order; not with --segments",
+    ))
 }
 
 /// The option `--segments`.
-fn segments<'a>(alloc: Global) -> Result<Arg<'a>, AllocError> {
+fn segments<'a>(alloc: Global) -> Arg<'a>
+    ensures rule { rule_of result ≡ folder (codes "segments") }
+    ensures local { result.global ≡ false }
+{
     Arg::new(alloc, "segments")
         .long("segments")
         .value_name("DIR")
         .action(ArgAction::Set)
         .value_parser(ValueParser::NonEmptyString)
         .help("Writes the history into files of this folder, and keeps --room entries of it")
-        .conflicts_with("trace")
 }
 
-/// The flag `--scripted`.
-fn scripted<'a>(alloc: Global) -> Result<Arg<'a>, AllocError> {
-    Arg::new(alloc, "scripted")
-        .long("scripted")
-        .action(ArgAction::SetTrue)
-        .help("Audits too that each goroutine asked what its body says, in order")
-        .conflicts_with("segments")
-}
-
-/// The flag `--trace`, with what `--help` says of it.
-fn trace<'a>(alloc: Global, help: &'static str) -> Arg<'a> {
-    Arg::new(alloc, "trace")
-        .long("trace")
+/// A flag, with what `--help` says of it.
+fn flag<'a>(alloc: Global, id: &'a str, help: &'a str) -> Arg<'a>
+    ensures rule { rule_of result ≡ flag id.now }
+    ensures local { result.global ≡ false }
+{
+    Arg::new(alloc, id)
+        .long(id)
         .action(ArgAction::SetTrue)
         .help(help)
 }
 
 /// The command `check`, which has no options.
-fn check<'a>(alloc: Global) -> Command<'a> {
-    Command::new(alloc, "check")
-        .about("Reads a trace, checks it and prints its summary")
-        .after_help(CHECK_INPUT)
+fn check<'a>(alloc: Global) -> Command<'a>
+    ensures shape { shape_of result ≡ line.check }
+    ensures local { (fields_of result).has_globals ≡ false }
+{
+    bare(
+        alloc,
+        "check",
+        "Reads a trace, checks it and prints its summary",
+        CHECK_INPUT,
+    )
 }
 
 /// The command `join`, which has no options.
-fn join<'a>(alloc: Global) -> Command<'a> {
-    Command::new(alloc, "join")
-        .about("Reads the parts of a run, checks that they are one run and prints how long it is")
-        .after_help(JOIN_INPUT)
+fn join<'a>(alloc: Global) -> Command<'a>
+    ensures shape { shape_of result ≡ line.join }
+    ensures local { (fields_of result).has_globals ≡ false }
+{
+    bare(
+        alloc,
+        "join",
+        "Reads the parts of a run, checks that they are one run and prints how long it is",
+        JOIN_INPUT,
+    )
 }
 
 /// The command `cut`, with its option.
-fn cut<'a>(alloc: Global) -> Result<Command<'a>, AllocError> {
-    let cut = Command::new(alloc, "cut")
-        .about("Reads a trace, checks it and prints the part from an entry on")
-        .after_help(CUT_INPUT);
-    with(alloc, cut, &[AT])
+fn cut<'a>(alloc: Global) -> Result<Command<'a>, AllocError>
+    ensures shape { IfOk result (λ r. shape_of r ≡ line.cut) }
+    ensures local { IfOk result (λ r. (fields_of r).has_globals ≡ false) }
+{
+    let about = "Reads a trace, checks it and prints the part from an entry on";
+    with(alloc, bare(alloc, "cut", about, CUT_INPUT), &[AT])
 }
 
 /// The command `explain`, with its flag.
-fn explain<'a>(alloc: Global) -> Result<Command<'a>, AllocError> {
-    Command::new(alloc, "explain")
-        .about("Reads a trace, checks it and says what it tells of its run")
-        .after_help(EXPLAIN_INPUT)
-        .arg(
-            Arg::new(alloc, "json")
-                .long("json")
-                .action(ArgAction::SetTrue)
-                .help("Prints one JSON object, and not lines"),
-        )
+fn explain<'a>(alloc: Global) -> Result<Command<'a>, AllocError>
+    ensures shape { IfOk result (λ r. shape_of r ≡ line.explain) }
+    ensures local { IfOk result (λ r. (fields_of r).has_globals ≡ false) }
+{
+    let about = "Reads a trace, checks it and says what it tells of its run";
+    bare(alloc, "explain", about, EXPLAIN_INPUT).arg(flag(
+        alloc,
+        "json",
+        "Prints one JSON object, and not lines",
+    ))
 }
 
 /// The command `draw`, with its options.
-fn draw<'a>(alloc: Global) -> Result<Command<'a>, AllocError> {
-    let draw = Command::new(alloc, "draw")
-        .about("Reads a trace, checks it and prints a picture of it")
-        .after_help(DRAW_INPUT);
-    with(alloc, draw, &[FROM, TO])
+fn draw<'a>(alloc: Global) -> Result<Command<'a>, AllocError>
+    ensures shape { IfOk result (λ r. shape_of r ≡ line.draw) }
+    ensures local { IfOk result (λ r. (fields_of r).has_globals ≡ false) }
+{
+    let about = "Reads a trace, checks it and prints a picture of it";
+    with(alloc, bare(alloc, "draw", about, DRAW_INPUT), &[FROM, TO])
 }
 
 /// The command `explore`, with its options.
-fn explore<'a>(alloc: Global) -> Result<Command<'a>, AllocError> {
-    let explore = Command::new(alloc, "explore")
-        .about(
-            "Looks at all runs of a script and prints what goes wrong in one, or that nothing does",
-        )
-        .after_help(EXPLORE_INPUT);
+fn explore<'a>(alloc: Global) -> Result<Command<'a>, AllocError>
+    ensures shape { IfOk result (λ r. shape_of r ≡ line.explore) }
+    ensures local { IfOk result (λ r. (fields_of r).has_globals ≡ false) }
+{
+    let about =
+        "Looks at all runs of a script and prints what goes wrong in one, or that nothing does";
+    let explore = bare(alloc, "explore", about, EXPLORE_INPUT);
     with(alloc, explore, &[PROCS_OF_ALL, CHANNELS, STATES])?
         .arg(wanting::arg(alloc))?
-        .arg(trace(alloc, "Prints a trace of what goes wrong"))
+        .arg(flag(alloc, "trace", "Prints a trace of what goes wrong"))
 }
 
-/// The program with all its commands.
-pub(crate) fn command<'a>(alloc: Global, in_segments: bool) -> Result<Command<'a>, AllocError> {
+/// The program with no commands.
+fn program<'a>(alloc: Global) -> Command<'a>
+    ensures app { app_of result ≡ record gmp { top = record gmp.top { is_leaf = true }; subs = [] } }
+    ensures local { (fields_of result).has_globals ≡ false }
+{
     Command::new(alloc, "gmp")
         .version(VERSION)
         .about(
@@ -352,8 +374,15 @@ pub(crate) fn command<'a>(alloc: Global, in_segments: bool) -> Result<Command<'a
         )
         .after_help(STATUSES)
         .subcommand_required(true)
+}
+
+/// The program with all its commands.
+pub(crate) fn command<'a>(alloc: Global) -> Result<Command<'a>, AllocError>
+    ensures { IfOk result (λ r. app_of r ≡ gmp) }
+{
+    program(alloc)
         .subcommand(step(alloc)?)?
-        .subcommand(run(alloc, in_segments)?)?
+        .subcommand(run(alloc)?)?
         .subcommand(check(alloc))?
         .subcommand(join(alloc))?
         .subcommand(cut(alloc)?)?

@@ -1,13 +1,13 @@
-//! Options that take a number. `clap` says what is wrong with a command line; the numbers are read here, from the words, as `AreSaid` says.
-//! Of the words behind a command, `clap`'s contract gives its own walk over them (`subcommand_of`), and `IsParsed` says nothing: at a line
-//! of any length, no clause says of `gmp step .. --procs N ..` that `get_str("procs")` is N. Nor does its parser refuse `--procs +4`, as
-//! `read` does.
+//! Options that take a number. `clap` finds the text of each and says what is wrong with a command line; the number is read here, from that
+//! text, since `clap`'s parser takes `--procs +4` too.
 
-ghost use Rattle.std.specs.Prelude.{◌≡◌, ℕ, IsSome, ◌≤◌, ◌+◌, string_bytes, length, drop, option_map, Some, None, IfSome, if◌then◌else◌};
-ghost use Rattle.gmp_words.specs.Words.{given, has_value, number_given};
+ghost use Rattle.std.specs.Prelude.{◌≡◌, ◌≤◌, ℕ, IsSome, IfSome, Some, false, option_map};
+ghost use Rattle.clap.specs.Words.{found_of, rows_of, rule_of};
+ghost use Rattle.gmp_words.specs.CommandLine.{numeric_of};
+ghost use Rattle.gmp_words.specs.Words.{given, number_given};
 
 use clap::builder::ValueParser;
-use clap::{Arg, ArgAction, value_parser};
+use clap::{Arg, ArgAction, ArgMatches};
 use gmp_script::number;
 use std::alloc::Global;
 
@@ -16,8 +16,6 @@ use std::alloc::Global;
 pub struct Numeric {
     /// The option without its dashes.
     pub id: &'static str,
-    /// The option as it is written.
-    pub option: &'static str,
     /// What `--help` says of it, with its range and its default.
     pub help: &'static str,
     /// The range, with both ends.
@@ -27,36 +25,31 @@ pub struct Numeric {
     pub default: u64,
 }
 
-/// What `clap` refuses by itself. It knows ranges within an `i64` alone; beyond that `read` is all there is.
-fn parser<'a>(least: u64, most: u64) -> ValueParser<'a> {
-    match (i64::try_from(least), i64::try_from(most)) {
-        (Ok(least), Ok(most)) => value_parser!(u64).range(least..=most),
-        _ => value_parser!(u64),
-    }
-}
-
 impl Numeric {
     /// The option as `clap` has it, with no default: the default is `read`'s.
-    pub fn arg<'a>(&self, alloc: Global) -> Arg<'a> {
+    pub fn arg<'a>(&self, alloc: Global) -> Arg<'a>
+        ensures rule { rule_of result ≡ numeric_of self.now }
+        ensures local { result.global ≡ false }
+    {
         Arg::new(alloc, self.id)
             .long(self.id)
             .action(ArgAction::Set)
-            .value_parser(parser(self.least, self.most))
+            .value_parser(ValueParser::unsigned(self.least, self.most))
             .help(self.help)
     }
 
-    /// The number that the words give, or the default where they don't give the option.
+    /// The number that the option is given, or the default where it is not.
     ///
     /// None where it is out of range, or is not written in digits alone.
-    pub fn read(&self, words: &[String]) -> Option<u64>
+    pub fn read(&self, matches: &ArgMatches) -> Option<u64>
         ensures in_range { IfSome result (λ n. (self.now.least ≤ n) × (n ≤ self.now.most)) }
-        ensures value { IfSome result (λ n. number_given string_bytes words.now self.now.option.now self.now.default ≡ Some n) }
-        ensures succeeds { (n : ℕ) → number_given string_bytes words.now self.now.option.now self.now.default ≡ Some n
+        ensures value { IfSome result (λ n. number_given (rows_of (found_of matches.now)) self.now.id.now self.now.default ≡ Some n) }
+        ensures succeeds { (n : ℕ) → number_given (rows_of (found_of matches.now)) self.now.id.now self.now.default ≡ Some n
             → self.now.least ≤ n → n ≤ self.now.most → IsSome result }
     {
-        let n = match given(self.option.as_bytes(), words) {
+        let n = match given(matches, self.id) {
             None => self.default,
-            Some(digits) => number(digits)?,
+            Some(digits) => number(digits.as_bytes())?,
         };
         if self.least <= n && n <= self.most {
             Some(n)
@@ -66,28 +59,9 @@ impl Numeric {
     }
 }
 
-/// What stands behind the option and its `=`, if the word is so.
-fn value_in<'a>(option: &[u8], word: &'a [u8]) -> Option<&'a [u8]>
-    ensures { option_map (λ value. value.now) result ≡ (if has_value option.now word.now then Some (drop (length option.now + 1) word.now) else None) }
+/// The text that an option is given.
+pub fn given<'a>(matches: &ArgMatches<'a>, option: &str) -> Option<&'a str>
+    ensures { option_map (λ text. text.now) result ≡ given (rows_of (found_of matches.now)) option.now }
 {
-    match word.strip_prefix(option)? {
-        [b'=', value @ ..] => Some(value),
-        _ => None,
-    }
-}
-
-/// The text that the words give an option, as its value or behind its `=`. The first counts; a second one `clap` has refused.
-pub fn given<'a>(option: &[u8], words: &'a [String]) -> Option<&'a [u8]>
-    ensures { option_map (λ value. value.now) result ≡ given string_bytes words.now option.now }
-{
-    for (i, word) in words.iter().enumerate() {
-        if word.as_bytes() == option {
-            let next = words.get(i + 1)?;
-            return Some(next.as_bytes());
-        }
-        if let Some(value) = value_in(option, word.as_bytes()) {
-            return Some(value);
-        }
-    }
-    None
+    matches.get_str(option)
 }

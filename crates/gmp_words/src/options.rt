@@ -63,7 +63,7 @@ pub struct Settings {
     pub channels: u16,
     /// The most entries that a history may have: 16 to 1,000,000. Of a run in segments, those say it.
     pub entries: u32,
-    /// The segments of a run whose history is not kept whole. Which folder they go to, `folder` says.
+    /// The segments of a run whose history is not kept whole. `CommandLine` says which folder they go to.
     pub segments: Option<Segments>,
     /// The word that every choice draws.
     pub word: u64,
@@ -93,6 +93,14 @@ pub struct Settings {
     pub ghost entries_in_range: { (16 ≤ entries) × (entries ≤ 1000000) },
     pub ghost acts_in_range: { (1 ≤ acts) × (acts ≤ 1000000000) },
     pub ghost states_in_range: { (1 ≤ states) × (states ≤ 100000000) },
+}
+
+/// What the command line says.
+#[derive(Clone, Copy, Debug)]
+pub struct CommandLine<'a> {
+    pub settings: Settings,
+    /// The folder that a run in segments writes into.
+    pub folder: Option<&'a str>,
 }
 
 impl Settings {

@@ -1,14 +1,15 @@
 //! The option `--want`: names of what no run of a script is to do, parted by commas.
 
-ghost use Rattle.std.specs.Prelude.{◌≡◌, ◌==◌, string_bytes, IfSome};
+ghost use Rattle.std.specs.Prelude.{◌≡◌, ◌==◌, IfSome, codes, false};
 ghost use Rattle.std.specs.List.{list_all, list_any, slice_split};
 ghost use Rattle.std.specs.Str.{bytes_eq};
+ghost use Rattle.clap.specs.Words.{found_of, rows_of, rule_of};
+ghost use Rattle.gmp_words.specs.CommandLine.{option};
 ghost use Rattle.gmp_words.specs.Words.{AreWanted, is_name};
 
 use crate::numeric::given;
 use crate::options::Wanted;
-use clap::builder::ValueParser;
-use clap::{Arg, ArgAction};
+use clap::{Arg, ArgAction, ArgMatches};
 use std::alloc::Global;
 
 // What can be wanted. The first is where the option is not given.
@@ -18,17 +19,17 @@ const NO_FAULT: &[u8] = b"no-fault";
 
 const NO_LEAK: &[u8] = b"no-leak";
 
-/// The same for `clap`.
-const NAMES: &[&str] = &["no-deadlock", "no-fault", "no-leak"];
-
-/// The option as `clap` has it.
-pub fn arg<'a>(alloc: Global) -> Arg<'a> {
+/// The option as `clap` has it, which takes any text: the names are parted and judged here.
+pub fn arg<'a>(alloc: Global) -> Arg<'a>
+    ensures rule { rule_of result ≡ option (codes "want") }
+    ensures local { result.global ≡ false }
+{
     Arg::new(alloc, "want")
         .long("want")
         .action(ArgAction::Set)
-        .value_delimiter(',')
-        .value_parser(ValueParser::Names(NAMES))
-        .help("What no run is to have, parted by commas [default: no-deadlock]")
+        .help(
+            "What no run is to have, parted by commas: no-deadlock, no-fault, no-leak [default: no-deadlock]",
+        )
 }
 
 /// Whether the text is a name of what can be wanted.
@@ -52,13 +53,16 @@ fn has(list: &[u8], name: &[u8]) -> bool
     list.split(|byte| *byte == b',').any(|one| one == name)
 }
 
-/// What the words want.
+/// What the option names.
 ///
 /// None where something is no name of what can be wanted.
-pub fn wanted(words: &[String]) -> Option<Wanted>
-    ensures { IfSome result (AreWanted string_bytes words.now) }
+pub fn wanted(matches: &ArgMatches) -> Option<Wanted>
+    ensures { IfSome result (AreWanted (rows_of (found_of matches.now))) }
 {
-    let list = given(b"--want", words).unwrap_or(NO_DEADLOCK);
+    let list = match given(matches, "want") {
+        Some(names) => names.as_bytes(),
+        None => NO_DEADLOCK,
+    };
     if !are_names(list) {
         return None;
     }

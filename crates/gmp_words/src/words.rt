@@ -1,10 +1,10 @@
-//! Reads the words of the command line. `clap` reads it first and says what is wrong; then the numbers are read anew by `Numeric`.
+//! Reads the words of the command line. `clap` parses it and finds each option's text; the numbers and names in those texts are judged here.
 
-ghost use Rattle.std.specs.Prelude.{◌≡◌, ◌≢◌, ◌≤◌, ◌⊎◌, ℕ, List, codes, string_bytes, true, Some, IsSome, IfOk, IfErr, IfSome};
-ghost use Rattle.std.specs.Str.{IsUtf8};
+ghost use Rattle.std.specs.Prelude.{◌≡◌, ◌≢◌, ◌≤◌, ◌⊎◌, [], codes, map, string_bytes, true, Some, IfOk, IfErr, IfSome};
 ghost use Rattle.gmp_words.specs.Said.{is_of_words};
-ghost use Rattle.gmp_words.specs.Words.{AreEntries, AreSaid, AreWanted, behind, given, go_together, is_given, is_named, names_folder, number_given};
-ghost use Rattle.clap.specs.Values.{kind_of};
+ghost use Rattle.gmp_words.specs.CommandLine.{gmp};
+ghost use Rattle.gmp_words.specs.Words.{AreEntries, AreGiven, AreSaid, AreWanted, entered, go_together, is_given, name_of, names_folder, number_given};
+ghost use Rattle.clap.specs.Words.{fault_of, found_of, kind_of, rows_of, subcommand_rows_of};
 
 use crate::commands::{
     ACTS, AT, CHANNELS, ENTRIES, ENTRIES_IN_SEGMENTS, FROM, MACHINES, PROCS, RANDOM, ROOM, STATES,
@@ -12,11 +12,11 @@ use crate::commands::{
 };
 use crate::ended::Ended;
 use crate::numeric::given;
-use crate::options::{Segments, Settings, Task, Wanted};
+use crate::options::{CommandLine, Segments, Settings, Task, Wanted};
 use crate::said::Said;
 use crate::wanting;
-use clap::Command;
 use clap::error::ErrorKind;
+use clap::{ArgMatches, Command};
 use std::alloc::Global;
 
 /// What a refusal by `clap` ends with: its own text, and for help or the version that was asked for status 0.
@@ -36,11 +36,11 @@ fn refused(alloc: Global, error: &clap::Error) -> Ended
     }
 }
 
-/// The task that the words name.
-fn task(words: &[String]) -> Option<Task>
-    ensures { IfSome result (λ task. is_named string_bytes words.now task ≡ true) }
+/// The task of a command.
+fn task(name: &str) -> Option<Task>
+    ensures { IfSome result (λ task. name.now ≡ name_of task) }
 {
-    match words.get(1)?.as_bytes() {
+    match name.as_bytes() {
         b"step" => Some(Task::Step),
         b"run" => Some(Task::Run),
         b"check" => Some(Task::Check),
@@ -53,21 +53,14 @@ fn task(words: &[String]) -> Option<Task>
     }
 }
 
-/// The words behind the program's name and the command.
-fn behind(words: &[String]) -> &[String]
-    ensures { result.now ≡ behind words.now }
+/// Whether the flag is given.
+fn is_given(options: &ArgMatches, flag: &str) -> bool
+    ensures { result ≡ is_given (rows_of (found_of options.now)) flag.now }
 {
-    match words {
-        [_program, _command, options @ ..] => options,
-        _ => &[],
+    match given(options, flag) {
+        Some(text) => text == "true",
+        None => false,
     }
-}
-
-/// Whether the flag is among the words.
-fn is_given(words: &[String], flag: &[u8]) -> bool
-    ensures { result ≡ is_given string_bytes words.now flag.now }
-{
-    words.iter().any(|word| word.as_bytes() == flag)
 }
 
 /// What the options say to a command that reads a trace.
@@ -82,35 +75,35 @@ struct OfTrace {
 /// What the options say to a command that reads a trace.
 ///
 /// None where a number is not written in digits alone, or is too great.
-fn of_trace(options: &[String]) -> Option<OfTrace>
-    ensures at { IfSome result (λ x. number_given string_bytes options.now (codes "--at") 0 ≡ Some x.at) }
-    ensures json { IfSome result (λ x. x.json ≡ is_given string_bytes options.now (codes "--json")) }
-    ensures from { IfSome result (λ x. number_given string_bytes options.now (codes "--from") 0 ≡ Some x.from) }
-    ensures to { IfSome result (λ x. number_given string_bytes options.now (codes "--to") 18446744073709551615 ≡ Some x.to) }
+fn of_trace(options: &ArgMatches) -> Option<OfTrace>
+    ensures at { IfSome result (λ x. number_given (rows_of (found_of options.now)) (codes "at") 0 ≡ Some x.at) }
+    ensures json { IfSome result (λ x. x.json ≡ is_given (rows_of (found_of options.now)) (codes "json")) }
+    ensures from { IfSome result (λ x. number_given (rows_of (found_of options.now)) (codes "from") 0 ≡ Some x.from) }
+    ensures to { IfSome result (λ x. number_given (rows_of (found_of options.now)) (codes "to") 18446744073709551615 ≡ Some x.to) }
 {
     Some(OfTrace {
         at: AT.read(options)?,
-        json: is_given(options, b"--json"),
+        json: is_given(options, "json"),
         from: FROM.read(options)?,
         to: TO.read(options)?,
     })
 }
 
-/// Whether the words name a folder for the segments of the history.
-fn names_folder(options: &[String]) -> bool
-    ensures { result ≡ names_folder string_bytes options.now }
+/// Whether a folder is named for the segments of the history.
+fn names_folder(options: &ArgMatches) -> bool
+    ensures { result ≡ names_folder (rows_of (found_of options.now)) }
 {
-    given(b"--segments", options).is_some()
+    given(options, "segments").is_some()
 }
 
-/// Whether no option is among the words that another one excludes, or that wants another one.
-fn go_together(options: &[String]) -> bool
-    ensures { result ≡ go_together string_bytes options.now }
+/// Whether no option is given that another one excludes, or that wants another one.
+fn go_together(options: &ArgMatches) -> bool
+    ensures { result ≡ go_together (rows_of (found_of options.now)) }
 {
     if names_folder(options) {
-        !is_given(options, b"--trace") && !is_given(options, b"--scripted")
+        !is_given(options, "trace") && !is_given(options, "scripted")
     } else {
-        given(b"--room", options).is_none()
+        given(options, "room").is_none()
     }
 }
 
@@ -124,8 +117,8 @@ struct Length {
 /// What the options say of a run's length.
 ///
 /// None where a number is out of range, or is not written in digits alone.
-fn length_of(options: &[String]) -> Option<Length>
-    ensures said { IfSome result (λ x. AreEntries string_bytes options.now x.entries x.segments) }
+fn length_of(options: &ArgMatches) -> Option<Length>
+    ensures said { IfSome result (λ x. AreEntries (rows_of (found_of options.now)) x.entries x.segments) }
     ensures in_range { IfSome result (λ x. (16 ≤ x.entries) × (x.entries ≤ 1000000)) }
 {
     if !names_folder(options) {
@@ -142,32 +135,21 @@ fn length_of(options: &[String]) -> Option<Length>
     })
 }
 
-/// The folder that a run in segments writes into.
-///
-/// None where the words name none, or its name isn't UTF-8.
-pub fn folder(words: &[String]) -> Option<&str>
-    ensures value { IfSome result (λ text. given string_bytes (behind words.now) (codes "--segments") ≡ Some text.now) }
-    ensures succeeds { (text : List ℕ) → given string_bytes (behind words.now) (codes "--segments") ≡ Some text → IsUtf8 text → IsSome result }
-{
-    str::from_utf8(given(b"--segments", behind(words))?).ok()
-}
-
-/// What the words say for this task.
+/// What the options say for this task.
 ///
 /// None where a number is out of range, or is not written in digits alone.
-fn settings_of(task: Task, wanted: Wanted, words: &[String]) -> Option<Settings>
-    requires task { is_named string_bytes words.now task ≡ true }
-    requires wanted { AreWanted string_bytes (behind words.now) wanted }
-    requires together { go_together string_bytes (behind words.now) ≡ true }
-    ensures { IfSome result (AreSaid string_bytes words.now) }
+fn settings_of(task: Task, wanted: Wanted, options: &ArgMatches) -> Option<Settings>
+    requires wanted { AreWanted (rows_of (found_of options.now)) wanted }
+    requires together { go_together (rows_of (found_of options.now)) ≡ true }
+    ensures task { IfSome result (λ s. s.task ≡ task) }
+    ensures given { IfSome result (AreGiven (rows_of (found_of options.now))) }
 {
-    let options = behind(words);
     let of_trace = of_trace(options)?;
     let length = length_of(options)?;
     Some(Settings {
         task,
         procs: PROCS.read(options)? as u8,
-        has_procs: given(b"--procs", options).is_some(),
+        has_procs: given(options, "procs").is_some(),
         machines: MACHINES.read(options)? as u8,
         channels: CHANNELS.read(options)? as u16,
         entries: length.entries,
@@ -175,8 +157,8 @@ fn settings_of(task: Task, wanted: Wanted, words: &[String]) -> Option<Settings>
         word: WORD.read(options)?,
         acts: ACTS.read(options)? as u32,
         random: RANDOM.read(options)?,
-        trace: is_given(options, b"--trace"),
-        scripted: is_given(options, b"--scripted"),
+        trace: is_given(options, "trace"),
+        scripted: is_given(options, "scripted"),
         at: of_trace.at,
         json: of_trace.json,
         from: of_trace.from,
@@ -186,41 +168,73 @@ fn settings_of(task: Task, wanted: Wanted, words: &[String]) -> Option<Settings>
     })
 }
 
+/// Why a line is refused that `clap` takes.
+#[derive(Clone, Copy)]
+struct Refusal {
+    kind: ErrorKind,
+    text: &'static str,
+}
+
+const NO_COMMAND: Refusal = Refusal {
+    kind: ErrorKind::InvalidSubcommand,
+    text: "there is no such command",
+};
+
+const NO_NAME: Refusal = Refusal {
+    kind: ErrorKind::InvalidValue,
+    text: "--want takes no-deadlock, no-fault and no-leak, parted by commas",
+};
+
+const APART: Refusal = Refusal {
+    kind: ErrorKind::ArgumentConflict,
+    text: "--room goes with --segments, and --trace and --scripted do not",
+};
+
+const NO_NUMBER: Refusal = Refusal {
+    kind: ErrorKind::InvalidValue,
+    text: "a number is written in digits alone, and without --segments --entries goes to 1000000",
+};
+
+/// What the matches say.
+fn line_of<'a>(matches: &ArgMatches<'a>) -> Result<CommandLine<'a>, Refusal>
+    ensures { IfOk result (AreSaid (subcommand_rows_of matches.now)) }
+{
+    let Some((name, options)) = matches.subcommand() else {
+        return Err(NO_COMMAND);
+    };
+    let task = task(name).ok_or(NO_COMMAND)?;
+    let wanted = wanting::wanted(options).ok_or(NO_NAME)?;
+    if !go_together(options) {
+        return Err(APART);
+    }
+    let settings = settings_of(task, wanted, options).ok_or(NO_NUMBER)?;
+    Ok(CommandLine {
+        settings,
+        folder: given(options, "segments"),
+    })
+}
+
 /// What the command line says, the program's name first.
 ///
 /// A line that `clap` refuses ends with status 64 and its text, help or the version that was asked for with 0.
-pub fn settings<'a>(alloc: Global, words: &'a [String]) -> Result<Settings, Ended>
-    ensures ok { IfOk result (AreSaid string_bytes words.now) }
+pub fn command_line<'a>(alloc: Global, words: &'a [String]) -> Result<CommandLine<'a>, Ended>
+    ensures ok { IfOk result (AreSaid (entered (map string_bytes words.now))) }
+
+    // Each word is known, each option has its value, in its range, and none comes twice.
+    ensures taken { IfOk result (λ _. fault_of gmp (map string_bytes words.now) ≡ []) }
+
     ensures err { IfErr result (λ e. is_of_words e.said ≡ true) }
 {
-    let mut command: Command<'a> = command(alloc, names_folder(behind(words)))?;
-    if let Err(error) = command.try_get_matches_from_mut(words) {
-        return Err(refused(alloc, &error));
+    let mut command: Command<'a> = command(alloc)?;
+    let matches = match command.try_get_matches_from_mut(words) {
+        Ok(matches) => matches,
+        Err(error) => return Err(refused(alloc, &error)),
+    };
+    match line_of(&matches) {
+        Ok(line) => Ok(line),
+        Err(refusal) => {
+            let error = command.error(refusal.kind, refusal.text)?;
+            Err(refused(alloc, &error))
+        }
     }
-    // `clap` asks for a command, so this is for words that it takes and `task` doesn't know.
-    let Some(task) = task(words) else {
-        let error = command.error(ErrorKind::InvalidSubcommand, "there is no such command")?;
-        return Err(refused(alloc, &error));
-    };
-    // So is this, for names that it takes and `wanted` doesn't know.
-    let Some(wanted) = wanting::wanted(behind(words)) else {
-        let error = command.error(ErrorKind::InvalidValue, "nothing of this name is wanted")?;
-        return Err(refused(alloc, &error));
-    };
-    // And this, for options that it takes together.
-    if !go_together(behind(words)) {
-        let error = command.error(
-            ErrorKind::ArgumentConflict,
-            "--room goes with --segments, and --trace and --scripted do not",
-        )?;
-        return Err(refused(alloc, &error));
-    }
-    let Some(settings) = settings_of(task, wanted, words) else {
-        let error = command.error(
-            ErrorKind::InvalidValue,
-            "a number is written in digits alone",
-        )?;
-        return Err(refused(alloc, &error));
-    };
-    Ok(settings)
 }

@@ -1,6 +1,6 @@
 //! The command line, the input, and how the program ends. `Pieces` is a reader that is interrupted before each piece.
 use gmp_trace::{Bad, Why};
-use gmp_words::{Ended, Said, Settings, Untraced, folder, input, settings};
+use gmp_words::{Ended, Said, Settings, Untraced, command_line, input};
 use std::alloc::{AllocError, Global};
 use std::io;
 use std::io::{ErrorKind, Read};
@@ -18,7 +18,8 @@ fn words_of(alloc: Global, line: &str) -> Result<Vec<String>, Fail> {
 
 /// What they say.
 fn read(alloc: Global, line: &str) -> Result<Result<Settings, Ended>, Fail> {
-    Ok(settings(alloc, &words_of(alloc, line)?))
+    let words = words_of(alloc, line)?;
+    Ok(command_line(alloc, &words).map(|line| line.settings))
 }
 
 /// The same of a line that is right.
@@ -98,11 +99,14 @@ fn segments_are_read(rt: HostRuntime) -> Result<(), Fail> {
             Some("é"),
         ),
     ] {
-        let s = settings_of(&rt, rt.alloc(), line)?;
-        let got = s.segments.map(|x| (x.entries, x.room));
-        assert_eq!(rt; got, want, "{line}");
         let words = words_of(rt.alloc(), line)?;
-        assert_eq!(rt; folder(&words), name, "{line}");
+        match command_line(rt.alloc(), &words) {
+            Ok(said) => {
+                let got = said.settings.segments.map(|x| (x.entries, x.room));
+                assert_eq!(rt; (got, said.folder), (want, name), "{line}");
+            }
+            Err(e) => panic!(rt; "{line}: {e:?}"),
+        }
     }
     Ok(())
 }
@@ -129,6 +133,7 @@ fn bad_lines_are_refused(rt: HostRuntime) -> Result<(), Fail> {
         ("gmp step --procs 1 --procs 1", 64),
         ("gmp step --procs +1", 64),
         ("gmp step --procs", 64),
+        ("gmp step --procs=", 64),
         ("gmp step --word=18446744073709551616", 64),
         ("gmp step --words 1", 64),
         ("gmp step extra", 64),
@@ -168,6 +173,7 @@ fn bad_lines_are_refused(rt: HostRuntime) -> Result<(), Fail> {
         ("gmp explore --states 100000001", 64),
         ("gmp explore --procs 0", 64),
         ("gmp explore --want", 64),
+        ("gmp explore --want=", 64),
         ("gmp explore --want no-race", 64),
         ("gmp explore --want no-fault,,no-leak", 64),
         ("gmp explore --want no-fault --want no-leak", 64),

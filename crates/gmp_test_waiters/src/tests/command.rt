@@ -10,7 +10,7 @@ use gmp_parts::Together;
 use gmp_run::{Open, Report};
 use gmp_run_cli::{run, run_in_segments, told};
 use gmp_seq::Limits;
-use gmp_words::{Ended, Said, Settings, script, settings};
+use gmp_words::{Ended, Said, Settings, command_line, script};
 use gmp_worker::{Boxed, Mismatch, PassLog, audit};
 use std::alloc::Global;
 use std::process::Abort;
@@ -102,7 +102,8 @@ pub(super) fn settings_of(alloc: Global, line: &str) -> Result<Settings, Fail> {
     for word in line.split(' ') {
         words.push(String::from_str(alloc, word)?)?;
     }
-    Ok(settings(alloc, &words).ok().ok_or("the command line")?)
+    let line = command_line(alloc, &words).ok().ok_or("the command line")?;
+    Ok(line.settings)
 }
 
 /// The text with a line feed for each `/`.

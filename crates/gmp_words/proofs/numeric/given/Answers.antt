@@ -1,9 +1,7 @@
-use Rattle.std.proofs.Common.{arith}
-use Rattle.std.proofs.lemmas.Grind.{common_steps}
+use Rattle.std.proofs.Common.{◌∙◌}
+use Rattle.clap.specs.Words.{found_of}
+use Rattle.clap.proofs.WalkLemmas.{first_value-rows}
 use Rattle.gmp_words.proofs.numeric.given.Goals as goal
 
-pub loop-i-preserved : goal.loop-i-preserved
-loop-i-preserved c = grind (arith, common_steps)
-
 pub returns : goal.returns
-returns c = grind (arith, common_steps)
+returns c = c.get_str.ensures ∙ first_value-rows (found_of c.args.matches.now) c.args.option.now
