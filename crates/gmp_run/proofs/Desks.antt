@@ -1,8 +1,9 @@
 -- What a desk keeps it keeps by each turn, and where its history is handed out.
-use Rattle.std.specs.Prelude.{◌||◌, is_some}
+use Rattle.std.specs.Prelude.{◌||◌, is_none, is_some}
 use Rattle.std.proofs.Common.{◌≡◌, ◌⊎◌, inl, inr, ℕ, zero, suc, ◌+◌, ◌<◌, ◌≤◌, Bool, true, false, Option, None, Some, IsSome, All, List, [], ◌∷◌, ◌++◌, length, slice_get, slice_index, slice_set, sum, refl, sym, ap, subst, ◌∙◌, arith}
 use Rattle.std.proofs.lemmas.Bool.{eqb-true, false≢true, not-false}
-use Rattle.std.proofs.lemmas.List.Elements.{All-nil}
+use Rattle.std.proofs.lemmas.Bool.Decides.{nat_tests}
+use Rattle.std.proofs.lemmas.List.Elements.{All-nil, All-push}
 use Rattle.std.proofs.lemmas.List.{append_assoc, append-nil, length-append}
 use Rattle.std.proofs.lemmas.List.Sums.{sum_by-cons}
 use Rattle.gmp_base.specs.declared.pass.Pass.{Pass}
@@ -12,7 +13,7 @@ use Rattle.gmp_seq.specs.declared.call.Entry.{Entry}
 use Rattle.gmp_seq.specs.declared.call.Limits.{Limits}
 use Rattle.gmp_seq.specs.declared.call.Outcome.{Outcome}
 use Rattle.gmp_seq.specs.declared.call.Reply.{Reply}
-use Rattle.gmp_seq.specs.Fits.{Fits}
+use Rattle.gmp_seq.specs.Fits.{AreLimits, Fits}
 use Rattle.gmp_seq.specs.Run.{IsLegal, Run}
 use Rattle.gmp_seq.specs.State.{State, opening}
 use Rattle.gmp_seq.proofs.Counts.{legal_total, none_yet}
@@ -21,7 +22,7 @@ use Rattle.gmp_journal.specs.Log.{Log, Records, calls_of, entries_made, is_over,
 use Rattle.gmp_journal.specs.Refusals.{need_lines, refusal_of, room_lines, turn_lines}
 use Rattle.gmp_journal.specs.declared.handed.Handed.{Handed}
 use Rattle.gmp_journal.proofs.Lines.{none_holds}
-use Rattle.gmp_run.specs.Desks.{IsDesk, TakesAll, joined}
+use Rattle.gmp_run.specs.Desks.{IsDesk, IsLeftSo, IsPiece, TakesAll, joined, with_left}
 
 -- entries that stand in one of two places
 pub none_of_length : (xs : List Entry) → length xs ≡ 0 → xs ≡ []
@@ -32,12 +33,18 @@ pub all_in_first : (xs ys : List Entry) → (length xs ≡ 0 → ⊥) → (xs �
 all_in_first xs ys some (inl none) = absurd (some (ap (λ (l : List Entry). length l) none))
 all_in_first xs ys some (inr none) = sym (ap (λ (l : List Entry). xs ++ l) none ∙ append-nil xs)
 
--- one that isn't over wasn't stopped
-pub not_over : (log : Log) → is_over log ≡ false → log.stopped ≡ false
+-- one that isn't over has no outcome, and wasn't stopped
+pub not_over : (log : Log) → is_over log ≡ false → (log.state.outcome ≡ None) × (log.stopped ≡ false)
 not_over log e = by log.state.outcome e where
-  by : (o : Option Outcome) → (is_some o || log.stopped) ≡ false → log.stopped ≡ false
-  by None e = e
+  by : (o : Option Outcome) → (is_some o || log.stopped) ≡ false → (o ≡ None) × (log.stopped ≡ false)
+  by None e = (refl, e)
   by (Some how) e = absurd (false≢true (sym e))
+
+-- one that is over was stopped where it has no outcome
+stopped_so : (o : Option Outcome) (stopped : Bool) → (is_some o || stopped) ≡ true → (stopped ≡ true → o ≡ None) → stopped ≡ is_none o
+stopped_so None stopped over none = over
+stopped_so (Some how) false over none = refl
+stopped_so (Some how) true over none = absurd (let none : Some how ≡ None = none refl in cc)
 
 -- one piece more
 pub takes_one_more : {S : Type 0} (takes : S → List Entry → S → Type 0) (a b c : S) (pieces : List (List Entry)) (piece : List Entry) → TakesAll takes a pieces b → takes b piece c
@@ -58,6 +65,30 @@ place_counted (x ∷ xs) (suc m) k more =
     let new = sum_by-cons (λ (n : ℕ). n) x (slice_set xs m k) in
     place_counted xs m k (omega (arith, old, new, more))
 
+-- with what was left, if there was anything
+pub joined_with_left : (pieces : List (List Entry)) (left : List Entry) → joined (with_left pieces left) ≡ joined pieces ++ left
+joined_with_left pieces [] = sym (append-nil (joined pieces))
+joined_with_left pieces (e ∷ left) = joined_one_more pieces (e ∷ left)
+
+pub sized_with_left : (limits : Limits) (pieces : List (List Entry)) (left : List Entry) → All (IsPiece limits) pieces → length left ≤ limits.room → All (IsPiece limits) (with_left pieces left)
+sized_with_left limits pieces [] sized few = sized
+sized_with_left limits pieces (e ∷ left) sized few = All-push (IsPiece limits) pieces (e ∷ left) sized ((λ none. absurd (omega (arith, ap (λ (h : List Entry). length h) none))), few)
+
+-- a full history is a piece
+piece_of : {limits : Limits} {bodies : ℕ} {capacities : List ℕ} {h : List Entry} → AreLimits limits bodies capacities → length h ≡ limits.room → IsPiece limits h
+piece_of {limits} {bodies} {capacities} {h} within full =
+    let room = within.room.0 in ((λ none. absurd (let empty = ap (λ (k : List Entry). length k) none in omega (arith, empty, full, room))), omega (arith, full))
+
+-- an entry more has room
+more_room : (old now : Log) (before after : Pass) (call : Call) (reply : Reply) (values : Handed) → refusal_of old before call values ≡ None → Records old before call reply now after
+    → length now.history ≤ old.limits.room
+more_room old now before after call reply values none made =
+    let lines = none_holds (turn_lines old before values ++ need_lines old.state before.m call values ++ room_lines old) none in
+    let test = lines.1.1.1.1.1.1.1.1.0 in
+    let less : length old.history < old.limits.room = grind (arith, nat_tests, test) in
+    let long = ap (λ (h : List Entry). length h) made.entry ∙ length-append old.history _ in
+    omega (arith, less, long)
+
 -- the entry's number is how many its machine made before
 numbered : (old now : Log) (before after : Pass) (call : Call) (reply : Reply) (values : Handed) → refusal_of old before call values ≡ None → Records old before call reply now after
     → slice_get old.state.counts before.m.0 ≡ Some before.calls
@@ -67,20 +98,25 @@ numbered old now before after call reply values none made =
     let counts = made.step.2 in
     place_counted old.state.counts before.m.0 _ (sym (ap (λ (l : List ℕ). sum l) counts) ∙ made.made) ∙ ap (λ (k : ℕ). Some k) (sym turn)
 
-module _ {S : Type 0} (run : ℕ) (first : S → Type 0) (takes : S → List Entry → S → Type 0) (old now : Log) (total total' : ℕ) (sink : S) (spare : HistoryContents)
-    (desk : IsDesk run first takes old total sink spare) where
+module _ {S : Type 0} (run : ℕ) (first : S → Type 0) (takes refuses : S → List Entry → S → Type 0) (old now : Log) (total total' : ℕ) (sink : S) (spare : HistoryContents)
+    (desk : IsDesk run first takes refuses old total sink spare) where
   -- no entry was made
-  pub unchanged : now ≡ old → entries_made now ≡ total' → IsDesk run first takes now total' sink spare
+  pub unchanged : now ≡ old → entries_made now ≡ total' → IsDesk run first takes refuses now total' sink spare
   unchanged same counted = record {
     run_is = ap (λ (l : Log). l.run) same ∙ desk.run_is;
     counted = counted;
     began = desk.began;
     is_first = desk.is_first;
     pieces = desk.pieces;
+    behind = desk.behind;
     taken = desk.taken;
+    left_so = subst (λ (l : Log). IsLeftSo refuses l.stopped desk.behind spare.list sink) (sym same) desk.left_so;
+    sized = subst (λ (l : Log). All (IsPiece l.limits) desk.pieces) (sym same) desk.sized;
+    few = subst (λ (l : Log). length (spare.list ++ l.history) ≤ l.limits.room) (sym same) desk.few;
     legal = subst (λ (l : Log). IsLegal l.limits l.bodies l.capacities (joined desk.pieces ++ (spare.list ++ l.history)) l.state) (sym same) desk.legal;
     whole = subst (λ (l : Log). l.limits.room ≡ l.limits.entries → desk.pieces ≡ []) (sym same) desk.whole;
     lasts = subst (λ (l : Log). l.limits.room ≡ l.limits.entries → l.stopped ≡ false) (sym same) desk.lasts;
+    no_outcome = subst (λ (l : Log). l.stopped ≡ true → l.state.outcome ≡ None) (sym same) desk.no_outcome;
     none_left = subst (λ (l : Log). l.stopped ≡ true → l.history ≡ []) (sym same) desk.none_left;
     empty = subst (λ (l : Log). l.stopped ≡ false → spare.list ≡ []) (sym same) desk.empty;
     room = subst (λ (l : Log). l.stopped ≡ false → l.limits.room ≤ spare.room) (sym same) desk.room;
@@ -90,9 +126,10 @@ module _ {S : Type 0} (run : ℕ) (first : S → Type 0) (takes : S → List Ent
 
   -- an entry more was made
   pub recorded : (before after : Pass) (call : Call) (reply : Reply) (values : Handed) → refusal_of old before call values ≡ None → Records old before call reply now after → entries_made now ≡ total'
-      → IsDesk run first takes now total' sink spare
+      → IsDesk run first takes refuses now total' sink spare
   recorded before after call reply values none made counted =
       let number = numbered old now before after call reply values none made in
+      let room = more_room old now before after call reply values none made in
       let e : Entry = record { m = before.m; k = before.calls; call = call; reply = reply } in
       let same : now ≡ record old { history = now.history; state = now.state; shelf = now.shelf } = made.opened in
       let limits : now.limits ≡ old.limits = ap (λ (l : Log). l.limits) same in
@@ -118,10 +155,17 @@ module _ {S : Type 0} (run : ℕ) (first : S → Type 0) (takes : S → List Ent
         began = desk.began;
         is_first = desk.is_first;
         pieces = desk.pieces;
+        behind = desk.behind;
         taken = desk.taken;
+        left_so = subst (λ (b : Bool). IsLeftSo refuses b desk.behind spare.list sink) (made.lasts ∙ sym on) desk.left_so;
+        sized = subst (λ (l : Limits). All (IsPiece l) desk.pieces) (sym limits) desk.sized;
+        few =
+            subst (λ (l : Limits). length (spare.list ++ now.history) ≤ l.room) (sym limits)
+            (subst (λ (h : List Entry). length (h ++ now.history) ≤ old.limits.room) (sym empty) room);
         legal = subst (λ (l : Limits). IsLegal l now.bodies now.capacities (joined desk.pieces ++ (spare.list ++ now.history)) now.state) (sym limits) legal_by_bodies;
         whole = subst (λ (l : Limits). l.room ≡ l.entries → desk.pieces ≡ []) (sym limits) desk.whole;
         lasts = λ e. on;
+        no_outcome = λ stopped. absurd (false≢true (sym on ∙ stopped));
         none_left = λ stopped. absurd (false≢true (sym on ∙ stopped));
         empty = λ e. empty;
         room = λ e. subst (λ (l : Limits). l.room ≤ spare.room) (sym limits) (desk.room made.lasts);
@@ -130,8 +174,8 @@ module _ {S : Type 0} (run : ℕ) (first : S → Type 0) (takes : S → List Ent
       }
 
 -- the history was handed out while the run goes on, and the sink took it
-module _ {S : Type 0} (run : ℕ) (first : S → Type 0) (takes : S → List Entry → S → Type 0) (old : Log) (total : ℕ) (sink : S) (spare : HistoryContents)
-    (desk : IsDesk run first takes old total sink spare) where
+module _ {S : Type 0} (run : ℕ) (first : S → Type 0) (takes refuses : S → List Entry → S → Type 0) (old : Log) (total : ℕ) (sink : S) (spare : HistoryContents)
+    (desk : IsDesk run first takes refuses old total sink spare) where
   -- the history is no longer than the entries made
   made_at_least : length old.history ≤ entries_made old
   made_at_least =
@@ -144,21 +188,32 @@ module _ {S : Type 0} (run : ℕ) (first : S → Type 0) (takes : S → List Ent
   legal_on : old.stopped ≡ false → IsLegal old.limits old.bodies old.capacities (joined desk.pieces ++ old.history) old.state
   legal_on on = subst (λ (h : List Entry). IsLegal old.limits old.bodies old.capacities (joined desk.pieces ++ (h ++ old.history)) old.state) (desk.empty on) desk.legal
 
-  pub handed_out : (now : Log) (sink' : S) (spare' : HistoryContents) → now ≡ record old { history = [] } → takes sink old.history sink' → length old.history ≡ old.limits.room
-      → entries_made old < old.limits.entries → old.stopped ≡ false → spare'.list ≡ [] → old.limits.room ≤ spare'.room → old.limits.room ≤ spare'.lasting
-      → IsDesk run first takes now total sink' spare'
-  handed_out now sink' spare' same took full goes on empty room lasting = subst (λ (l : Log). IsDesk run first takes l total sink' spare') (sym same) (record {
+  -- the sink is as the pieces left it
+  taken_on : old.stopped ≡ false → TakesAll takes desk.began desk.pieces sink
+  taken_on on =
+      let same : sink ≡ desk.behind = subst (λ (b : Bool). IsLeftSo refuses b desk.behind spare.list sink) on desk.left_so in
+      subst (TakesAll takes desk.began desk.pieces) (sym same) desk.taken
+
+  pub handed_out : (now : Log) (sink' : S) (spare' : HistoryContents) → now ≡ record old { history = [] } → takes sink old.history sink' → AreLimits old.limits old.bodies old.capacities
+      → length old.history ≡ old.limits.room → entries_made old < old.limits.entries → old.stopped ≡ false → spare'.list ≡ [] → old.limits.room ≤ spare'.room → old.limits.room ≤ spare'.lasting
+      → IsDesk run first takes refuses now total sink' spare'
+  handed_out now sink' spare' same took within full goes on empty room lasting = subst (λ (l : Log). IsDesk run first takes refuses l total sink' spare') (sym same) (record {
     run_is = desk.run_is;
     counted = desk.counted;
     began = desk.began;
     is_first = desk.is_first;
     pieces = desk.pieces ++ old.history ∷ [];
-    taken = takes_one_more takes desk.began sink sink' desk.pieces old.history desk.taken took;
+    behind = sink';
+    taken = takes_one_more takes desk.began sink sink' desk.pieces old.history (taken_on on) took;
+    left_so = subst (λ (b : Bool). IsLeftSo refuses b sink' spare'.list sink') (sym on) refl;
+    sized = All-push (IsPiece old.limits) desk.pieces old.history desk.sized (piece_of within full);
+    few = subst (λ (h : List Entry). length (h ++ []) ≤ old.limits.room) (sym empty) (omega arith);
     legal =
         subst (λ (h : List Entry). IsLegal old.limits old.bodies old.capacities (joined (desk.pieces ++ old.history ∷ []) ++ (h ++ [])) old.state) (sym empty)
         (subst (λ (h : List Entry). IsLegal old.limits old.bodies old.capacities h old.state) (sym (append-nil _ ∙ joined_one_more desk.pieces old.history)) (legal_on on));
     whole = λ e. absurd (let made = made_at_least in omega (arith, e, goes, made, full));
     lasts = λ e. on;
+    no_outcome = λ stopped. absurd (false≢true (sym on ∙ stopped));
     none_left = λ stopped. refl;
     empty = λ e. empty;
     room = λ e. room;
@@ -166,22 +221,26 @@ module _ {S : Type 0} (run : ℕ) (first : S → Type 0) (takes : S → List Ent
     fits = subst (All Fits) (sym empty) (All-nil Fits);
   })
 
-  -- the sink took nothing, and the run was stopped
-  pub stopped_by : (now : Log) (sink' : S) (spare' : HistoryContents) → now ≡ record old { history = []; stopped = true } → takes sink [] sink' → length old.history ≡ old.limits.room
-      → entries_made old < old.limits.entries → old.stopped ≡ false → spare'.list ≡ old.history → All Fits old.history
-      → IsDesk run first takes now total sink' spare'
-  stopped_by now sink' spare' same took full goes on left fit = subst (λ (l : Log). IsDesk run first takes l total sink' spare') (sym same) (record {
+  -- the sink refused it, and the run was stopped
+  pub stopped_by : (now : Log) (sink' : S) (spare' : HistoryContents) → now ≡ record old { history = []; stopped = true } → refuses sink old.history sink'
+      → length old.history ≡ old.limits.room → entries_made old < old.limits.entries → is_over old ≡ false → spare'.list ≡ old.history → All Fits old.history
+      → IsDesk run first takes refuses now total sink' spare'
+  stopped_by now sink' spare' same refused full goes lasts left fit = subst (λ (l : Log). IsDesk run first takes refuses l total sink' spare') (sym same) (record {
     run_is = desk.run_is;
     counted = desk.counted;
     began = desk.began;
     is_first = desk.is_first;
-    pieces = desk.pieces ++ [] ∷ [];
-    taken = takes_one_more takes desk.began sink sink' desk.pieces [] desk.taken took;
+    pieces = desk.pieces;
+    behind = sink;
+    taken = taken_on (not_over old lasts).1;
+    left_so = subst (λ (h : List Entry). refuses sink h sink') (sym left) refused;
+    sized = desk.sized;
+    few = (let long = ap (λ (h : List Entry). length h) (append-nil _ ∙ left) in omega (arith, long, full));
     legal =
-        subst (λ (h : List Entry). IsLegal old.limits old.bodies old.capacities (h ++ (spare'.list ++ [])) old.state) (sym (joined_one_more desk.pieces [] ∙ append-nil _))
-        (subst (λ (h : List Entry). IsLegal old.limits old.bodies old.capacities (joined desk.pieces ++ h) old.state) (sym (append-nil _ ∙ left)) (legal_on on));
+        subst (λ (h : List Entry). IsLegal old.limits old.bodies old.capacities (joined desk.pieces ++ h) old.state) (sym (append-nil _ ∙ left)) (legal_on (not_over old lasts).1);
     whole = λ e. absurd (let made = made_at_least in omega (arith, e, goes, made, full));
     lasts = λ e. absurd (let made = made_at_least in omega (arith, e, goes, made, full));
+    no_outcome = λ stopped. (not_over old lasts).0;
     none_left = λ stopped. refl;
     empty = λ e. absurd (false≢true (sym e));
     room = λ e. absurd (false≢true (sym e));
@@ -196,6 +255,14 @@ module _ {S : Type 0} (run : ℕ) (first : S → Type 0) (takes : S → List Ent
     by true is = inr (desk.none_left is)
     by false is = inl (desk.empty is)
 
+  -- of a run that is over these are the entries that were not taken
+  pub left_at_end : is_over old ≡ true → (left : List Entry) → left ≡ spare.list ++ old.history → IsLeftSo refuses (is_none old.state.outcome) desk.behind left sink
+  left_at_end over left are =
+      subst (λ (b : Bool). IsLeftSo refuses b desk.behind left sink) (stopped_so old.state.outcome old.stopped over desk.no_outcome) (by old.stopped desk.none_left desk.left_so) where
+        by : (b : Bool) → (b ≡ true → old.history ≡ []) → IsLeftSo refuses b desk.behind spare.list sink → IsLeftSo refuses b desk.behind left sink
+        by false none same = same
+        by true none refused = subst (λ (h : List Entry). refuses desk.behind h sink) (sym (are ∙ ap (λ (h : List Entry). spare.list ++ h) (none refl) ∙ append-nil spare.list)) refused
+
   -- a run that is over, and was kept whole, has an outcome
   pub ended : is_over old ≡ true → old.limits.room ≡ old.limits.entries → IsSome old.state.outcome
   ended over whole = by old.state.outcome refl where
@@ -204,18 +271,23 @@ module _ {S : Type 0} (run : ℕ) (first : S → Type 0) (takes : S → List Ent
     by None is = absurd (false≢true (sym (rw (is, desk.lasts whole) refl) ∙ over))
 
 -- no call was made
-pub opened : {S : Type 0} (run : ℕ) (first : S → Type 0) (takes : S → List Entry → S → Type 0) (limits : Limits) (bodies : ℕ) (capacities : List ℕ) (sink : S) → first sink
-    → IsDesk run first takes (opening_log run limits bodies capacities) 0 sink (record { list = []; room = limits.room; lasting = limits.room })
-opened run first takes limits bodies capacities sink is_first = record {
+pub opened : {S : Type 0} (run : ℕ) (first : S → Type 0) (takes refuses : S → List Entry → S → Type 0) (limits : Limits) (bodies : ℕ) (capacities : List ℕ) (sink : S) → first sink
+    → IsDesk run first takes refuses (opening_log run limits bodies capacities) 0 sink (record { list = []; room = limits.room; lasting = limits.room })
+opened run first takes refuses limits bodies capacities sink is_first = record {
   run_is = refl;
   counted = none_yet limits.machines;
   began = sink;
   is_first = is_first;
   pieces = [];
+  behind = sink;
   taken = refl;
+  left_so = refl;
+  sized = All-nil (IsPiece limits);
+  few = omega arith;
   legal = refl;
   whole = λ e. refl;
   lasts = λ e. refl;
+  no_outcome = λ stopped. refl;
   none_left = λ stopped. refl;
   empty = λ e. refl;
   room = λ e. omega arith;

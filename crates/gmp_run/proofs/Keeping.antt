@@ -26,22 +26,22 @@ allowed : (wants : Type 0) (lines : Option Refusal) → Says wants lines None �
 allowed wants None says = refl
 allowed wants (Some why) says = absurd cc
 
-module _ {T Q S : Type 0} (run : ℕ) (first : S → Type 0) (takes : S → List Entry → S → Type 0) (total total' : ℕ) (sink : S) (spare : HistoryContents) where
+module _ {T Q S : Type 0} (run : ℕ) (first : S → Type 0) (takes refuses : S → List Entry → S → Type 0) (total total' : ℕ) (sink : S) (spare : HistoryContents) where
   turned : (x : Machine T Q) (book : BookContents T Q) (asked : Call) (word : ℕ) (result : Result Reply Refusal) (x' : Machine T Q) (book' : BookContents T Q)
-      → Turns x book asked word result x' book' → IsDesk run first takes book.log total sink spare → entries_made book'.log ≡ total' → IsDesk run first takes book'.log total' sink spare
+      → Turns x book asked word result x' book' → IsDesk run first takes refuses book.log total sink spare → entries_made book'.log ≡ total' → IsDesk run first takes refuses book'.log total' sink spare
   turned x book asked word (Ok answer) x' book' t desk counted =
-      recorded run first takes book.log book'.log total total' sink spare desk t.before t.behind asked answer _ (allowed _ _ t.refused) t.records counted
+      recorded run first takes refuses book.log book'.log total total' sink spare desk t.before t.behind asked answer _ (allowed _ _ t.refused) t.records counted
   turned x book asked word (Err why) x' book' t desk counted =
-      unchanged run first takes book.log book'.log total total' sink spare desk (ap (λ (b : BookContents T Q). b.log) t.err.0) counted
+      unchanged run first takes refuses book.log book'.log total total' sink spare desk (ap (λ (b : BookContents T Q). b.log) t.err.0) counted
 
   surrendered_at : (x : Machine T Q) (book : BookContents T Q) (which : Option Value) (result : Result Unit Refusal) (x' : Machine T Q) (book' : BookContents T Q)
-      → Surrenders x book which result x' book' → IsDesk run first takes book.log total sink spare → entries_made book'.log ≡ total' → IsDesk run first takes book'.log total' sink spare
+      → Surrenders x book which result x' book' → IsDesk run first takes refuses book.log total sink spare → entries_made book'.log ≡ total' → IsDesk run first takes refuses book'.log total' sink spare
   surrendered_at x book which result x' book' t desk counted =
-      unchanged run first takes book.log book'.log total total' sink spare desk
+      unchanged run first takes refuses book.log book'.log total total' sink spare desk
       (ap (λ (b : BookContents T Q). b.log) t.places ∙ log_after which result (surrendered x t.before which) book) counted
 
   pub kept : (a : Act) (x : Machine T Q) (book : BookContents T Q) (g : Lcg) (woken : Option MNo) (x' : Machine T Q) (book' : BookContents T Q) (g' : Lcg)
-      → TakesTurn a x book g woken x' book' g' → IsDesk run first takes book.log total sink spare → entries_made book'.log ≡ total' → IsDesk run first takes book'.log total' sink spare
+      → TakesTurn a x book g woken x' book' g' → IsDesk run first takes refuses book.log total sink spare → entries_made book'.log ≡ total' → IsDesk run first takes refuses book'.log total' sink spare
   kept (act.Call asked) x book g woken x' book' g' t desk counted = turned x book asked _ t.0 x' book' t.1 desk counted
   kept (act.Surrender which) x book g woken x' book' g' t desk counted = surrendered_at x book which t.0 x' book' t.1 desk counted
   kept act.Pop x book g woken x' book' g' t desk counted = absurd t

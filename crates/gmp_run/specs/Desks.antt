@@ -1,8 +1,9 @@
 -- What lies under the lock, and the pieces of a history that a sink took.
-use Rattle.std.specs.Prelude.{◌≡◌, ◌≤◌, ℕ, true, false, All, List, [], ◌∷◌, ◌++◌}
+use Rattle.std.specs.Prelude.{◌≡◌, ◌≢◌, ◌≤◌, ℕ, Bool, true, false, All, List, [], ◌∷◌, ◌++◌, length, None}
 use Rattle.std.specs.List.{flat_map}
 use Rattle.gmp_history.specs.Brief.{HistoryContents}
 use Rattle.gmp_seq.specs.declared.call.Entry.{Entry}
+use Rattle.gmp_seq.specs.declared.call.Limits.{Limits}
 use Rattle.gmp_seq.specs.Fits.{Fits}
 use Rattle.gmp_seq.specs.Run.{IsLegal}
 use Rattle.gmp_book.specs.Book.{BookContents}
@@ -16,6 +17,20 @@ TakesAll takes a (piece ∷ pieces) b = (mid : _) × takes a piece mid × TakesA
 -- their entries, in order
 abbrev pub joined : List (List Entry) → List Entry
 joined pieces = flat_map (λ (piece : List Entry). piece) pieces
+
+-- these pieces, and what was left, if there was anything
+abbrev pub with_left : List (List Entry) → List Entry → List (List Entry)
+with_left pieces [] = pieces
+with_left pieces (entry ∷ entries) = pieces ++ (entry ∷ entries) ∷ []
+
+-- it has entries, and no more than there is room for at a time
+abbrev pub IsPiece : Limits → List Entry → Type 0
+IsPiece limits piece = (piece ≢ []) × (length piece ≤ limits.room)
+
+-- Behind the pieces the sink is as it was left by them; where it stopped the run, it refused these entries since.
+abbrev pub IsLeftSo : {S : Type 0} → (S → List Entry → S → Type 0) → Bool → S → List Entry → S → Type 0
+IsLeftSo refuses false behind entries now = now ≡ behind
+IsLeftSo refuses true behind entries now = refuses behind entries now
 
 -- the book, how many calls all machines made, and the sink
 pub record DeskContents (T Q S : Type 0) : Type 0 where
@@ -31,23 +46,28 @@ with_none_left book = record book { log = record book.log { history = [] } }
 abbrev pub stopped_book : {T Q : Type 0} → BookContents T Q → BookContents T Q
 stopped_book book = record book { log = record book.log { history = []; stopped = true } }
 
--- the sink took nothing, and the run was stopped
+-- the sink refused the history, and the run was stopped
 abbrev pub Stops : {T Q S : Type 0} → (S → List Entry → S → Type 0) → DeskContents T Q S → DeskContents T Q S → Type 0
-Stops takes old new = (new.book ≡ stopped_book old.book) × takes old.sink [] new.sink
+Stops refuses old new = (new.book ≡ stopped_book old.book) × refuses old.sink old.book.log.history new.sink
 
 -- All entries, those that the sink took since the run began and those that are left, are a legal run to the present state, and as many as the
--- machines made calls. Where the sink stopped the run, what it didn't take is in the spare, and no entry follows. A run that has as much room
--- as entries hands none out.
-pub record IsDesk {S : Type 0} (run : ℕ) (first : S → Type 0) (takes : S → List Entry → S → Type 0) (log : Log) (total : ℕ) (sink : S) (spare : HistoryContents) : Type 0 where
+-- machines made calls. Where the run was stopped, the sink refused what is in the spare, and no entry follows. A run that has as much
+-- room as entries hands none out.
+pub record IsDesk {S : Type 0} (run : ℕ) (first : S → Type 0) (takes refuses : S → List Entry → S → Type 0) (log : Log) (total : ℕ) (sink : S) (spare : HistoryContents) : Type 0 where
   pub run_is : log.run ≡ run
   pub counted : entries_made log ≡ total
   pub began : S
   pub is_first : first began
   pub pieces : List (List Entry)
-  pub taken : TakesAll takes began pieces sink
+  pub behind : S
+  pub taken : TakesAll takes began pieces behind
+  pub left_so : IsLeftSo refuses log.stopped behind spare.list sink
+  pub sized : All (IsPiece log.limits) pieces
+  pub few : length (spare.list ++ log.history) ≤ log.limits.room
   pub legal : IsLegal log.limits log.bodies log.capacities (joined pieces ++ (spare.list ++ log.history)) log.state
   pub whole : log.limits.room ≡ log.limits.entries → pieces ≡ []
   pub lasts : log.limits.room ≡ log.limits.entries → log.stopped ≡ false
+  pub no_outcome : log.stopped ≡ true → log.state.outcome ≡ None
   pub none_left : log.stopped ≡ true → log.history ≡ []
   pub empty : log.stopped ≡ false → spare.list ≡ []
   pub room : log.stopped ≡ false → log.limits.room ≤ spare.room

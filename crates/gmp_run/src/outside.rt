@@ -64,13 +64,16 @@ pub trait Sink {
     /// From the sink before, by these entries, to the sink after.
     ghost takes: { Self → List Entry → Self → Type 0 };
 
+    /// From the sink before, which didn't take these entries, to the sink after.
+    ghost refuses: { Self → List Entry → Self → Type 0 };
+
     /// Takes the entries, which go on where those of the call before stop, and leaves none in their place, and as much room as lasted.
     fn take(&mut self, history: &mut History) -> Result<(), Stop>
         ensures takes { OnOk result (takes self.old history.old.list self.new) }
         ensures empty { OnOk result (history.new.list ≡ []) }
         ensures room { OnOk result (history.old.lasting ≤ history.new.room) }
         ensures lasting { OnOk result (history.old.lasting ≤ history.new.lasting) }
-        ensures stops { OnErr result (takes self.old [] self.new) }
+        ensures stops { OnErr result (refuses self.old history.old.list self.new) }
         ensures kept { OnErr result (history.new ≡ history.old) };
 }
 
@@ -83,6 +86,8 @@ impl Sink for Whole {
     ghost use Rattle.gmp_seq.specs.declared.call.Entry.{Entry};
 
     ghost takes = { λ before entries after. Unit {0} };
+
+    ghost refuses = { λ before entries after. ⊥ };
 
     fn take(&mut self, history: &mut History) -> Result<(), Stop> {
         history.clear();

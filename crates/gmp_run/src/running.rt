@@ -82,7 +82,7 @@ pub fn run_into<R: Threads + Wait + Sync, C: Clock + Sync, G: Gate + Sync, S: Si
     random: u64,
     sink: S,
 ) -> (Result<Report<Boxed>, Unrun<Boxed>>, S)
-    ensures report { IfOk result.0 (λ r. IsPiecesReport S.takes limits capacities.now (length bodies.items) sink r result.1) }
+    ensures report { IfOk result.0 (λ r. IsPiecesReport S.takes S.refuses limits capacities.now (length bodies.items) sink r result.1) }
     ensures why { IfErr result.0 (λ u. WhyUnrun (AreLimits limits (length bodies.items) capacities.now) u.why) }
     ensures back { IfErr result.0 (λ u. u.bodies.items ≡ bodies.items) }
     ensures unused { OnErr result.0 (result.1 ≡ sink) }
@@ -127,7 +127,7 @@ fn run_as<
     requires run { run ≡ L.run }
     requires first { (s : S) → L.first s → s ≡ sink }
     requires begins { L.first sink }
-    ensures report { IfOk result.0 (λ r. IsPiecesReport S.takes limits capacities.now (length bodies.items) sink r result.1) }
+    ensures report { IfOk result.0 (λ r. IsPiecesReport S.takes S.refuses limits capacities.now (length bodies.items) sink r result.1) }
     ensures why { IfErr result.0 (λ u. WhyUnrun (AreLimits limits (length bodies.items) capacities.now) u.why) }
     ensures back { IfErr result.0 (λ u. u.bodies.items ≡ bodies.items) }
     ensures unused { OnErr result.0 (result.1 ≡ sink) }

@@ -12,5 +12,5 @@ invariant_of-self g c =
     let counted = desk.counted in
     let made = turn.ensures.entries in
     let added = c.add.ensures.total in
-    kept g.L.RunLedger.run g.L.SinkLedger.first g.S.Sink.takes old.tally.total c.add.new.self.total old.sink old.spare (next_act machine.driver) machine.driver old.book machine.random
+    kept g.L.RunLedger.run g.L.SinkLedger.first g.S.Sink.takes g.S.Sink.refuses old.tally.total c.add.new.self.total old.sink old.spare (next_act machine.driver) machine.driver old.book machine.random
     _ turn.new.driver turn.new.book turn.new.random turn.ensures.turn desk (omega (arith, counted, made, added))

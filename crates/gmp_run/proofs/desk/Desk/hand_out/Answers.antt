@@ -15,8 +15,8 @@ invariant_of-self g c =
     let full : length log.history ≡ log.limits.room = search (rules, tests) in
     let goes : entries_made log < log.limits.entries = search (rules, tests) in
     let lasts : is_over log ≡ false = search (rules, tests) in
-    handed_out g.L.RunLedger.run g.L.SinkLedger.first g.S.Sink.takes log old.tally.total old.sink old.spare c.self.invariant c.hand_out.new.self.log c.take.new.self c.take.new.history out.rest
-    (subst (λ (h : List Entry). g.S.Sink.takes old.sink h c.take.new.self) out.out took.takes) full goes (not_over log lasts) took.empty
+    handed_out g.L.RunLedger.run g.L.SinkLedger.first g.S.Sink.takes g.S.Sink.refuses log old.tally.total old.sink old.spare c.self.invariant c.hand_out.new.self.log c.take.new.self c.take.new.history out.rest
+    (subst (λ (h : List Entry). g.S.Sink.takes old.sink h c.take.new.self) out.out took.takes) c.history.ensures.part.part.within full goes (not_over log lasts).1 took.empty
     (let lasts = out.lasting in let room = took.room in omega (arith, lasts, room)) (let lasts = out.lasting in let lasting = took.lasting in omega (arith, lasts, lasting))
 
 -- it left them, and the run was stopped
@@ -29,6 +29,7 @@ invariant_of-self-in-Err g c =
     let full : length log.history ≡ log.limits.room = search (rules, tests) in
     let goes : entries_made log < log.limits.entries = search (rules, tests) in
     let lasts : is_over log ≡ false = search (rules, tests) in
-    stopped_by g.L.RunLedger.run g.L.SinkLedger.first g.S.Sink.takes log old.tally.total old.sink old.spare c.self.invariant c.stop.new.self.log c.take.new.self c.take.new.history
-    (c.stop.ensures.log ∙ ap (λ (l : Log). record l { stopped = true }) out.rest) left.stops full goes (not_over log lasts)
+    stopped_by g.L.RunLedger.run g.L.SinkLedger.first g.S.Sink.takes g.S.Sink.refuses log old.tally.total old.sink old.spare c.self.invariant c.stop.new.self.log c.take.new.self c.take.new.history
+    (c.stop.ensures.log ∙ ap (λ (l : Log). record l { stopped = true }) out.rest)
+    (subst (λ (h : List Entry). g.S.Sink.refuses old.sink h c.take.new.self) out.out left.stops) full goes lasts
     (ap (λ (h : HistoryContents). h.list) left.kept ∙ out.out) c.history.ensures.part.part.fits
