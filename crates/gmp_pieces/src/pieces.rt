@@ -13,16 +13,21 @@ use gmp_run::{Sink, Stop};
 pub struct Pieces<W>(pub PartWriter<W>);
 
 impl<W: Outlet> Sink for Pieces<W> {
-    ghost use Rattle.gmp_pieces.specs.Pieces.{Takes};
+    ghost use Rattle.gmp_parts.specs.Writing.{WritesPart};
+    ghost use Rattle.gmp_pieces.specs.Pieces.{Refuses};
 
-    ghost takes = { λ old h new. Takes W.contents old.0 h new.0 };
+    ghost takes = { λ old h new. WritesPart W.contents old.0 h new.0 };
+
+    ghost refuses = { λ old h new. Refuses old.0 h new.0 };
 
     fn take(&mut self, history: &mut History) -> Result<(), Stop> {
-        if self.0.write(history).is_err() {
-            return Err(Stop);
+        match self.0.write(history) {
+            Ok(()) => {
+                history.clear();
+                Ok(())
+            }
+            Err(_) => Err(Stop),
         }
-        history.clear();
-        Ok(())
     }
 }
 
@@ -33,6 +38,7 @@ impl<W: Outlet> Pieces<W> {
     pub fn finish(&mut self, left: &History) -> Result<(), PartError>
         ensures written { OnOk result (WritesLeft W.contents self.old.0 left.now.list self.new.0) }
         ensures no_step { IfErr result (λ e. e ≡ NoStep → self.old.0.failed ≡ None → GoesOn self.old.0 left.now.list → ⊥) }
+        ensures unsent { IfErr result (λ e. e ≡ NoStep → self.new.0.out ≡ self.old.0.out) }
         ensures failed { IfErr result (λ e. (self.new.0.failed ≡ Some e) × Fails self.old.0 self.new.0) }
         ensures again { IfSome self.old.0.failed (λ e. (result ≡ Err e) × (self.new ≡ self.old)) }
     {

@@ -1,5 +1,4 @@
 use Rattle.gmp_pieces.proofs.Taken.{all_written}
-use Rattle.gmp_pieces.specs.declared.pieces.Pieces.{Pieces}
 use Rattle.gmp_pieces.proofs.laws.written.Goals as goal
 
 pub returns : goal.returns
