@@ -1,20 +1,22 @@
 -- What a run came to, of whose history each piece was handed out, the last one too.
-use Rattle.std.proofs.Common.{◌≡◌, ◌<◌, ◌^◌, ℕ, List, [], ◌∷◌, ◌++◌, Some, length, append-nil, ap, sym, subst, ◌∙◌, arith}
+use Rattle.std.specs.Prelude.{is_none}
+use Rattle.std.proofs.Common.{◌≡◌, ◌<◌, ◌^◌, ℕ, List, [], ◌∷◌, ◌++◌, Option, None, Some, length, ap, sym, subst, ◌∙◌, arith}
 use Rattle.gmp_seq.proofs.Counts.{legal_total}
 use Rattle.gmp_seq.proofs.InOrder.{legal_in_order}
 use Rattle.gmp_seq.specs.declared.call.Entry.{Entry}
 use Rattle.gmp_seq.specs.declared.call.Limits.{Limits}
+use Rattle.gmp_seq.specs.declared.call.Outcome.{Outcome}
 use Rattle.gmp_seq.specs.Run.{IsLegal}
-use Rattle.gmp_run.proofs.Desks.{joined_one_more, takes_one_more}
+use Rattle.gmp_run.proofs.Desks.{joined_with_left, sized_with_left, takes_one_more}
 use Rattle.gmp_run.specs.Counts.{all_calls}
 use Rattle.gmp_run.specs.declared.ending.Report.{Report}
-use Rattle.gmp_run.specs.Desks.{joined}
+use Rattle.gmp_run.specs.Desks.{IsLeftSo, TakesAll, joined, with_left}
 use Rattle.gmp_run.specs.Reports.{IsPiecesReport}
 use Rattle.gmp_host.specs.declared.ending.Ended.{Ended}
-use Rattle.gmp_host.specs.Ends.{IsOfPieces, StopsPieces}
+use Rattle.gmp_host.specs.Ends.{IsOfPieces, StopsPieces, TakesLeft}
 
-module _ {T S : Type 0} (takes : S → List Entry → S → Type 0) (limits : Limits) (capacities : List ℕ) (bodies : ℕ) (began : S) (r : Report T) (mid : S)
-    (p : IsPiecesReport takes limits capacities bodies began r mid) where
+module _ {T S : Type 0} (takes refuses : S → List Entry → S → Type 0) (limits : Limits) (capacities : List ℕ) (bodies : ℕ) (began : S) (r : Report T) (mid : S)
+    (p : IsPiecesReport takes refuses limits capacities bodies began r mid) where
   -- there are no more calls than a run has entries
   pub few_calls : all_calls r.logs.items < 2 ^ 64
   few_calls =
@@ -25,29 +27,47 @@ module _ {T S : Type 0} (takes : S → List Entry → S → Type 0) (limits : Li
       let few = p.report.within.entries.1 in
       omega (arith, most, total, calls, few)
 
-  pub in_pieces : (sink : S) (ended : Ended) → takes mid r.history.list sink → Some ended.outcome ≡ r.outcome → ended.entries ≡ all_calls r.logs.items
+  -- of a run that has an outcome the sink is as the pieces left it
+  taken_whole : (outcome : Outcome) → r.outcome ≡ Some outcome → TakesAll takes began p.pieces mid
+  taken_whole outcome is =
+      let same : mid ≡ p.behind = subst (λ (o : Option Outcome). IsLeftSo refuses (is_none o) p.behind r.history.list mid) is p.left_so in
+      subst (TakesAll takes began p.pieces) (sym same) p.taken
+
+  pub in_pieces : (sink : S) (ended : Ended) → TakesLeft takes mid r.history.list sink → Some ended.outcome ≡ r.outcome → ended.entries ≡ all_calls r.logs.items
       → IsOfPieces takes limits capacities bodies began ended sink
   in_pieces sink ended took outcome entries =
-      let one_more = joined_one_more p.pieces r.history.list in
+      let all = joined_with_left p.pieces r.history.list in
       record {
-        pieces = p.pieces ++ r.history.list ∷ [];
-        taken = takes_one_more takes began mid sink p.pieces r.history.list p.taken took;
+        pieces = with_left p.pieces r.history.list;
+        taken = takes_rest p.pieces r.history.list (taken_whole ended.outcome (sym outcome)) took;
+        sized = sized_with_left limits p.pieces r.history.list p.sized p.few;
         last = p.report.last;
-        legal = subst (λ (h : List Entry). IsLegal limits bodies capacities h p.report.last) (sym one_more) p.report.legal;
+        legal = subst (λ (h : List Entry). IsLegal limits bodies capacities h p.report.last) (sym all) p.report.legal;
         outcome = p.report.outcome ∙ sym outcome;
-        entries = ap (λ (h : List Entry). length h) one_more ∙ (p.report.calls ∙ sym entries);
+        entries = ap (λ (h : List Entry). length h) all ∙ (p.report.calls ∙ sym entries);
         within = p.report.within;
-      }
+      } where
+        takes_rest : (pieces : List (List Entry)) (left : List Entry) → TakesAll takes began pieces mid → TakesLeft takes mid left sink → TakesAll takes began (with_left pieces left) sink
+        takes_rest pieces [] taken none = subst (TakesAll takes began pieces) (sym none) taken
+        takes_rest pieces (e ∷ left) taken took = takes_one_more takes began mid sink pieces (e ∷ left) taken took
 
-  -- the sink took none of the last piece
-  pub stopped_at_last : (sink : S) → takes mid [] sink → StopsPieces takes limits capacities bodies began sink
-  stopped_at_last sink took =
-      let none_more = joined_one_more p.pieces [] ∙ append-nil (joined p.pieces) in
-      record {
-        pieces = p.pieces ++ [] ∷ [];
-        left = r.history.list;
-        taken = takes_one_more takes began mid sink p.pieces [] p.taken took;
-        last = p.report.last;
-        legal = subst (λ (h : List Entry). IsLegal limits bodies capacities (h ++ r.history.list) p.report.last) (sym none_more) p.report.legal;
-        within = p.report.within;
-      }
+  -- the sink refused what is left
+  stopped : (behind sink : S) → TakesAll takes began p.pieces behind → refuses behind r.history.list sink → StopsPieces takes refuses limits capacities bodies began sink
+  stopped behind sink taken refused = record {
+    pieces = p.pieces;
+    left = r.history.list;
+    behind = behind;
+    taken = taken;
+    refused = refused;
+    sized = p.sized;
+    few = p.few;
+    last = p.report.last;
+    legal = p.report.legal;
+    within = p.report.within;
+  }
+
+  pub stopped_on_the_way : r.outcome ≡ None → StopsPieces takes refuses limits capacities bodies began mid
+  stopped_on_the_way none = stopped p.behind mid p.taken (subst (λ (o : Option Outcome). IsLeftSo refuses (is_none o) p.behind r.history.list mid) none p.left_so)
+
+  pub stopped_at_last : (sink : S) (outcome : Outcome) → r.outcome ≡ Some outcome → refuses mid r.history.list sink → StopsPieces takes refuses limits capacities bodies began sink
+  stopped_at_last sink outcome is refused = stopped mid sink (taken_whole outcome is) refused

@@ -1,11 +1,11 @@
 -- What is told of a run.
-use Rattle.std.specs.Prelude.{◌≡◌, ℕ, List, ◌++◌, length, Some}
+use Rattle.std.specs.Prelude.{◌≡◌, ◌≤◌, ℕ, All, List, [], ◌∷◌, ◌++◌, length, Some}
 use Rattle.gmp_seq.specs.declared.call.Entry.{Entry}
 use Rattle.gmp_seq.specs.declared.call.Limits.{Limits}
 use Rattle.gmp_seq.specs.Fits.{AreLimits}
 use Rattle.gmp_seq.specs.Run.{IsLegal}
 use Rattle.gmp_seq.specs.State.{State}
-use Rattle.gmp_run.specs.Desks.{TakesAll, joined}
+use Rattle.gmp_run.specs.Desks.{IsPiece, TakesAll, joined}
 use Rattle.gmp_host.specs.declared.ending.Ended.{Ended}
 
 -- There is a legal run, from the opening under these limits, which are in range, with these capacities and so many bodies, that has this
@@ -18,23 +18,33 @@ pub record IsOfLegalRun (limits : Limits) (capacities : List ℕ) (bodies : ℕ)
   pub entries : length history ≡ ended.entries
   pub within : AreLimits limits bodies capacities
 
--- The sink took these pieces, which in order are a legal run, from the opening under these limits, with these capacities and so many bodies, that
--- has this outcome and as many entries.
+-- The sink took these pieces, and nothing more. In order they are a legal run, from the opening under these limits, with these capacities and so
+-- many bodies, that has this outcome and as many entries.
 pub record IsOfPieces {S : Type 0} (takes : S → List Entry → S → Type 0) (limits : Limits) (capacities : List ℕ) (bodies : ℕ) (began : S) (ended : Ended) (sink : S) : Type 0 where
   pub pieces : List (List Entry)
   pub taken : TakesAll takes began pieces sink
+  pub sized : All (IsPiece limits) pieces
   pub last : State
   pub legal : IsLegal limits bodies capacities (joined pieces) last
   pub outcome : last.outcome ≡ Some ended.outcome
   pub entries : length (joined pieces) ≡ ended.entries
   pub within : AreLimits limits bodies capacities
 
--- The sink took these pieces and then stopped the run: in order, and with the entries that it left, they are a legal run, from the opening under
--- these limits, with these capacities and so many bodies.
-pub record StopsPieces {S : Type 0} (takes : S → List Entry → S → Type 0) (limits : Limits) (capacities : List ℕ) (bodies : ℕ) (began : S) (sink : S) : Type 0 where
+-- what was left was taken, if there was anything
+abbrev pub TakesLeft : {S : Type 0} → (S → List Entry → S → Type 0) → S → List Entry → S → Type 0
+TakesLeft takes old [] new = new ≡ old
+TakesLeft takes old (entry ∷ entries) new = takes old (entry ∷ entries) new
+
+-- The sink took these pieces and then stopped the run, since it refused what is left: in order, and with that, they are a legal run, from the
+-- opening under these limits, with these capacities and so many bodies.
+pub record StopsPieces {S : Type 0} (takes refuses : S → List Entry → S → Type 0) (limits : Limits) (capacities : List ℕ) (bodies : ℕ) (began : S) (sink : S) : Type 0 where
   pub pieces : List (List Entry)
   pub left : List Entry
-  pub taken : TakesAll takes began pieces sink
+  pub behind : S
+  pub taken : TakesAll takes began pieces behind
+  pub refused : refuses behind left sink
+  pub sized : All (IsPiece limits) pieces
+  pub few : length left ≤ limits.room
   pub last : State
   pub legal : IsLegal limits bodies capacities (joined pieces ++ left) last
   pub within : AreLimits limits bodies capacities

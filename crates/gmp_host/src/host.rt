@@ -2,7 +2,7 @@
 ghost use Rattle.std.specs.Prelude.{◌≡◌, ◌≢◌, ◌↔◌, ◌++◌, ◌∷◌, ◌<◌, ◌^◌, [], IfErr, IfOk, OnErr, OnOk, Some, length};
 ghost use Rattle.gmp_turn.specs.Whole.{IsWholeRun};
 ghost use Rattle.gmp_seq.specs.Fits.{AreLimits};
-ghost use Rattle.gmp_host.specs.Ends.{IsOfLegalRun, IsOfPieces, StopsPieces};
+ghost use Rattle.gmp_host.specs.Ends.{IsOfLegalRun, IsOfPieces, StopsPieces, TakesLeft};
 ghost use Rattle.gmp_host.specs.Openings.{limits_of};
 ghost use Rattle.gmp_run.specs.Counts.{all_calls};
 
@@ -16,7 +16,8 @@ use crate::spawner::{Outputs, Spawner, Task};
 use crate::stamps::Stamps;
 use crate::table::play_all;
 use gmp_base::{CNo, GNo};
-use gmp_run::{Clock, Gate, Open, Sink, run, run_into};
+use gmp_history::History;
+use gmp_run::{Clock, Gate, Open, Sink, Stop, run, run_into};
 use gmp_worker::{Boxed, PassLog, audit};
 use std::alloc::Global;
 use std::sync::{Arc, Mutex, Wait};
@@ -54,6 +55,17 @@ fn made(logs: &[PassLog]) -> u64
     ensures { result ≡ all_calls logs.now }
 {
     logs.iter().map(|log| log.calls).sum()
+}
+
+/// Hands the sink what is left, if there is anything.
+fn hand_rest<S: Sink>(sink: &mut S, history: &mut History) -> Result<(), Stop>
+    ensures taken { OnOk result (TakesLeft S.takes sink.old history.old.list sink.new) }
+    ensures refused { OnErr result (S.refuses sink.old history.old.list sink.new) }
+{
+    if history.is_empty() {
+        return Ok(());
+    }
+    sink.take(history)
 }
 
 impl Host {
@@ -199,34 +211,20 @@ impl Host {
         if !self.is_pushed() {
             return Err(Short::NotPushed);
         }
-        let Host {
-            alloc,
-            settings,
-            capacities,
-            bodies,
-            loss,
-            shown,
-            is_timed,
-            ..
-        } = self;
-        let gate = Stamps {
-            clock,
-            shown: &shown,
-            is_read: is_timed,
-            gate,
-        };
-        let capacities = capacities.as_slice();
-        let report = match run(
+        let bodies = self.bodies;
+        let gate = Stamps::of(clock, &self.shown, self.is_timed, gate);
+        let ran = run(
             rt,
-            alloc,
+            self.alloc,
             RUN,
-            settings.limits(),
-            capacities,
+            self.settings.limits(),
+            self.capacities.as_slice(),
             bodies,
             clock,
             &gate,
-            settings.random,
-        ) {
+            self.settings.random,
+        );
+        let report = match ran {
             Ok(report) => report,
             Err(unrun) => return Err(unrun.why.into()),
         };
@@ -236,7 +234,7 @@ impl Host {
         Ok(Ended {
             outcome: report.outcome.unwrap(),
             entries: report.history.len() as u64,
-            lost: first(&loss),
+            lost: first(&self.loss),
         })
     }
 
@@ -253,55 +251,40 @@ impl Host {
             → AreLimits (limits_of self.settings) (length self.bodies.items) self.capacities.items → ⊥) }
         ensures unused { IfErr result.0 (λ e. e ≢ Short.Stopped → result.1 ≡ sink) }
         ensures stopped { IfErr result.0 (λ e. e ≡ Short.Stopped
-            → StopsPieces S.takes (limits_of self.settings) self.capacities.items (length self.bodies.items) sink result.1) }
+            → StopsPieces S.takes S.refuses (limits_of self.settings) self.capacities.items (length self.bodies.items) sink result.1) }
     {
         if !self.is_pushed() {
             return (Err(Short::NotPushed), sink);
         }
         let clock = Since::now(rt);
-        let Host {
-            alloc,
-            settings,
-            capacities,
-            bodies,
-            loss,
-            shown,
-            is_timed,
-            ..
-        } = self;
-        let gate = Stamps {
-            clock: &clock,
-            shown: &shown,
-            is_read: is_timed,
-            gate: &Open,
-        };
+        let bodies = self.bodies;
+        let gate = Stamps::of(&clock, &self.shown, self.is_timed, &Open);
         let (ran, mut sink) = run_into(
             rt,
-            alloc,
+            self.alloc,
             RUN,
-            settings.limits(),
-            capacities.as_slice(),
+            self.settings.limits(),
+            self.capacities.as_slice(),
             bodies,
             &clock,
             &gate,
-            settings.random,
+            self.settings.random,
             sink,
         );
-        let report = match ran {
+        let mut report = match ran {
             Ok(report) => report,
             Err(unrun) => return (Err(unrun.why.into()), sink),
         };
-        let mut history = report.history;
         let Some(outcome) = report.outcome else {
             return (Err(Short::Stopped), sink);
         };
-        if sink.take(&mut history).is_err() {
+        if hand_rest(&mut sink, &mut report.history).is_err() {
             return (Err(Short::Stopped), sink);
         }
         let ended = Ended {
             outcome,
             entries: made(&report.logs),
-            lost: first(&loss),
+            lost: first(&self.loss),
         };
         (Ok(ended), sink)
     }

@@ -8,11 +8,22 @@ use gmp_run::{Clock, Gate};
 /// A gate that notes what the clock shows before each resumption, where a goroutine reads the time, and then is another gate.
 #[derive(Drop)]
 pub(crate) struct Stamps<'a, C, G> {
-    pub clock: &'a C,
-    pub shown: &'a Note,
+    clock: &'a C,
+    shown: &'a Note,
     /// Whether a goroutine reads the time.
-    pub is_read: bool,
-    pub gate: &'a G,
+    is_read: bool,
+    gate: &'a G,
+}
+
+impl<'a, C, G> Stamps<'a, C, G> {
+    pub fn of(clock: &'a C, shown: &'a Note, is_read: bool, gate: &'a G) -> Self {
+        Stamps {
+            clock,
+            shown,
+            is_read,
+            gate,
+        }
+    }
 }
 
 impl<C: Clock, G: Gate> Gate for Stamps<'_, C, G> {

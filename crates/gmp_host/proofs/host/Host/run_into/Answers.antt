@@ -1,50 +1,67 @@
-use Rattle.std.proofs.Common.{◌≡◌, ◌<◌, ◌^◌, ℕ, List, [], IfOk, length, ap, rules, subst, sym, tests, ◌∙◌}
+use Rattle.std.proofs.Common.{◌≡◌, ◌<◌, ◌^◌, ℕ, List, IfOk, None, length, ap, rules, subst, sym, tests, ◌∙◌}
 use Rattle.gmp_seq.specs.declared.call.Limits.{Limits}
 use Rattle.gmp_run.specs.Counts.{all_calls}
 use Rattle.gmp_run.specs.Reports.{IsPiecesReport}
 use Rattle.gmp_worker.specs.declared.auditing.PassLog.{PassLog}
 use Rattle.gmp_host.specs.declared.ending.Ended.{Ended}
-use Rattle.gmp_host.specs.Ends.{IsOfPieces, StopsPieces}
-use Rattle.gmp_host.proofs.Pieces.{few_calls, in_pieces, stopped_at_last}
+use Rattle.gmp_host.specs.Ends.{IsOfPieces, StopsPieces, TakesLeft}
+use Rattle.gmp_host.proofs.Pieces.{few_calls, in_pieces, stopped_at_last, stopped_on_the_way}
 use Rattle.gmp_host.proofs.host.Host.run_into.Goals as goal
 
 pub made-requires : goal.made-requires
 made-requires g c =
     let takes = g.S.Sink.takes in
+    let refuses = g.S.Sink.refuses in
     let mid = c.run_into-ran.result.1 in
     let bodies = length c.args.self.bodies.items in
-    let ran : IsPiecesReport takes c.limits.result c.as_slice.result.now bodies c.args.sink c.in-Ok.report mid =
-    subst (λ ran. IfOk ran (λ r. IsPiecesReport takes c.limits.result c.as_slice.result.now bodies c.args.sink r mid)) c.in-Ok.is c.run_into-ran.ensures.report in
+    let ran : IsPiecesReport takes refuses c.limits.result c.as_slice.result.now bodies c.args.sink c.in-Ok.report mid =
+    subst (λ ran. IfOk ran (λ r. IsPiecesReport takes refuses c.limits.result c.as_slice.result.now bodies c.args.sink r mid)) c.in-Ok.is c.run_into-ran.ensures.report in
     record {
-      few = subst (λ (logs : List PassLog). all_calls logs < 2 ^ 64) (sym c.deref.ensures.value) (few_calls takes c.limits.result c.as_slice.result.now bodies c.args.sink c.in-Ok.report mid ran);
+      few = subst (λ (logs : List PassLog). all_calls logs < 2 ^ 64) (sym c.deref.ensures.value) (few_calls takes refuses c.limits.result c.as_slice.result.now bodies c.args.sink c.in-Ok.report mid ran);
     }
 
--- the last piece is the sink's too
+-- what is left is the sink's too
 pub returns-clause-ended : goal.returns-clause-ended
 returns-clause-ended g c =
     let takes = g.S.Sink.takes in
+    let refuses = g.S.Sink.refuses in
     let mid = c.run_into-ran.result.1 in
-    let sink = c.take.new.self in
+    let sink = c.hand_rest.new.sink in
     let bodies = length c.args.self.bodies.items in
-    let ran : IsPiecesReport takes c.limits.result c.as_slice.result.now bodies c.args.sink c.in-Ok.report mid =
-    subst (λ ran. IfOk ran (λ r. IsPiecesReport takes c.limits.result c.as_slice.result.now bodies c.args.sink r mid)) c.in-Ok.is c.run_into-ran.ensures.report in
+    let ran : IsPiecesReport takes refuses c.limits.result c.as_slice.result.now bodies c.args.sink c.in-Ok.report mid =
+    subst (λ ran. IfOk ran (λ r. IsPiecesReport takes refuses c.limits.result c.as_slice.result.now bodies c.args.sink r mid)) c.in-Ok.is c.run_into-ran.ensures.report in
     let made : c.made.result ≡ all_calls c.in-Ok.report.logs.items = c.made.ensures ∙ ap all_calls c.deref.ensures.value in
-    let took : takes mid c.in-Ok.report.history.list sink = search (rules, tests) in
+    let took : TakesLeft takes mid c.in-Ok.report.history.list sink = search (rules, tests) in
     let ended : Ended = record { outcome = c.in-Some.outcome; entries = c.made.result; lost = c.first.result } in
-    let all = in_pieces takes c.limits.result c.as_slice.result.now bodies c.args.sink c.in-Ok.report mid ran sink ended took (sym c.in-Some.is) made in
+    let all = in_pieces takes refuses c.limits.result c.as_slice.result.now bodies c.args.sink c.in-Ok.report mid ran sink ended took (sym c.in-Some.is) made in
     subst (λ (limits : Limits). IsOfPieces takes limits c.args.self.capacities.items bodies c.args.sink ended sink) c.limits.ensures
     (subst (λ (capacities : List ℕ). IsOfPieces takes c.limits.result capacities bodies c.args.sink ended sink) c.as_slice.ensures.value all)
 
--- the last piece was left
+-- a piece was left
+pub returns-in_default-clause-stopped : goal.returns-in_default-clause-stopped
+returns-in_default-clause-stopped g c is =
+    let takes = g.S.Sink.takes in
+    let refuses = g.S.Sink.refuses in
+    let mid = c.run_into-ran.result.1 in
+    let bodies = length c.args.self.bodies.items in
+    let ran : IsPiecesReport takes refuses c.limits.result c.as_slice.result.now bodies c.args.sink c.in-Ok.report mid =
+    subst (λ ran. IfOk ran (λ r. IsPiecesReport takes refuses c.limits.result c.as_slice.result.now bodies c.args.sink r mid)) c.in-Ok.is c.run_into-ran.ensures.report in
+    let none : c.in-Ok.report.outcome ≡ None = search (rules, tests) in
+    let all = stopped_on_the_way takes refuses c.limits.result c.as_slice.result.now bodies c.args.sink c.in-Ok.report mid ran none in
+    subst (λ (limits : Limits). StopsPieces takes refuses limits c.args.self.capacities.items bodies c.args.sink mid) c.limits.ensures
+    (subst (λ (capacities : List ℕ). StopsPieces takes refuses c.limits.result capacities bodies c.args.sink mid) c.as_slice.ensures.value all)
+
+-- what is left was left by the sink too
 pub returns-then-is_err-clause-stopped : goal.returns-then-is_err-clause-stopped
 returns-then-is_err-clause-stopped g c is =
     let takes = g.S.Sink.takes in
+    let refuses = g.S.Sink.refuses in
     let mid = c.run_into-ran.result.1 in
-    let sink = c.take.new.self in
+    let sink = c.hand_rest.new.sink in
     let bodies = length c.args.self.bodies.items in
-    let ran : IsPiecesReport takes c.limits.result c.as_slice.result.now bodies c.args.sink c.in-Ok.report mid =
-    subst (λ ran. IfOk ran (λ r. IsPiecesReport takes c.limits.result c.as_slice.result.now bodies c.args.sink r mid)) c.in-Ok.is c.run_into-ran.ensures.report in
-    let took : takes mid [] sink = search (rules, tests) in
-    let all = stopped_at_last takes c.limits.result c.as_slice.result.now bodies c.args.sink c.in-Ok.report mid ran sink took in
-    subst (λ (limits : Limits). StopsPieces takes limits c.args.self.capacities.items bodies c.args.sink sink) c.limits.ensures
-    (subst (λ (capacities : List ℕ). StopsPieces takes c.limits.result capacities bodies c.args.sink sink) c.as_slice.ensures.value all)
+    let ran : IsPiecesReport takes refuses c.limits.result c.as_slice.result.now bodies c.args.sink c.in-Ok.report mid =
+    subst (λ ran. IfOk ran (λ r. IsPiecesReport takes refuses c.limits.result c.as_slice.result.now bodies c.args.sink r mid)) c.in-Ok.is c.run_into-ran.ensures.report in
+    let refused : refuses mid c.in-Ok.report.history.list sink = search (rules, tests) in
+    let all = stopped_at_last takes refuses c.limits.result c.as_slice.result.now bodies c.args.sink c.in-Ok.report mid ran sink c.in-Some.outcome c.in-Some.is refused in
+    subst (λ (limits : Limits). StopsPieces takes refuses limits c.args.self.capacities.items bodies c.args.sink sink) c.limits.ensures
+    (subst (λ (capacities : List ℕ). StopsPieces takes refuses c.limits.result capacities bodies c.args.sink sink) c.as_slice.ensures.value all)
