@@ -1,5 +1,6 @@
 -- What is written of a run in segments.
-use Rattle.std.proofs.Common.{◌≡◌, ◌≢◌, ◌++◌, ◌+◌, ◌∙◌, ℕ, List, Option, None, Result, Ok, Err, IfOk, IfErr, true, refl, sym, ap, subst, arith, length}
+use Rattle.std.specs.Prelude.{is_none}
+use Rattle.std.proofs.Common.{◌≡◌, ◌≢◌, ◌++◌, ◌+◌, ◌∙◌, ℕ, All, List, Option, None, Result, Ok, Err, IfOk, IfErr, true, refl, sym, ap, subst, arith, length}
 use Rattle.std.proofs.lemmas.Bool.{false≢true}
 use Rattle.std.specs.Io.KnownBytes.{Appends}
 use Rattle.gmp_seq.specs.declared.call.Limits.{Limits}
@@ -15,10 +16,12 @@ use Rattle.gmp_parts.proofs.Written.{legal_written}
 use Rattle.gmp_parts.specs.Parts.{Parts, count, entries_of, first, parts_line, whole}
 use Rattle.gmp_parts.specs.Parts.Parts.{NoPart, Then}
 use Rattle.gmp_parts.specs.Writing.{HasWritten, Writing}
-use Rattle.gmp_pieces.proofs.Taken.{all_written, takes}
+use Rattle.gmp_pieces.proofs.Taken.{refuses, run_written, takes}
+use Rattle.gmp_pieces.specs.Pieces.{pieces_of}
+use Rattle.gmp_run.proofs.Desks.{sized_with_left}
 use Rattle.gmp_run.specs.declared.ending.Report.{Report}
 use Rattle.gmp_run.specs.declared.ending.Unrun.{Unrun}
-use Rattle.gmp_run.specs.Desks.{joined}
+use Rattle.gmp_run.specs.Desks.{IsPiece, joined, with_left}
 use Rattle.gmp_run.specs.Reports.{IsPiecesReport, WhyUnrun}
 use Rattle.gmp_words.specs.declared.said.Said.{Said}
 use Rattle.gmp_words.specs.declared.said.Said.TheVariants.{BadLimits, Nothing}
@@ -54,10 +57,10 @@ module _ {W : Type 0} (contents : W → Option (List ℕ)) (limits : Limits) (bo
     begun : start_of (whole parts last) ≡ start_of (opened capacities parts last)
     begun = rw (has.begins.2, has.begins.0, has.begins.1) refl
 
-  pub wrote_parts : (now : Writing W) (parts : Parts) (end : End) → HasWritten contents at_first now parts → end ≡ end_of now.state.outcome → end ≢ Running
+  pub wrote_parts : (now : Writing W) (parts : Parts) (end : End) → HasWritten contents at_first now parts → All (IsPiece limits) (pieces_of parts) → end ≡ end_of now.state.outcome → end ≢ Running
       → (old new : Option (List ℕ)) → Appends old new (lines_of end now.entries now.parts) → WritesParts limits capacities bodies (status_of end) (contents outlet) (contents now.out) old new
-  wrote_parts now NoPart end has ended over old new told = absurd (over (ended ∙ ap (λ s. end_of s.outcome) has.stops))
-  wrote_parts now (Then parts last) end has ended over old new told =
+  wrote_parts now NoPart end has sized ended over old new told = absurd (over (ended ∙ ap (λ s. end_of s.outcome) has.stops))
+  wrote_parts now (Then parts last) end has sized ended over old new told =
       let is : last.end ≡ end = has.stops.3 ∙ sym ended in
       let entries : now.entries ≡ length (entries_of (Then parts last)) = omega (arith, has.entries) in
       let number : now.parts ≡ count (Then parts last) = omega (arith, has.number) in
@@ -65,6 +68,7 @@ module _ {W : Type 0} (contents : W → Option (List ℕ)) (limits : Limits) (bo
         parts = parts;
         last = last;
         in_order = has.in_order;
+        sized = sized;
         begun = begun now parts last has;
         legal = is_trace now parts last has;
         stock = has.begins.1;
@@ -82,19 +86,21 @@ module _ {W : Type 0} (contents : W → Option (List ℕ)) (limits : Limits) (bo
 module _ {T W S : Type 0} (contents : W → Option (List ℕ)) (of : S → Writing W) (limits : Limits) (bodies : ℕ) (capacities : List ℕ) (outlet : W)
     (within : AreLimits limits bodies capacities) (began sink : S) (first : of began ≡ at_first contents limits bodies capacities outlet within) where
   pub wrote_run : (said : Said) (status boxes : ℕ) (after : Writing W) (old new : Option (List ℕ)) (ran : Result (Report T) (Unrun T)) → boxes ≡ bodies
-      → IfOk ran (λ (r : Report T). IsPiecesReport (takes contents of) limits capacities boxes began r sink)
+      → IfOk ran (λ (r : Report T). IsPiecesReport (takes contents of) (refuses contents of) limits capacities boxes began r sink)
       → IfErr ran (λ (u : Unrun T). WhyUnrun (AreLimits limits boxes capacities) u.why) → IfErr ran (λ (u : Unrun T). said ≡ said_of_unrun u.why)
       → IfOk ran (λ (r : Report T). said ≡ Nothing → (end : End) × TellsParts contents (of sink) r after end old new × status ≡ status_of end) → said ≡ Nothing
       → WritesParts limits capacities bodies status (contents outlet) (contents after.out) old new
   wrote_run said status boxes after old new (Ok r) counted report why unrun told nothing =
-      by_end (told nothing) (all_written contents of began sink after report.pieces r.history.list report.taken (told nothing).1.left) where
+      by_end (told nothing)
+      (run_written contents of began report.behind sink after report.pieces r.history.list (is_none r.outcome) report.taken report.left_so (told nothing).1.left) where
         by_end : (end : End) × TellsParts contents (of sink) r after end old new × status ≡ status_of end
-            → (parts : Parts) × (entries_of parts ≡ joined report.pieces ++ r.history.list) × HasWritten contents (of began) after parts
+            → (parts : Parts) × (pieces_of parts ≡ with_left report.pieces r.history.list) × (entries_of parts ≡ joined report.pieces ++ r.history.list) × HasWritten contents (of began) after parts
             → WritesParts limits capacities bodies status (contents outlet) (contents after.out) old new
-        by_end (end, tells, is) (parts, are, has) =
+        by_end (end, tells, is) (parts, are, entries, has) =
             let has_first : HasWritten contents (at_first contents limits bodies capacities outlet within) after parts = subst (λ (w : Writing W). HasWritten contents w after parts) first has in
+            let sized : All (IsPiece limits) (pieces_of parts) = subst (All (IsPiece limits)) (sym are) (sized_with_left limits report.pieces r.history.list report.sized report.few) in
             subst (λ (n : ℕ). WritesParts limits capacities bodies n (contents outlet) (contents after.out) old new) (sym is)
-            (wrote_parts contents limits bodies capacities outlet within after parts end has_first tells.ended tells.over old new tells.told)
+            (wrote_parts contents limits bodies capacities outlet within after parts end has_first sized tells.ended tells.over old new tells.told)
   wrote_run said status boxes after old new (Err u) counted report why unrun told nothing =
       absurd (not_nothing u.why (two_ways (AreLimits limits boxes capacities) u.why why) (sym unrun ∙ nothing))
 

@@ -1,7 +1,10 @@
-use Rattle.std.proofs.Common.{arith, rules, ◌≡◌, ◌∙◌, length}
+use Rattle.std.proofs.Common.{arith, rules, ◌≡◌, ◌∙◌, ℕ, List, IfOk, length, subst}
 use Rattle.std.proofs.lemmas.Iterator.Consumers.{YieldsList-end}
 use Rattle.std.proofs.lemmas.Iterator.Adapters.{YieldsList-from_vec}
 use Rattle.std.proofs.lemmas.Grind.{common_steps}
+use Rattle.gmp_pieces.proofs.Taken.{refuses, takes}
+use Rattle.gmp_run.specs.Reports.{IsPiecesReport}
+use Rattle.gmp_seq.specs.declared.call.Limits.{Limits}
 use Rattle.gmp_seq.specs.Fits.{AreLimits}
 use Rattle.gmp_words.specs.Runs.{limits_in}
 use Rattle.gmp_run_cli.proofs.InParts.{at_first, begun_within, wrote_run}
@@ -22,13 +25,22 @@ module _ (g : Over) (c : goal.After-drop-script-2 g) where
   first : c.in-Ok-open.parts ≡ at_first g.O.Write.contents (limits_in c.args.segments c.args.settings.now) (length c.args.script.bodies.items) c.args.script.capacities.items c.args.outlet within
   first = search rules
 
+  -- this is what the run came to, under these limits and with these capacities
+  abbrev RunsTo : Limits → List ℕ → Type 0
+  RunsTo limits capacities =
+      IfOk c.run_into-ran.result.0
+      (λ r. IsPiecesReport (takes g.O.Write.contents (λ s. s.0)) (refuses g.O.Write.contents (λ s. s.0)) limits capacities (length c.loop-body.boxed.items) (record { 0 = c.in-Ok-open.parts }) r
+      c.run_into-ran.result.1)
+
 pub returns-clause-written : goal.returns-clause-written
 returns-clause-written g c = λ nothing.
     rw c.into_inner.ensures
     (wrote_run g.O.Write.contents (λ s. s.0) (limits_in c.args.segments c.args.settings.now) (length c.args.script.bodies.items) c.args.script.capacities.items c.args.outlet
     (within g c) (record { 0 = c.in-Ok-open.parts }) c.run_into-ran.result.1 (first g c)
     c.told_in_parts-ended.result.said c.told_in_parts-ended.result.status _ c.told_in_parts-ended.new.pieces.0 _ _ c.run_into-ran.result.0 (counted g c)
-    (search rules) (search rules) c.told_in_parts-ended.ensures.unrun c.told_in_parts-ended.ensures.told nothing)
+    (subst (λ (limits : Limits). RunsTo g c limits c.args.script.capacities.items) c.limits_in-limits.ensures
+    (subst (RunsTo g c c.limits_in-limits.result) c.deref-3.ensures.value c.run_into-ran.ensures.report))
+    (search rules) c.told_in_parts-ended.ensures.unrun c.told_in_parts-ended.ensures.told nothing)
 
 pub returns-clause-limits : goal.returns-clause-limits
 returns-clause-limits g c = λ bad are.
