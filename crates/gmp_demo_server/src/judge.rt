@@ -46,6 +46,8 @@ impl Sink for Judge {
 
     ghost takes = { λ before entries after. Unit {0} };
 
+    ghost refuses = { λ before entries after. Unit {0} };
+
     fn take(&mut self, history: &mut History) -> Result<(), Stop> {
         self.follow(history)?;
         history.clear();

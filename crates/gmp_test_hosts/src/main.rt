@@ -102,6 +102,8 @@ impl Sink for Two {
 
     ghost takes = { λ before entries after. Unit {0} };
 
+    ghost refuses = { λ before entries after. Unit {0} };
+
     fn take(&mut self, history: &mut History) -> Result<(), Stop> {
         if self.pieces == 2 {
             return Err(Stop);

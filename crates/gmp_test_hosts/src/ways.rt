@@ -15,6 +15,8 @@ impl Sink for LetsGo {
 
     ghost takes = { λ before entries after. Unit {0} };
 
+    ghost refuses = { λ before entries after. ⊥ };
+
     fn take(&mut self, history: &mut History) -> Result<(), Stop> {
         history.clear();
         Ok(())

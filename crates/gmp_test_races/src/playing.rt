@@ -66,6 +66,8 @@ impl Sink for Joined {
 
     ghost takes = { λ before entries after. Unit {0} };
 
+    ghost refuses = { λ before entries after. Unit {0} };
+
     fn take(&mut self, history: &mut History) -> Result<(), Stop> {
         if self.pieces == 0 {
             self.has_stopped = true;
