@@ -1,0 +1,8 @@
+use Rattle.std.proofs.Common.{◌≡◌, ◌<◌, ◌+◌, ◌%◌, ℕ, true}
+use Rattle.gmp_rounds.specs.Stage.{machines_of, parked}
+use Rattle.gmp_rounds.proofs.playing.Player.next.Given as goal
+
+-- each machine so far is parked
+abbrev pub invariant-loop-passed : goal.invariant-loop-passed
+invariant-loop-passed g l =
+    (i : ℕ) → i < l.passed → parked l.self-inside.core.system ((l.self-inside.turn + i) % machines_of l.self-inside.core.system) ≡ true
