@@ -2,8 +2,6 @@
 use Rattle.std.proofs.Common.{◌≡◌, ℕ, All, List, length, sym, ap, ◌∙◌, subst}
 use Rattle.gmp_seq.specs.Fits.{AreLimits, Fits}
 use Rattle.gmp_acts.specs.Headline.{Headline, SameOpening}
-use Rattle.gmp_core.specs.Whole.{HeadlineOf, IsWhole}
-use Rattle.gmp_core.proofs.Before.{whole_headline}
 use Rattle.gmp_script.specs.Script.{Commands}
 use Rattle.gmp_trace.specs.HasText.{HasText}
 use Rattle.gmp_trace.specs.Text.{Content, end_of}
@@ -16,28 +14,25 @@ use Rattle.gmp_words.specs.Runs.{IsTraceOf, limits_of}
 use Rattle.gmp_cli.specs.Step.{IsRunOf}
 
 module _ (s : Settings) (capacities readings : List ℕ) (bodies : List Commands) (before behind : Stage) (x : Content)
-    (opened : before ≡ opening_stage (limits_of s) capacities readings bodies) (same : SameOpening before.system.book behind.system.book)
-    (head : HeadlineOf behind.system) (whole : IsWhole behind.system) (within : AreLimits behind.system.book.limits behind.system.book.bodies behind.system.book.capacities) (fits : All Fits behind.system.book.history)
-    (limits_are : x.limits ≡ limits_of s) (stock : x.bodies ≡ length bodies) (begun : x.begins ≡ AtOpening capacities) (entries : x.entries ≡ behind.system.book.history) (ended : x.end ≡ end_of behind.system.book.state.outcome) where
-  limits_stay : x.limits ≡ behind.system.book.limits
-  limits_stay = limits_are ∙ sym (same.limits ∙ ap (λ (o : Stage). o.system.book.limits) opened)
+    (opened : before ≡ opening_stage (limits_of s) capacities readings bodies) (same : SameOpening before.core.system.book behind.core.system.book)
+    (head : Headline behind.core.system.book.run behind.core.system.book.limits behind.core.system.book.bodies behind.core.system.book.capacities behind.core.system) (within : AreLimits behind.core.system.book.limits behind.core.system.book.bodies behind.core.system.book.capacities) (fits : All Fits behind.core.system.book.history)
+    (limits_are : x.limits ≡ limits_of s) (stock : x.bodies ≡ length bodies) (begun : x.begins ≡ AtOpening capacities) (entries : x.entries ≡ behind.core.system.book.history) (ended : x.end ≡ end_of behind.core.system.book.state.outcome) where
+  limits_stay : x.limits ≡ behind.core.system.book.limits
+  limits_stay = limits_are ∙ sym (same.limits ∙ ap (λ (o : Stage). o.core.system.book.limits) opened)
 
-  bodies_stay : x.bodies ≡ behind.system.book.bodies
-  bodies_stay = stock ∙ sym (same.bodies ∙ ap (λ (o : Stage). o.system.book.bodies) opened)
+  bodies_stay : x.bodies ≡ behind.core.system.book.bodies
+  bodies_stay = stock ∙ sym (same.bodies ∙ ap (λ (o : Stage). o.core.system.book.bodies) opened)
 
-  rooms_stay : capacities ≡ behind.system.book.capacities
-  rooms_stay = sym (same.capacities ∙ ap (λ (o : Stage). o.system.book.capacities) opened)
-
-  headline : Headline behind.system.book.run behind.system.book.limits behind.system.book.bodies behind.system.book.capacities behind.system
-  headline = whole_headline behind.system head whole
+  rooms_stay : capacities ≡ behind.core.system.book.capacities
+  rooms_stay = sym (same.capacities ∙ ap (λ (o : Stage). o.core.system.book.capacities) opened)
 
   pub is_trace : IsTraceOf (limits_of s) capacities x
   is_trace = record {
     opened = limits_are;
     begun = begun;
     within = rw (limits_stay, bodies_stay, rooms_stay) within;
-    last = behind.system.book.state;
-    legal = rw (limits_stay, bodies_stay, rooms_stay, entries) headline.legal;
+    last = behind.core.system.book.state;
+    legal = rw (limits_stay, bodies_stay, rooms_stay, entries) head.legal;
     ended = ended;
   }
 
@@ -52,4 +47,4 @@ module _ (s : Settings) (capacities readings : List ℕ) (bodies : List Commands
 
   pub has_text : HasText x
   unfolding is_trace
-  has_text = legal_text x capacities behind.system.book.state begun is_trace.within (kept_whole x.limits s limits_are) is_trace.legal (rw entries fits)
+  has_text = legal_text x capacities behind.core.system.book.state begun is_trace.within (kept_whole x.limits s limits_are) is_trace.legal (rw entries fits)

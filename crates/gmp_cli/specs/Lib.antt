@@ -1,4 +1,3 @@
 pub mod Clock
 pub mod Plays
-pub mod Staged
 pub mod Step

@@ -14,8 +14,8 @@ pub record IsRunOf (s : Settings) (capacities readings : List ℕ) (bodies : Lis
   pub stock : x.bodies ≡ length bodies
   pub last : Stage
   pub played : IsPlayed s.acts s.word (opening_stage (limits_of s) capacities readings bodies) last
-  pub entries : x.entries ≡ last.system.book.history
-  pub ended : x.end ≡ end_of last.system.book.state.outcome
+  pub entries : x.entries ≡ last.core.system.book.history
+  pub ended : x.end ≡ end_of last.core.system.book.state.outcome
 
 -- What was written is the text of the trace of a legal run, which is the core's run under these bodies, and the status tells its end.
 pub record WritesRun (s : Settings) (capacities readings : List ℕ) (bodies : List Commands) (status : ℕ) (old new : Option (List ℕ)) : Type 0 where

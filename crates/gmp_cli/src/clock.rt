@@ -1,6 +1,9 @@
-//! The clock of a script's run: what it reads is given beforehand, and one clock serves all machines. Not the machine's own: the trace of a
-//! script is the same each time, and a script can show a clock that goes back.
+//! What is outside a script's run: the clock. What it reads is given beforehand, and one clock serves all machines. Not the machine's own: the
+//! trace of a script is the same each time, and a script can show a clock that goes back.
 
+use gmp_base::{Ask, Body, Woke};
+use gmp_rounds::Outside;
+use gmp_script::ScriptBody;
 use std::marker::Model;
 
 /// A clock with given readings, in nanoseconds.
@@ -26,7 +29,7 @@ impl Model for Clock {
 
 impl Clock {
     ghost use Rattle.std.specs.Prelude.{◌≡◌};
-    ghost use Rattle.gmp_cli.specs.Clock.{clock_after, reading, unread};
+    ghost use Rattle.gmp_cli.specs.Clock.{unread};
 
     /// A clock before its first reading.
     pub(crate) fn of(readings: Vec<u64>) -> Self
@@ -38,12 +41,27 @@ impl Clock {
             greatest: 0,
         }
     }
+}
+
+impl Outside<ScriptBody> for Clock {
+    ghost use Rattle.gmp_cli.specs.Plays.{AnswersCommand, AsksCommand, Reads};
+
+    ghost asks = { AsksCommand };
+
+    ghost answers = { AnswersCommand };
+
+    ghost shows = { Reads };
+
+    fn ask(&mut self, body: &mut ScriptBody, woke: Woke) -> Ask {
+        body.resume(woke)
+    }
+
+    fn number(&mut self, body: &mut ScriptBody) -> u64 {
+        body.blocking()
+    }
 
     /// The next reading that was given. Once they are spent it is the greatest so far, or the minded deadline where that is greater.
-    pub(crate) fn read(&mut self, minded: Option<u64>) -> u64
-        ensures reading { result ≡ reading self.old minded }
-        ensures clock { self.new ≡ clock_after self.old minded }
-    {
+    fn moment(&mut self, minded: Option<u64>) -> u64 {
         let reading = match self.readings.get(self.next) {
             Some(given) => {
                 self.next += 1;

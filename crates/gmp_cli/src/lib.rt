@@ -13,7 +13,6 @@
 #![tactic(auto)]
 
 mod clock;
-mod playing;
 mod stepping;
 
 pub use stepping::step;

@@ -8,8 +8,9 @@ ghost use Rattle.gmp_words.specs.Said.{is_before_writing, is_of_input, is_of_run
 ghost use Rattle.gmp_words.specs.Runs.{limits_of, IsOutOfLimits, IsWithinLimits};
 ghost use Rattle.gmp_cli.specs.Step.{WritesRun, WritesTrace};
 
-use crate::playing::Player;
+use crate::clock::Clock;
 use gmp_base::Refusal;
+use gmp_rounds::Player;
 use gmp_script::Script;
 use gmp_trace::{BeginningView, End, TraceView, write_view};
 use gmp_words::{Ended, MAX_SCRIPT, Said, Settings, script};
@@ -32,7 +33,8 @@ fn run<W: Write>(alloc: Global, settings: &Settings, script: Script, writer: &mu
     } = script;
     let limits = settings.limits();
     let count = bodies.len();
-    let mut player = match Player::open(alloc, limits, &capacities, bodies, readings) {
+    let clock = Clock::of(readings);
+    let mut player = match Player::open(alloc, limits, &capacities, bodies, clock) {
         Ok(player) => player,
         Err(Refusal::BadLimits) => return Ended::bad_limits(),
         Err(_) => return Ended::out_of_memory(),
