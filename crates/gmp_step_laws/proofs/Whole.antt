@@ -1,6 +1,9 @@
 -- Runs of the core by a script's bodies, from the opening.
-use Rattle.std.proofs.Common.{◌≡◌, ℕ, zero, suc, ◌<◌, List, [], ◌∷◌, map, length, get_or, Option, None, Some, refl, sym, ap, subst, ◌∙◌, arith}
+use Rattle.std.proofs.Common.{◌≡◌, ℕ, zero, suc, ◌<◌, List, [], ◌∷◌, map, length, get_or, set, Option, None, Some, refl, sym, ap, subst, ◌∙◌, arith}
+use Rattle.std.proofs.lemmas.List.{set-get_or}
 use Rattle.std.proofs.lemmas.List.FromFn.{length-map-range_with_len, get_or-map-range_with_len}
+use Rattle.std.proofs.lemmas.Option.{get_or_from_slice_get}
+use Rattle.std.specs.List.{slice_get, slice_set}
 use Rattle.gmp_base.specs.declared.ask.Ask.{Ask}
 use Rattle.gmp_base.specs.declared.number.GNo.{GNo}
 use Rattle.gmp_base.specs.declared.number.MNo.{MNo}
@@ -16,10 +19,12 @@ use Rattle.gmp_acts.specs.Headline.{machine_at_start, opening_system}
 use Rattle.gmp_acts.specs.System.{System, machine_at, no_machine}
 use Rattle.gmp_core.specs.declared.want.Want.{Want}
 use Rattle.gmp_core.specs.declared.want.Want.TheVariants as want
-use Rattle.gmp_core.specs.Whole.{wanted_by}
+use Rattle.gmp_core.specs.Whole.{Whole, wanted_by}
 use Rattle.gmp_script.specs.Script.{Commands}
 use Rattle.gmp_scene.specs.Reached.{IsRunOf}
-use Rattle.gmp_cli.specs.Plays.{IsDealt, IsPlayed, Plays, Stage, opening_stage}
+use Rattle.gmp_rounds.specs.Plays.{IsDealt}
+use Rattle.gmp_cli.specs.Clock.{ClockState}
+use Rattle.gmp_cli.specs.Plays.{AnswersCommand, AsksCommand, IsPlayed, Plays, Reads, Stage, opening_stage}
 use Rattle.gmp_step_laws.specs.Played.{MakesAll}
 use Rattle.gmp_step_laws.specs.Refused.{IsRunButMakes, RunsTurns}
 use Rattle.gmp_step_laws.specs.Scheduled.{ActsBy, IsUnmade, LeadsStock, NoneUnmade}
@@ -94,32 +99,38 @@ scheduled_any run limits capacities bodies moves last stock are acts =
 
 -- `step`
 
-leads_dealt : (w : Want) (s : Stage) (m : MNo) (choice : Choice) (s' : Stage) → IsDealt w s m choice s' → LeadsStock w s.system m choice.ask s.bodies s'.bodies
-leads_dealt want.Ask s m choice s' d = record { g = d.g; in_hand = d.in_hand; before = d.before; has = d.has; after = d.after; asks = d.asks; goes = d.bodies }
-leads_dealt want.Number s m choice s' d = d.bodies
-leads_dealt (want.Moment minded) s m choice s' d = d.bodies
-leads_dealt want.Nothing s m choice s' d = d.bodies
+-- a blocking call leaves its body as it was
+stays_put : (stock : List (Option Commands)) (i : ℕ) (body after : Commands) → slice_get stock i ≡ Some (Some body) → after ≡ body → slice_set stock i (Some after) ≡ stock
+stays_put stock i body after has stays =
+    ap (λ (x : Option Commands). set stock i x) (ap Some stays ∙ sym (get_or_from_slice_get stock i (Some body) (Some body) has)) ∙ set-get_or stock i (Some body)
 
-plays_follow : (limits : Limits) (capacities : List ℕ) (script : List Commands) (P : Type 0) (word n : ℕ) (s s' : Stage) → (plays : Plays word n s s') → Follows limits capacities script P s.system s.bodies
-    → Follows limits capacities script (P × MakesAll word n s s' plays) s'.system s'.bodies
+leads_dealt : (w : Want) (k : Whole Commands) (clock : ClockState) (m : MNo) (choice : Choice) (stock' : List (Option Commands)) (clock' : ClockState)
+    → IsDealt AsksCommand AnswersCommand Reads w k clock m choice stock' clock' → LeadsStock w k.system m choice.ask k.stock stock'
+leads_dealt want.Ask k clock m choice stock' clock' d = record { g = d.g; in_hand = d.in_hand; before = d.before; has = d.has; after = d.after; asks = d.asks_so.0; goes = d.stock }
+leads_dealt want.Number k clock m choice stock' clock' d = d.stock ∙ stays_put k.stock d.g.0 d.before d.after d.has d.answers_so.1
+leads_dealt (want.Moment minded) k clock m choice stock' clock' d = d.stock
+leads_dealt want.Nothing k clock m choice stock' clock' d = d.stock
+
+plays_follow : (limits : Limits) (capacities : List ℕ) (script : List Commands) (P : Type 0) (word n : ℕ) (s s' : Stage) → (plays : Plays word n s s') → Follows limits capacities script P s.core.system s.core.stock
+    → Follows limits capacities script (P × MakesAll word n s s' plays) s'.core.system s'.core.stock
 plays_follow limits capacities script P word zero s s' plays f =
-    kept limits capacities script P (P × Unit {0}) (λ q. q.0) s.system s'.system s.bodies s'.bodies (ap (λ (x : Stage). x.system) plays) (ap (λ (x : Stage). x.bodies) plays) f
+    kept limits capacities script P (P × Unit {0}) (λ q. q.0) s.core.system s'.core.system s.core.stock s'.core.stock (ap (λ (x : Stage). x.core.system) plays) (ap (λ (x : Stage). x.core.stock) plays) f
 plays_follow limits capacities script P word (suc n) s s' plays f =
     let before = plays_follow limits capacities script P word n s plays.0 plays.1 f in
-    let one = act_follows limits capacities script (P × MakesAll word n s plays.0 plays.1) plays.0.system plays.0.bodies plays.2.m plays.2.choice s'.system s'.bodies plays.2.acts
-    (leads_dealt (wanted_by (next_act (machine_at plays.0.system plays.2.m))) plays.0 plays.2.m plays.2.choice s' plays.2.deals) before in
-    kept limits capacities script ((P × MakesAll word n s plays.0 plays.1) × (¬ (IsUnmade plays.0.system plays.2.m s'.system))) (P × MakesAll word (suc n) s s' plays) (λ q. ((q.0, q.1.0), q.1.1))
-    s'.system s'.system s'.bodies s'.bodies refl refl one
+    let one = act_follows limits capacities script (P × MakesAll word n s plays.0 plays.1) plays.0.core.system plays.0.core.stock plays.2.m plays.2.choice s'.core.system s'.core.stock plays.2.acts
+    (leads_dealt (wanted_by (next_act (machine_at plays.0.core.system plays.2.m))) plays.0.core plays.0.outside plays.2.m plays.2.choice s'.core.stock s'.outside plays.2.deals) before in
+    kept limits capacities script ((P × MakesAll word n s plays.0 plays.1) × (¬ (IsUnmade plays.0.core.system plays.2.m s'.core.system))) (P × MakesAll word (suc n) s s' plays) (λ q. ((q.0, q.1.0), q.1.1))
+    s'.core.system s'.core.system s'.core.stock s'.core.stock refl refl one
 
 pub step_whole : (acts word : ℕ) (limits : Limits) (capacities readings : List ℕ) (bodies : List Commands) (last : Stage) → AreLimits limits (length bodies) capacities
     → (played : IsPlayed acts word (opening_stage limits capacities readings bodies) last) → MakesAll word played.made (opening_stage limits capacities readings bodies) last played.plays
-    → (after : List Commands) × IsRunOf limits capacities bodies last.system.book.history last.system.book.state after
+    → (after : List Commands) × IsRunOf limits capacities bodies last.core.system.book.history last.core.system.book.state after
 step_whole acts word limits capacities readings bodies last are played all =
-    whole_of limits capacities bodies _ last.system last.bodies
+    whole_of limits capacities bodies _ last.core.system last.core.stock
     (plays_follow limits capacities bodies (Unit {0}) word played.made (opening_stage limits capacities readings bodies) last played.plays (opening_follows 0 limits capacities bodies are)) (tt, all)
 
 pub step_any : (acts word : ℕ) (limits : Limits) (capacities readings : List ℕ) (bodies : List Commands) (last : Stage) → AreLimits limits (length bodies) capacities
-    → IsPlayed acts word (opening_stage limits capacities readings bodies) last → (after : List Commands) × IsRunButMakes limits capacities bodies last.system.book.history last.system.book.state after
+    → IsPlayed acts word (opening_stage limits capacities readings bodies) last → (after : List Commands) × IsRunButMakes limits capacities bodies last.core.system.book.history last.core.system.book.state after
 step_any acts word limits capacities readings bodies last are played =
-    any_of limits capacities bodies _ last.system last.bodies
+    any_of limits capacities bodies _ last.core.system last.core.stock
     (plays_follow limits capacities bodies (Unit {0}) word played.made (opening_stage limits capacities readings bodies) last played.plays (opening_follows 0 limits capacities bodies are))

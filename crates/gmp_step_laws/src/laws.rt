@@ -20,10 +20,10 @@ ghost use Rattle.gmp_step_laws.specs.Scheduled.{ActsBy, NoneUnmade};
 pub fn step_plays_the_script()
     ensures whole { (acts word : ℕ) (limits : Limits) (capacities readings : List ℕ) (bodies : List Commands) (last : Stage) → AreLimits limits (length bodies) capacities
         → (played : IsPlayed acts word (opening_stage limits capacities readings bodies) last) → MakesAll word played.made (opening_stage limits capacities readings bodies) last played.plays
-        → (after : List Commands) × IsRunOf limits capacities bodies last.system.book.history last.system.book.state after }
+        → (after : List Commands) × IsRunOf limits capacities bodies last.core.system.book.history last.core.system.book.state after }
     ensures any { (acts word : ℕ) (limits : Limits) (capacities readings : List ℕ) (bodies : List Commands) (last : Stage) → AreLimits limits (length bodies) capacities
         → IsPlayed acts word (opening_stage limits capacities readings bodies) last
-        → (after : List Commands) × IsRunButMakes limits capacities bodies last.system.book.history last.system.book.state after }
+        → (after : List Commands) × IsRunButMakes limits capacities bodies last.core.system.book.history last.core.system.book.state after }
 {}
 
 /// The same of the core under any scheduling: whichever machines act, in any order, with any choices but that a body that is resumed asks
