@@ -51,7 +51,7 @@ pub enum Short {
     OutOfMemory,
     #[error("its limits, its bodies or its channels are out of range")]
     BadLimits,
-    #[error("it has no end after so many rounds")]
+    #[error("it has no end after so many acts")]
     NoEnd,
     #[error("a log disagrees with the history")]
     Mismatch,

@@ -179,7 +179,7 @@ impl Host {
             ..
         } = self;
         let limits = settings.limits();
-        let ended = play_all(alloc, limits, capacities.as_slice(), bodies, &shown)?;
+        let ended = play_all(alloc, limits, capacities.as_slice(), bodies, shown)?;
         Ok(Ended {
             lost: first(&loss),
             ..ended
