@@ -121,73 +121,80 @@ fn is_refused(said: &Result<Settings, Ended>, status: u8) -> bool {
     }
 }
 
+/// Command lines that are refused with status 64.
+const REFUSED: &str = "gmp step --procs 33
+gmp step --machines 0
+gmp step --channels 1025
+gmp step --entries 15
+gmp step --acts 0
+gmp step --acts 1000000001
+gmp step --procs 1 --procs 1
+gmp step --procs +1
+gmp step --procs
+gmp step --procs=
+gmp step --word=18446744073709551616
+gmp step --words 1
+gmp step extra
+gmp step --random 1
+gmp step --trace
+gmp step --scripted
+gmp check --procs 1
+gmp check extra
+gmp join --at 1
+gmp join extra
+gmp cut --at
+gmp cut --at -1
+gmp cut --at 18446744073709551616
+gmp cut --procs 1
+gmp run --machines 65
+gmp run --trace=1
+gmp run extra
+gmp run --word 1
+gmp run --acts 1
+gmp run --entries 1000001
+gmp run --room 16
+gmp run --segments
+gmp run --segments=
+gmp run --segments d --trace
+gmp run --scripted --segments d
+gmp run --segments d --segments d
+gmp run --segments d --room 15
+gmp run --segments d --room 1000001
+gmp run --segments d --entries 15
+gmp run --segments d --entries 9223372036854775808
+gmp step --segments d
+gmp explore --states 0
+gmp explore --states 100000001
+gmp explore --procs 0
+gmp explore --want
+gmp explore --want=
+gmp explore --want no-race
+gmp explore --want no-fault,,no-leak
+gmp explore --want no-fault --want no-leak
+gmp explore --machines 1
+gmp explore extra
+gmp
+gmp step --version
+";
+
+/// Command lines that ask for help, or for the version.
+const ASKING: &str = "gmp check --help
+gmp join --help
+gmp cut --help
+gmp run --help
+gmp explore --help
+gmp --help
+gmp --version
+gmp step --help
+";
+
 #[test]
 fn bad_lines_are_refused(rt: HostRuntime) -> Result<(), Fail> {
-    for (line, status) in [
-        ("gmp step --procs 33", 64),
-        ("gmp step --machines 0", 64),
-        ("gmp step --channels 1025", 64),
-        ("gmp step --entries 15", 64),
-        ("gmp step --acts 0", 64),
-        ("gmp step --acts 1000000001", 64),
-        ("gmp step --procs 1 --procs 1", 64),
-        ("gmp step --procs +1", 64),
-        ("gmp step --procs", 64),
-        ("gmp step --procs=", 64),
-        ("gmp step --word=18446744073709551616", 64),
-        ("gmp step --words 1", 64),
-        ("gmp step extra", 64),
-        ("gmp step --random 1", 64),
-        ("gmp step --trace", 64),
-        ("gmp step --scripted", 64),
-        ("gmp check --procs 1", 64),
-        ("gmp check extra", 64),
-        ("gmp check --help", 0),
-        ("gmp join --at 1", 64),
-        ("gmp join extra", 64),
-        ("gmp join --help", 0),
-        ("gmp cut --at", 64),
-        ("gmp cut --at -1", 64),
-        ("gmp cut --at 18446744073709551616", 64),
-        ("gmp cut --procs 1", 64),
-        ("gmp cut --help", 0),
-        ("gmp run --machines 65", 64),
-        ("gmp run --trace=1", 64),
-        ("gmp run extra", 64),
-        ("gmp run --word 1", 64),
-        ("gmp run --acts 1", 64),
-        ("gmp run --entries 1000001", 64),
-        ("gmp run --room 16", 64),
-        ("gmp run --segments", 64),
-        ("gmp run --segments=", 64),
-        ("gmp run --segments d --trace", 64),
-        ("gmp run --scripted --segments d", 64),
-        ("gmp run --segments d --segments d", 64),
-        ("gmp run --segments d --room 15", 64),
-        ("gmp run --segments d --room 1000001", 64),
-        ("gmp run --segments d --entries 15", 64),
-        ("gmp run --segments d --entries 9223372036854775808", 64),
-        ("gmp step --segments d", 64),
-        ("gmp run --help", 0),
-        ("gmp explore --states 0", 64),
-        ("gmp explore --states 100000001", 64),
-        ("gmp explore --procs 0", 64),
-        ("gmp explore --want", 64),
-        ("gmp explore --want=", 64),
-        ("gmp explore --want no-race", 64),
-        ("gmp explore --want no-fault,,no-leak", 64),
-        ("gmp explore --want no-fault --want no-leak", 64),
-        ("gmp explore --machines 1", 64),
-        ("gmp explore extra", 64),
-        ("gmp explore --help", 0),
-        ("gmp", 64),
-        ("gmp --help", 0),
-        ("gmp --version", 0),
-        ("gmp step --version", 64),
-        ("gmp step --help", 0),
-    ] {
-        let said = read(rt.alloc(), line)?;
-        assert!(rt; is_refused(&said, status), "{line}");
+    for (lines, status) in [(REFUSED, 64), (ASKING, 0)] {
+        for line in lines.lines() {
+            let said = read(rt.alloc(), line)?;
+            assert!(rt; is_refused(&said, status), "{line}");
+        }
     }
     Ok(())
 }
