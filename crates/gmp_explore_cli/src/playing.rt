@@ -1,7 +1,8 @@
 //! A run of the scheduler that follows choices: `Player` has each goroutine ask when its choice comes, and not before, so nobody waits
 //! between two choices. A goroutine that is between two asks keeps its machine.
 
-ghost use Rattle.std.specs.Prelude.{IfOk, length};
+ghost use Rattle.std.specs.Prelude.{IfOk, OnOk, length};
+ghost use Rattle.gmp_seq.specs.Fits.{AreLimits};
 ghost use Rattle.gmp_explore_cli.specs.Played.{IsOpened, Keeps};
 
 use crate::asking::Asking;
@@ -36,25 +37,33 @@ pub(crate) struct Player<'a> {
 }
 
 impl<'a> Player<'a> {
-    /// A run in which each machine holds a processor, and main is ready.
+    /// A run that has made no call.
     pub(crate) fn open(
         alloc: Global,
         limits: Limits,
         script: &'a [ScriptBody],
         capacities: &[u32],
     ) -> Result<Self, Unplayed>
-        ensures { IfOk result (λ p. IsOpened limits (length script.now) capacities.now p.stage.journal) }
+        ensures opened { IfOk result (λ p. IsOpened limits (length script.now) capacities.now p.stage.journal) }
+        ensures within { OnOk result (AreLimits limits (length script.now) capacities.now) }
     {
-        let mut player = Player {
-            stage: Stage::open(alloc, limits, script.len(), capacities)?,
+        let does = vec![in alloc; Does::Nothing; script.len()]?;
+        let stage = Stage::open(alloc, limits, script.len(), capacities)?;
+        Ok(Player {
+            stage,
             script,
-            does: vec![in alloc; Does::Nothing; script.len()]?,
-        };
-        for m in 0..limits.machines {
-            expect(player.acquires(MNo(m))?)?;
+            does,
+        })
+    }
+
+    /// Each of so many machines takes a processor, and the first one the ticket of main.
+    pub(crate) fn begin(&mut self, machines: u8) -> Result<(), Unplayed>
+        ensures { Keeps self.old.stage.journal self.new.stage.journal }
+    {
+        for m in 0..machines {
+            expect(self.acquires(MNo(m))?)?;
         }
-        player.take(MNo(0))?;
-        Ok(player)
+        self.take(MNo(0))
     }
 
     /// What the goroutine asks next in the scene.

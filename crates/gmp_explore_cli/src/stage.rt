@@ -1,8 +1,9 @@
 //! A run of the scheduler whose calls are made one by one, each by any machine. A journal keeps it; beside it stands what the machines have.
 
-ghost use Rattle.std.specs.Prelude.{◌≡◌, IfOk, true};
+ghost use Rattle.std.specs.Prelude.{◌≡◌, IfOk, OnOk, true};
 ghost use Rattle.gmp_journal.specs.Grants.{Suits};
 ghost use Rattle.gmp_journal.specs.Segments.{IsPart};
+ghost use Rattle.gmp_seq.specs.Fits.{AreLimits};
 ghost use Rattle.gmp_explore_cli.specs.Played.{EndInFault, HasComeTo, IsOpened, Keeps};
 
 use crate::unplayed::{ASTRAY, Unplayed};
@@ -98,7 +99,8 @@ impl Stage {
         bodies: usize,
         capacities: &[u32],
     ) -> Result<Self, Unplayed>
-        ensures { IfOk result (λ s. IsOpened limits bodies capacities.now s.journal) }
+        ensures opened { IfOk result (λ s. IsOpened limits bodies capacities.now s.journal) }
+        ensures within { OnOk result (AreLimits limits bodies capacities.now) }
     {
         if !limits.allow(bodies, capacities) {
             return Err(ASTRAY);

@@ -133,6 +133,15 @@ impl<'a> Teller<'a> {
         }
     }
 
+    /// The choices of the path, from scene to scene.
+    fn put_path(&mut self, scene: &mut Scene, path: &[Move]) -> Result<(), AllocError> {
+        for (i, what) in path.iter().enumerate() {
+            self.put_choice(scene, i.wrapping_add(1), *what)?;
+            scene.make(self.script, self.bounds.channels, *what)?;
+        }
+        Ok(())
+    }
+
     /// What stands at the end of the path.
     fn put_end(&mut self, scene: &Scene, badness: Badness) -> Result<(), AllocError> {
         match badness {
@@ -165,10 +174,7 @@ pub(crate) fn told(
         lines: Lines::new(alloc),
     };
     teller.lines.put(&Heading(badness, path.len(), size))?;
-    for (i, what) in path.iter().enumerate() {
-        teller.put_choice(&scene, i.wrapping_add(1), *what)?;
-        scene.make(bodies, bounds.channels, *what)?;
-    }
+    teller.put_path(&mut scene, path)?;
     teller.put_end(&scene, badness)?;
     Ok(teller.lines.text())
 }

@@ -1,8 +1,12 @@
 //! The trace of a run that follows the path to what was found.
 
-ghost use Rattle.std.specs.Prelude.{◌≡◌, IfOk, length, true};
+ghost use Rattle.std.specs.Prelude.{◌≡◌, ◌≤◌, List, OnOk, length, true};
 ghost use Rattle.gmp_explore.specs.Fresh.{AreFresh};
-ghost use Rattle.gmp_explore_cli.specs.Played.{IsOpened, Keeps, WritesPlayed, is_of_trace};
+ghost use Rattle.gmp_explore_cli.specs.Played.{HasComeTo, IsOpened, Keeps, WritesPlayed, is_of_trace};
+ghost use Rattle.gmp_scene.specs.Reached.{IsRunOf};
+ghost use Rattle.gmp_script.specs.Script.{Commands};
+ghost use Rattle.gmp_seq.specs.Fits.{AreLimits};
+ghost use Rattle.gmp_seq.specs.State.{State};
 ghost use Rattle.gmp_trace.specs.Pieces.{is_whole};
 ghost use Rattle.gmp_words.specs.Runs.{status_of_verdict};
 ghost use Rattle.gmp_words.specs.Said.{is_before_writing};
@@ -10,14 +14,14 @@ ghost use Rattle.gmp_words.specs.declared.said.Said.TheVariants.{Nothing};
 
 use crate::playing::Player;
 use crate::reading::Bounds;
-use crate::unplayed::{ASTRAY, Unplayed};
-use gmp_check::OpenError;
+use crate::stage::Stage;
+use crate::unplayed::{Unplayed, expect};
 use gmp_explore::Scene;
 use gmp_follow::follows;
 use gmp_scene::Move;
 use gmp_script::Script;
 use gmp_seq::{LEAST_ROOM, Limits};
-use gmp_trace::{BeginningView, End, TraceView, write_view};
+use gmp_trace::{BeginningView, End, TraceView, WriteError, write_view};
 use gmp_words::{Ended, MOST_ENTRIES, Verdict};
 use std::alloc::Global;
 use std::io::Write;
@@ -25,22 +29,27 @@ use std::io::Write;
 /// A choice, or a goroutine that asks behind the last one, has no more entries.
 const ENTRIES_EACH: usize = 8;
 
+/// Room for all entries of so many choices.
+fn room_for(bodies: usize, procs: u8, choices: usize) -> u32 {
+    let turns = choices.saturating_add(bodies);
+    turns
+        .saturating_mul(ENTRIES_EACH)
+        .saturating_add(usize::from(procs))
+        .saturating_add(LEAST_ROOM as usize)
+        .min(MOST_ENTRIES as usize) as u32
+}
+
 /// The limits of the run: a machine for each processor, and room for all entries.
 fn limits_for(bodies: usize, bounds: Bounds, choices: usize) -> Limits
     ensures { is_whole result ≡ true }
 {
-    let turns = choices.saturating_add(bodies);
-    let entries = turns
-        .saturating_mul(ENTRIES_EACH)
-        .saturating_add(usize::from(bounds.procs))
-        .saturating_add(LEAST_ROOM as usize)
-        .min(MOST_ENTRIES as usize) as u32;
+    let room = room_for(bodies, bounds.procs, choices);
     Limits {
         procs: bounds.procs,
         machines: bounds.procs,
         channels: bounds.channels,
-        entries: u64::from(entries),
-        room: entries,
+        entries: u64::from(room),
+        room,
     }
 }
 
@@ -79,36 +88,141 @@ fn end<'a>(
     }
 }
 
-/// A run that follows the path, and goes on so that it shows what was found.
-fn played<'a>(
+/// Makes all choices of the path, from scene to scene.
+fn walk<'a>(
+    alloc: Global,
+    script: &'a Script,
+    bounds: Bounds,
+    found: Verdict,
+    path: &[Move],
+    scene: &mut Scene,
+    player: &mut Player<'a>,
+) -> Result<(), Unplayed>
+    ensures { Keeps player.old.stage.journal player.new.stage.journal }
+{
+    for (i, what) in path.iter().enumerate() {
+        // Main's exit comes last.
+        let is_leaving = found == Verdict::Leak && i.wrapping_add(1) == path.len();
+        choose(alloc, script, bounds, is_leaving, scene, *what, player)?;
+        scene.make(&script.bodies, bounds.channels, *what)?;
+    }
+    Ok(())
+}
+
+/// Follows the path, and goes on so that the run shows what was found.
+fn lead<'a>(
+    alloc: Global,
+    script: &'a Script,
+    bounds: Bounds,
+    found: Verdict,
+    path: &[Move],
+    player: &mut Player<'a>,
+) -> Result<(), Unplayed>
+    requires { length script.now.bodies.items ≤ 65536 }
+    ensures { Keeps player.old.stage.journal player.new.stage.journal }
+{
+    let mut scene = Scene::opening(alloc, &script.bodies, &script.capacities)?;
+    walk(alloc, script, bounds, found, path, &mut scene, player)?;
+    end(script, bounds, found, &scene, player)
+}
+
+/// The run has come to what was found, and is known to be one of the script.
+fn is_shown(
+    alloc: Global,
+    limits: Limits,
+    script: &Script,
+    found: Verdict,
+    stage: &Stage,
+) -> Result<(), Unplayed>
+    requires { AreFresh script.now.bodies.items }
+    ensures come { OnOk result (HasComeTo found stage.now.journal.history stage.now.journal.state) }
+    ensures runs { OnOk result ((s : State) × (after : List Commands)
+        × IsRunOf limits script.now.capacities.items script.now.bodies.items stage.now.journal.history s after) }
+{
+    expect(stage.shows(found))?;
+    let entries = stage.history();
+    let is_one = follows(alloc, limits, &script.bodies, &script.capacities, entries)?;
+    expect(is_one)
+}
+
+/// Makes the run one that follows the path and shows what was found.
+fn show<'a>(
     alloc: Global,
     limits: Limits,
     script: &'a Script,
     bounds: Bounds,
     found: Verdict,
     path: &[Move],
-) -> Result<Player<'a>, Unplayed>
-    ensures { IfOk result (λ p. IsOpened limits (length script.now.bodies.items) script.now.capacities.items p.stage.journal) }
+    player: &mut Player<'a>,
+) -> Result<(), Unplayed>
+    requires fresh { AreFresh script.now.bodies.items }
+    requires few { length script.now.bodies.items ≤ 65536 }
+    ensures keeps { Keeps player.old.stage.journal player.new.stage.journal }
+    ensures come { OnOk result (HasComeTo found player.new.stage.journal.history player.new.stage.journal.state) }
+    ensures runs { OnOk result ((s : State) × (after : List Commands)
+        × IsRunOf limits script.now.capacities.items script.now.bodies.items player.new.stage.journal.history s after) }
 {
-    let bodies = script.bodies.as_slice();
-    let mut player = Player::open(alloc, limits, bodies, &script.capacities)?;
-    let mut scene = Scene::opening(alloc, bodies, &script.capacities)?;
-    for (i, what) in path.iter().enumerate() {
-        // Main's exit comes last.
-        let is_leaving = found == Verdict::Leak && i.wrapping_add(1) == path.len();
-        choose(
-            alloc,
-            script,
-            bounds,
-            is_leaving,
-            &scene,
-            *what,
-            &mut player,
-        )?;
-        scene.make(bodies, bounds.channels, *what)?;
+    player.begin(limits.machines)?;
+    lead(alloc, script, bounds, found, path, player)?;
+    is_shown(alloc, limits, script, found, &player.stage)
+}
+
+/// Writes the trace of such a run.
+fn write_run<W: Write>(
+    alloc: Global,
+    limits: Limits,
+    script: &Script,
+    found: Verdict,
+    stage: &Stage,
+    writer: &mut W,
+) -> Result<(), WriteError>
+    requires whole { is_whole limits ≡ true }
+    requires opened { IsOpened limits (length script.now.bodies.items) script.now.capacities.items stage.now.journal }
+    requires within { AreLimits limits (length script.now.bodies.items) script.now.capacities.items }
+    requires come { HasComeTo found stage.now.journal.history stage.now.journal.state }
+    requires runs { (s : State) × (after : List Commands)
+        × IsRunOf limits script.now.capacities.items script.now.bodies.items stage.now.journal.history s after }
+    ensures { OnOk result
+        (WritesPlayed script.now.capacities.items script.now.bodies.items found (W.contents writer.old) (W.contents writer.new)) }
+{
+    let trace = TraceView {
+        limits,
+        bodies: script.bodies.len() as u16,
+        beginning: BeginningView::Opening(&script.capacities),
+        entries: stage.history(),
+        end: End::of(stage.outcome()),
+    };
+    write_view(alloc, trace, writer)
+}
+
+/// Has the run follow the path, and writes its trace.
+fn write_shown<'a, W: Write>(
+    alloc: Global,
+    limits: Limits,
+    script: &'a Script,
+    bounds: Bounds,
+    found: Verdict,
+    path: &[Move],
+    player: &mut Player<'a>,
+    writer: &mut W,
+) -> Ended
+    requires fresh { AreFresh script.now.bodies.items }
+    requires whole { is_whole limits ≡ true }
+    requires opened { IsOpened limits (length script.now.bodies.items) script.now.capacities.items player.old.stage.journal }
+    requires within { AreLimits limits (length script.now.bodies.items) script.now.capacities.items }
+    ensures traced { result.said ≡ Nothing
+        → WritesPlayed script.now.capacities.items script.now.bodies.items found (W.contents writer.old) (W.contents writer.new) }
+    ensures status { result.said ≡ Nothing → result.status ≡ status_of_verdict found }
+    ensures kinds { is_of_trace result.said ≡ true }
+    ensures quiet { is_before_writing result.said ≡ true → W.contents writer.new ≡ W.contents writer.old }
+{
+    if let Err(why) = show(alloc, limits, script, bounds, found, path, player) {
+        return why.ended();
     }
-    end(script, bounds, found, &scene, &mut player)?;
-    Ok(player)
+    match write_run(alloc, limits, script, found, &player.stage, writer) {
+        Ok(()) => Ended::found(found),
+        Err(error) => Ended::from(error),
+    }
 }
 
 /// Writes the trace of a run that follows the path to what was found.
@@ -128,29 +242,17 @@ pub(crate) fn traced<W: Write>(
     ensures quiet { is_before_writing result.said ≡ true → W.contents writer.new ≡ W.contents writer.old }
 {
     let limits = limits_for(script.bodies.len(), bounds, path.len());
-    let player = match played(alloc, limits, script, bounds, found, path) {
-        Ok(player) => player,
-        Err(why) => return why.ended(),
-    };
-    if !player.stage.shows(found) {
-        return ASTRAY.ended();
-    }
-    let entries = player.stage.history();
-    // So it is known that the run is one of the script.
-    match follows(alloc, limits, &script.bodies, &script.capacities, entries) {
-        Ok(true) => {}
-        Ok(false) | Err(OpenError::BadLimits) => return ASTRAY.ended(),
-        Err(OpenError::OutOfMemory) => return Ended::out_of_memory(),
-    }
-    let trace = TraceView {
-        limits,
-        bodies: script.bodies.len() as u16,
-        beginning: BeginningView::Opening(&script.capacities),
-        entries,
-        end: End::of(player.stage.outcome()),
-    };
-    match write_view(alloc, trace, writer) {
-        Ok(()) => Ended::found(found),
-        Err(error) => Ended::from(error),
+    match Player::open(alloc, limits, &script.bodies, &script.capacities) {
+        Ok(mut player) => write_shown(
+            alloc,
+            limits,
+            script,
+            bounds,
+            found,
+            path,
+            &mut player,
+            writer,
+        ),
+        Err(why) => why.ended(),
     }
 }

@@ -1,5 +1,8 @@
 //! Why a run does not follow what was found.
 
+ghost use Rattle.std.specs.Prelude.{◌≡◌, OnOk, true};
+
+use gmp_check::OpenError;
 use gmp_words::{Ended, Untraced};
 use std::alloc::AllocError;
 
@@ -20,8 +23,19 @@ impl From<AllocError> for Unplayed {
     }
 }
 
+impl From<OpenError> for Unplayed {
+    fn from(error: OpenError) -> Unplayed {
+        match error {
+            OpenError::BadLimits => ASTRAY,
+            OpenError::OutOfMemory => Unplayed::OutOfMemory,
+        }
+    }
+}
+
 /// It is as what was found says, or the run is astray.
-pub(crate) fn expect(is_so: bool) -> Result<(), Unplayed> {
+pub(crate) fn expect(is_so: bool) -> Result<(), Unplayed>
+    ensures { OnOk result (is_so ≡ true) }
+{
     if is_so { Ok(()) } else { Err(ASTRAY) }
 }
 
