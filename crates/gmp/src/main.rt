@@ -94,7 +94,7 @@ fn main(rt: HostRuntime) -> ExitCode {
                     );
                     ran.ended
                 }
-                // There is no such line: it has segments where it names a folder.
+                // There is no such line: one has segments only where it names a folder.
                 (Some(_), None) => Ended::output_failed(),
             },
             Task::Check => check(

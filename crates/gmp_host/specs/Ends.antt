@@ -18,8 +18,8 @@ pub record IsOfLegalRun (limits : Limits) (capacities : List ℕ) (bodies : ℕ)
   pub entries : length history ≡ ended.entries
   pub within : AreLimits limits bodies capacities
 
--- The sink took these pieces, and nothing more. In order they are a legal run, from the opening under these limits, with these capacities and so
--- many bodies, that has this outcome and as many entries.
+-- The sink took these pieces, none of which has more entries than there is room for, and nothing more. In order they are a legal run, from the
+-- opening under these limits, with these capacities and so many bodies, that has this outcome and as many entries.
 pub record IsOfPieces {S : Type 0} (takes : S → List Entry → S → Type 0) (limits : Limits) (capacities : List ℕ) (bodies : ℕ) (began : S) (ended : Ended) (sink : S) : Type 0 where
   pub pieces : List (List Entry)
   pub taken : TakesAll takes began pieces sink
@@ -35,8 +35,8 @@ abbrev pub TakesLeft : {S : Type 0} → (S → List Entry → S → Type 0) → 
 TakesLeft takes old [] new = new ≡ old
 TakesLeft takes old (entry ∷ entries) new = takes old (entry ∷ entries) new
 
--- The sink took these pieces and then stopped the run, since it refused what is left: in order, and with that, they are a legal run, from the
--- opening under these limits, with these capacities and so many bodies.
+-- The sink took these pieces and then stopped the run, since it refused what is left, which has no more entries either: in order, and with
+-- that, they are a legal run, from the opening under these limits, with these capacities and so many bodies.
 pub record StopsPieces {S : Type 0} (takes refuses : S → List Entry → S → Type 0) (limits : Limits) (capacities : List ℕ) (bodies : ℕ) (began : S) (sink : S) : Type 0 where
   pub pieces : List (List Entry)
   pub left : List Entry

@@ -14,7 +14,7 @@ use crate::note::{Note, Time};
 use crate::settings::Settings;
 use crate::spawner::{Outputs, Spawner, Task};
 use crate::stamps::Stamps;
-use crate::table::play_all;
+use crate::stepping::play_all;
 use gmp_base::{CNo, GNo};
 use gmp_history::History;
 use gmp_run::{Clock, Gate, Open, Sink, Stop, run, run_into};

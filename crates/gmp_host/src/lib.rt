@@ -22,7 +22,7 @@ mod select;
 mod settings;
 mod spawner;
 mod stamps;
-mod table;
+mod stepping;
 
 pub use channel::Channel;
 pub use clock::Since;

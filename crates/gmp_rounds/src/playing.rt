@@ -1,4 +1,5 @@
-//! A run in turn over a core.
+//! A run in turn over a core. Not in an order that is drawn or written down, and not by a machine that acts until it has nothing to do: in
+//! this one machines come between one another's acts.
 ghost use Rattle.std.specs.Prelude.{◌≡◌, ◌<◌, ◌⊎◌, ◌↔◌, All, IfErr, IfOk, IfSome, IsTrue, None, OnOk, length};
 ghost use Rattle.gmp_base.specs.declared.refusal.Refusal.TheVariants.{BadLimits, OutOfMemory};
 ghost use Rattle.gmp_seq.specs.Fits.{AreLimits, Fits};

@@ -1,13 +1,21 @@
 -- What is held against the script where that is asked for.
-use Rattle.std.specs.Prelude.{if◌then◌else◌, option_map}
+use Rattle.std.specs.Prelude.{IsSomeAnd, if◌then◌else◌, option_map}
 use Rattle.std.specs.Borrow.{Bor}
-use Rattle.std.proofs.Common.{◌≡◌, ℕ, Bool, true, false, List, Option, None, Some, IfSome, Result, Ok, Err, IfOk, sym, subst}
+use Rattle.std.proofs.Common.{◌≡◌, ℕ, Bool, true, false, List, [], Option, None, Some, IfSome, Result, Ok, Err, IfOk, IfErr, ◌⊎◌, inl, inr, length, refl, sym, ap, ◌∙◌, subst}
+use Rattle.gmp_base.specs.declared.refusal.Refusal.{Refusal}
+use Rattle.gmp_base.specs.declared.refusal.Refusal.TheVariants as refusal
+use Rattle.gmp_seq.specs.Fits.{AreLimits}
+use Rattle.gmp_run.specs.Reports.{IsRunReport, WhyUnrun}
+use Rattle.gmp_turn.specs.Whole.{IsWholeRun}
+use Rattle.gmp_words.specs.declared.options.Settings.{Settings}
+use Rattle.gmp_words.specs.Runs.{limits_of}
+use Rattle.gmp_run_cli.proofs.Written.{two_ways}
 use Rattle.gmp_run.specs.declared.ending.Report.{Report}
 use Rattle.gmp_run.specs.declared.ending.Unrun.{Unrun}
 use Rattle.gmp_script.specs.Script.{Commands}
 use Rattle.gmp_words.specs.declared.said.Said.{Said}
-use Rattle.gmp_words.specs.declared.said.Said.TheVariants.{Nothing}
-use Rattle.gmp_run_cli.specs.Told.{IsOfScript}
+use Rattle.gmp_words.specs.declared.said.Said.TheVariants.{BadLimits, NoRun, Nothing, OutOfMemory}
+use Rattle.gmp_run_cli.specs.Told.{IsOfScript, said_of_unrun}
 
 module _ {X : Type 0} (script : List X) (P : List X → Type 0) where
   the_same : (now : List X) (scripted : Bool) → Some now ≡ (if scripted then Some script else None) → now ≡ script
@@ -38,3 +46,25 @@ pub of_script_where : {T : Type 0} (scripted : Bool) (capacities : List ℕ) (sc
 of_script_where scripted capacities script lent said (Ok r) are held on =
     λ nothing. of_script script (λ (b : List Commands). IsOfScript r.limits capacities b r.history.list) scripted lent are on (held nothing)
 of_script_where scripted capacities script lent said (Err u) are held on = tt
+
+is_asked : {X : Type 0} (script : List X) (P : Bor (List X) → Type 0) (scripted : Bool) (lent : Option (Bor (List X))) → option_map (λ (s : Bor (List X)). s.now) lent ≡ (if scripted then Some script else None)
+    → IsSomeAnd lent P → scripted ≡ true
+is_asked script P true lent e some = refl
+is_asked script P false None e some = absurd some
+is_asked script P false (Some s) e some = cc
+
+begun : (why : Refusal) → (why ≡ refusal.BadLimits) ⊎ (why ≡ refusal.OutOfMemory) → said_of_unrun why ≡ NoRun → ⊥
+begun why (inl e) n = let told : BadLimits ≡ NoRun = ap said_of_unrun (sym e) ∙ n in cc
+begun why (inr e) n = let told : OutOfMemory ≡ NoRun = ap said_of_unrun (sym e) ∙ n in cc
+
+-- that it is none of the script is said where that is asked, of a run within its limits
+pub none_where : {T : Type 0} (s : Settings) (capacities : List ℕ) (boxes : ℕ) (script : List Commands) (lent : Option (Bor (List Commands))) (said : Said) (ran : Result (Report T) (Unrun T)) → boxes ≡ length script
+    → option_map (λ (b : Bor (List Commands)). b.now) lent ≡ (if s.scripted then Some script else None)
+    → IfOk ran (IsRunReport (limits_of s) capacities boxes []) → IfErr ran (λ (u : Unrun T). WhyUnrun (IsWholeRun (limits_of s) boxes capacities) u.why)
+    → IfErr ran (λ (u : Unrun T). said ≡ said_of_unrun u.why)
+    → IfOk ran (λ (r : Report T). said ≡ NoRun → IsSomeAnd lent (λ (b : Bor (List Commands)). IsOfScript r.limits capacities b.now r.history.list → ⊥)) → said ≡ NoRun
+    → (s.scripted ≡ true) × AreLimits (limits_of s) (length script) capacities
+none_where s capacities boxes script lent said (Ok r) counted are report why unrun none is =
+    (is_asked script (λ (b : Bor (List Commands)). IsOfScript r.limits capacities b.now r.history.list → ⊥) s.scripted lent are (none is), subst (λ (n : ℕ). AreLimits (limits_of s) n capacities) counted report.within)
+none_where s capacities boxes script lent said (Err u) counted are report why unrun none is =
+    absurd (begun u.why (two_ways (IsWholeRun (limits_of s) boxes capacities) u.why why) (sym unrun ∙ is))

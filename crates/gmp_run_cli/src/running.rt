@@ -1,9 +1,9 @@
 //! One run of a script in threads. The script's readings of the clock are passed over: a thread's clock is the machine's.
 
-ghost use Rattle.std.specs.Prelude.{◌≡◌, ◌<◌, ◌≤◌, ℕ, true, false, All, None, Some, if◌then◌else◌, length, option_map, IfOk, IfSome};
+ghost use Rattle.std.specs.Prelude.{◌≡◌, ◌≢◌, ◌<◌, ◌≤◌, ℕ, true, false, All, None, Some, if◌then◌else◌, length, option_map, IfOk, IfSome};
 ghost use Rattle.gmp_script.specs.Lines.{lines, IsFirstBadLine};
-ghost use Rattle.gmp_words.specs.declared.said.Said.TheVariants.{BadLine, BadLimits, InputTooLong, Nothing, OutputFailed};
-ghost use Rattle.gmp_words.specs.Said.{is_before_writing, is_of_input};
+ghost use Rattle.gmp_words.specs.declared.said.Said.TheVariants.{BadLine, BadLimits, InputTooLong, NoRun, Nothing, OutOfMemory, OutputFailed};
+ghost use Rattle.gmp_words.specs.Said.{is_of_input};
 ghost use Rattle.gmp_words.specs.Runs.{IsOutOfLimits, IsWithinLimits, limits_of};
 ghost use Rattle.gmp_run_cli.specs.Runs.{WritesReport, WritesTraceOrSummary, is_of_threads};
 ghost use Rattle.gmp_run_cli.specs.Told.{is_of_report};
@@ -34,7 +34,7 @@ fn copied(alloc: Global, bodies: &[ScriptBody]) -> Result<Vec<ScriptBody>, Alloc
 }
 
 /// The bodies against which the run is to be held, if it is.
-fn against(
+fn kept(
     alloc: Global,
     scripted: bool,
     bodies: &[ScriptBody],
@@ -67,7 +67,8 @@ fn threaded<H: Threads + Wait + Sync, W: Write, C: Clock + Sync>(
     ensures written { result.said ≡ Nothing
         → WritesTraceOrSummary settings.now script.capacities.items script.bodies.items result.status (W.contents writer.old) (W.contents writer.new) }
     ensures kinds { is_of_report result.said ≡ true }
-    ensures quiet { is_before_writing result.said ≡ true → W.contents writer.new ≡ W.contents writer.old }
+    ensures quiet { result.said ≢ Nothing → result.said ≢ OutputFailed → result.said ≢ OutOfMemory → W.contents writer.new ≡ W.contents writer.old }
+    ensures audit { result.said ≡ NoRun → (settings.now.scripted ≡ true) × AreLimits (limits_of settings.now) (length script.bodies.items) script.capacities.items }
     ensures limits { result.said ≡ BadLimits → ¬ (AreLimits (limits_of settings.now) (length script.bodies.items) script.capacities.items) }
     ensures failed { result.said ≡ OutputFailed → AreLimits (limits_of settings.now) (length script.bodies.items) script.capacities.items }
 {
@@ -76,10 +77,10 @@ fn threaded<H: Threads + Wait + Sync, W: Write, C: Clock + Sync>(
         bodies,
         ..
     } = script;
-    let Ok(kept) = against(alloc, settings.scripted, &bodies) else {
+    let Ok(kept) = kept(alloc, settings.scripted, &bodies) else {
         return Ended::out_of_memory();
     };
-    let script = lent(&kept);
+    let against = lent(&kept);
     let boxed = boxed!(alloc, bodies, Ended::out_of_memory());
     let ran = gmp_run::run(
         rt,
@@ -93,7 +94,7 @@ fn threaded<H: Threads + Wait + Sync, W: Write, C: Clock + Sync>(
         &Open,
         settings.random,
     );
-    told(alloc, settings, &capacities, script, ran, writer)
+    told(alloc, settings, &capacities, against, ran, writer)
 }
 
 /// Reads a script, runs its bodies by machines in threads, audits the run, and writes its trace or its summary, as the settings say.
@@ -115,7 +116,11 @@ pub fn run<H: Threads + Wait + Sync, R: Read, W: Write, C: Clock + Sync>(
 
     // What is wrong is said by one of the program's own texts, and nothing is written but where the output or memory fails.
     ensures kinds { is_of_threads result.said ≡ true }
-    ensures quiet { is_before_writing result.said ≡ true → W.contents writer.new ≡ W.contents writer.old }
+    ensures quiet { result.said ≢ Nothing → result.said ≢ OutputFailed → result.said ≢ OutOfMemory → W.contents writer.new ≡ W.contents writer.old }
+
+    // No run is said to be none of its script where nobody asks.
+    ensures audit { result.said ≡ NoRun
+        → (settings.now.scripted ≡ true) × IfSome (R.remaining reader.old) (λ all. IsWithinLimits (limits_of settings.now) all) }
 
     ensures first { (line : ℕ) → result.said ≡ BadLine line
         → IfSome (R.remaining reader.old) (λ all. IsFirstBadLine (lines all) line) }

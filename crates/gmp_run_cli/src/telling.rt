@@ -1,10 +1,9 @@
 //! What is told of a run in threads. It takes any report, with no condition, and judges it by its logs, and by the script where that is
 //! asked for, before anything is printed: so what is said of a wrong one can be tried.
 
-ghost use Rattle.std.specs.Prelude.{◌≡◌, ◌<◌, ◌⊎◌, All, IfOk, IfErr, IfSome, IsSomeAnd, OnOk, length, true};
+ghost use Rattle.std.specs.Prelude.{◌≡◌, ◌≢◌, ◌<◌, ◌⊎◌, All, IfOk, IfErr, IfSome, IsSomeAnd, OnOk, length, true};
 ghost use Rattle.gmp_base.specs.declared.number.MNo.{MNo};
-ghost use Rattle.gmp_words.specs.Said.{is_before_writing};
-ghost use Rattle.gmp_words.specs.declared.said.Said.TheVariants.{BadLimits, Mismatch, NoRun, Nothing, OutOfMemory};
+ghost use Rattle.gmp_words.specs.declared.said.Said.TheVariants.{BadLimits, Mismatch, NoRun, Nothing, OutOfMemory, OutputFailed};
 ghost use Rattle.gmp_run_cli.specs.Told.{IsLeast, IsOfScript, IsPrinted, Prints, TellsEnd, is_of_print, is_of_report, is_short, said_of_unrun, trace_of};
 ghost use Rattle.gmp_trace.specs.Text.{IsCounted, begins_at, content};
 
@@ -115,7 +114,7 @@ fn reported<T: Drop, W: Write>(
         → IsSomeAnd against.entry (λ script. IsOfScript report.limits capacities.now script.now report.history.list → ⊥)) }
     ensures limits { IfErr result (λ e. e.said ≡ BadLimits → 65535 < length report.bodies.items) }
     ensures mismatch { IfErr result (λ e. (m : MNo) → e.said ≡ Mismatch m → IsLeast report m) }
-    ensures quiet { IfErr result (λ e. is_before_writing e.said ≡ true → W.contents writer.new ≡ W.contents writer.old) }
+    ensures quiet { IfErr result (λ e. e.said ≢ OutputFailed → e.said ≢ OutOfMemory → W.contents writer.new ≡ W.contents writer.old) }
 {
     // More bodies than a trace can count.
     let Ok(bodies) = u16::try_from(report.bodies.len()) else {
@@ -155,7 +154,7 @@ pub fn told<T: Drop, W: Write>(
     ensures unrun { IfErr ran (λ u. result.said ≡ said_of_unrun u.why) }
 
     // Where it is not begun, or falls short before it is written, nothing is written.
-    ensures quiet { is_before_writing result.said ≡ true → W.contents writer.new ≡ W.contents writer.old }
+    ensures quiet { result.said ≢ Nothing → result.said ≢ OutputFailed → result.said ≢ OutOfMemory → W.contents writer.new ≡ W.contents writer.old }
     ensures silent { IfErr ran (λ u. W.contents writer.new ≡ W.contents writer.old) }
 {
     match ran {

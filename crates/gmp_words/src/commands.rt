@@ -141,8 +141,8 @@ Exit status:
   3   the history is full
   4   step: no end yet, by --acts or since all machines are parked
   5   memory was refused
-  6   run: a machine's count of its calls is not that of the history, or it is none of the script; explore: no trace of
-      what was found
+  6   run: a machine's count of its calls is not that of the history, the parts are no run, or the history is none of the
+      script (--scripted); explore: no trace of what was found
   7   explore: in some run a goroutine is told a fault
   8   explore: some run leaves a goroutine or a value behind
   9   explore: not known, since there are more states than --states says
@@ -163,8 +163,8 @@ With --segments DIR the history goes into files DIR/part-000000001.trace and so 
 by `cat DIR/part-* | gmp join`. What join would say of them goes to standard output. DIR has to be there.
 
 Exit status: 0 main ended, 2 deadlock, 3 the history is full, 1 bad script, input or output, 5 out of memory,
-6 a count of calls that is not that of the history, or with --scripted a history that is none of the script, 64 bad command
-line or limits.";
+6 a count of calls that is not that of the history, with --segments parts that are no run, with --scripted a history that is
+none of the script, 64 bad command line or limits.";
 
 const CHECK_INPUT: &str =
     "The trace comes on standard input, and its summary goes to standard output.

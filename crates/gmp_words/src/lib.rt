@@ -5,7 +5,7 @@
 //! can be made.
 //!
 //! A command line is refused with status 64 and a text: an unknown word, an option given twice, a number out of range or not in digits
-//! alone, a word that isn't UTF-8. Help and the version that are asked for are no refusal. An input is refused where it is too long
+//! alone, options that don't go together, a word that isn't UTF-8. Help and the version that are asked for are no refusal. An input is refused where it is too long
 //! (`MAX_SCRIPT`, `MAX_TRACE`) or can't be read, a script by its first bad line.
 //!
 //! `words`, `numeric` and `wanting` read the command line by `commands`, `options` has what it says, `host` hands it in, `reading` and `parsing`

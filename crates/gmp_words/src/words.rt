@@ -175,6 +175,7 @@ struct Refusal {
     text: &'static str,
 }
 
+/// No line comes to this: `clap` asks for a command, and has these alone.
 const NO_COMMAND: Refusal = Refusal {
     kind: ErrorKind::InvalidSubcommand,
     text: "there is no such command",

@@ -161,7 +161,8 @@ impl Outlet for Narrow {
     }
 }
 
-/// How the run in parts ends whose outlet takes so many bytes and whose writer so many, and how many the outlet would still take.
+/// How the run in parts ends whose outlet takes so many bytes and whose writer so many, and how many the outlet would still take. What was
+/// written are the first bytes of what is to be told.
 fn in_parts<H: Threads + Wait + Sync>(
     rt: &H,
     alloc: Global,
@@ -182,6 +183,10 @@ fn in_parts<H: Threads + Wait + Sync>(
         &mut output,
         &Stopped,
     );
+    let count = told.saturating_sub(output.len());
+    if written.get(..count) != TOLD.as_bytes().get(..count) {
+        return Err(Fail::from("other lines"));
+    }
     let outlet = ran.outlet.ok_or("no outlet")?;
     Ok((ran.ended, outlet.left))
 }

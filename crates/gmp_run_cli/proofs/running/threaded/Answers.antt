@@ -4,7 +4,7 @@ use Rattle.std.proofs.Common.{rules, ◌≡◌, ◌∙◌, All, List, None, Some
 use Rattle.std.proofs.lemmas.Iterator.Consumers.{YieldsList-end}
 use Rattle.std.proofs.lemmas.Iterator.Adapters.{YieldsList-from_vec}
 use Rattle.gmp_script.specs.Script.{Commands}
-use Rattle.gmp_run_cli.proofs.Held.{of_lent, of_script_where}
+use Rattle.gmp_run_cli.proofs.Held.{none_where, of_lent, of_script_where}
 use Rattle.gmp_run_cli.proofs.Written.{out, tried_last, wrote}
 use Rattle.gmp_run_cli.proofs.running.threaded.Given.{Over}
 use Rattle.gmp_run_cli.proofs.running.threaded.Goals as goal
@@ -19,15 +19,20 @@ module _ (g : Over) (c : goal.After-drop-script-2 g) where
 
 pub returns-clause-written : goal.returns-clause-written
 returns-clause-written g c =
-    let are : option_map (λ s. s.now) c.lent-script.result ≡ (if c.args.settings.now.scripted then Some c.args.script.bodies.items else None) = search rules in
-    let held = of_script_where c.args.settings.now.scripted c.args.script.capacities.items c.args.script.bodies.items c.lent-script.result c.told.result.said c.run-ran.result are (search rules) in
+    let are : option_map (λ s. s.now) c.lent-against.result ≡ (if c.args.settings.now.scripted then Some c.args.script.bodies.items else None) = search rules in
+    let held = of_script_where c.args.settings.now.scripted c.args.script.capacities.items c.args.script.bodies.items c.lent-against.result c.told.result.said c.run-ran.result are (search rules) in
     wrote c.args.settings.now c.args.script.capacities.items _ _ c.told.result.said c.run-ran.result (counted g c) (search rules) (search rules) c.told.ensures.unrun (search rules) held
     c.told.result.status _ _ (search rules)
 
 pub told-requires : goal.told-requires
 told-requires g c =
-    let are : option_map (λ s. s.now) c.lent-script.result ≡ (if c.args.settings.now.scripted then Some c.args.script.bodies.items else None) = search rules in
-    record { fresh = of_lent c.args.script.bodies.items (λ (script : List Commands). All (λ (b : Commands). b.next ≡ 0) script) c.args.settings.now.scripted c.lent-script.result are c.requires.fresh }
+    let are : option_map (λ s. s.now) c.lent-against.result ≡ (if c.args.settings.now.scripted then Some c.args.script.bodies.items else None) = search rules in
+    record { fresh = of_lent c.args.script.bodies.items (λ (script : List Commands). All (λ (b : Commands). b.next ≡ 0) script) c.args.settings.now.scripted c.lent-against.result are c.requires.fresh }
+
+pub returns-clause-audit : goal.returns-clause-audit
+returns-clause-audit g c =
+    let are : option_map (λ s. s.now) c.lent-against.result ≡ (if c.args.settings.now.scripted then Some c.args.script.bodies.items else None) = search rules in
+    none_where c.args.settings.now c.args.script.capacities.items _ c.args.script.bodies.items c.lent-against.result c.told.result.said c.run-ran.result (counted g c) are (search rules) (search rules) c.told.ensures.unrun (search rules)
 
 pub returns-clause-limits : goal.returns-clause-limits
 returns-clause-limits g c =

@@ -1,5 +1,5 @@
 //! A run by a core: one thread makes the acts of all machines, which take turns.
-ghost use Rattle.std.specs.Prelude.{◌≡◌, IfErr, IfOk, IfSome, length};
+ghost use Rattle.std.specs.Prelude.{◌≡◌, IfErr, IfOk, IfSome, None, length};
 ghost use Rattle.gmp_turn.specs.Whole.{IsWholeRun};
 ghost use Rattle.gmp_host.specs.Ends.{IsOfLegalRun};
 
@@ -63,7 +63,8 @@ impl<T: InHand> Outside<T> for Shown {
 
 /// How the run ended, if it did.
 fn ended<T: InHand>(player: &Player<T, Shown>) -> Option<Ended>
-    ensures { let book = player.now.core.system.book in IfSome result (IsOfLegalRun book.limits book.capacities book.bodies) }
+    ensures some { let book = player.now.core.system.book in IfSome result (IsOfLegalRun book.limits book.capacities book.bodies) }
+    ensures none { result ≡ None → player.now.core.system.book.state.outcome ≡ None }
 {
     let outcome = player.outcome()?;
     let entries = player.history().len() as u64;
