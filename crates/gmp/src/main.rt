@@ -67,59 +67,31 @@ fn main(rt: HostRuntime) -> ExitCode {
         Ok(words) => words,
         Err(ended) => return finish(&rt, &ended),
     };
+    let (reader, writer) = (&mut rt.reader(), &mut io::writer(&rt));
+    let line = &mut Line::on(&rt, rt.stderr().is_terminal());
     let ended = match command_line(alloc, &words) {
         Err(ended) => ended,
         Ok(CommandLine { settings, folder }) => match settings.task {
-            Task::Step => step(alloc, &settings, &mut rt.reader(), &mut io::writer(&rt)),
+            Task::Step => step(alloc, &settings, reader, writer),
             // Here, since main alone may hand the host's folder to threads.
             Task::Run => match (settings.segments, folder) {
-                (None, _) => run(
-                    &rt,
-                    alloc,
-                    &settings,
-                    &mut rt.reader(),
-                    &mut io::writer(&rt),
-                    &Since::now(&rt),
-                ),
+                (None, _) => run(&rt, alloc, &settings, reader, writer, &Since::now(&rt)),
                 (Some(segments), Some(name)) => {
-                    let ran = run_in_segments(
-                        &rt,
-                        alloc,
-                        &settings,
-                        segments,
-                        Folder::new(&rt, alloc, name),
-                        &mut rt.reader(),
-                        &mut io::writer(&rt),
-                        &Since::now(&rt),
-                    );
-                    ran.ended
+                    let (folder, clock) = (Folder::new(&rt, alloc, name), &Since::now(&rt));
+                    run_in_segments(
+                        &rt, alloc, &settings, segments, folder, reader, writer, clock,
+                    )
+                    .ended
                 }
                 // There is no such line: one has segments only where it names a folder.
                 (Some(_), None) => Ended::output_failed(),
             },
-            Task::Check => check(
-                alloc,
-                &mut rt.reader(),
-                &mut io::writer(&rt),
-                &mut Line::on(&rt, rt.stderr().is_terminal()),
-            ),
-            Task::Join => join(
-                alloc,
-                &mut rt.reader(),
-                &mut io::writer(&rt),
-                &mut Line::on(&rt, rt.stderr().is_terminal()),
-            ),
-            Task::Cut => cut(alloc, settings.at, &mut rt.reader(), &mut io::writer(&rt)),
+            Task::Check => check(alloc, reader, writer, line),
+            Task::Join => join(alloc, reader, writer, line),
+            Task::Cut => cut(alloc, settings.at, reader, writer),
+            Task::Draw => draw(alloc, settings.from, settings.to, reader, writer, line),
             Task::Explain => return tell(&rt, settings.json),
             Task::Explore => look(&rt, &settings),
-            Task::Draw => draw(
-                alloc,
-                settings.from,
-                settings.to,
-                &mut rt.reader(),
-                &mut io::writer(&rt),
-                &mut Line::on(&rt, rt.stderr().is_terminal()),
-            ),
         },
     };
     finish(&rt, &ended)
