@@ -196,7 +196,7 @@ fn parts_may_fail_behind_each_byte(rt: HostRuntime) -> Result<(), Fail> {
     let alloc = rt.alloc();
     let (whole, left) = in_parts(&rt, alloc, 100_000, TOLD.len())?;
     assert_eq!(rt; whole.status, 3);
-    let length = 100_000 - left;
+    let length = 100_000usize.saturating_sub(left);
     for room in 0..=length {
         let (ended, left) = in_parts(&rt, alloc, room, TOLD.len())?;
         let wanted = if room < length { 1 } else { 3 };
