@@ -5,7 +5,7 @@ use Rattle.clap.specs.Words.{AddsArg, AddsSubcommand, App, Rule, Shape, app_of, 
 use Rattle.clap.specs.declared.builder.arg.Arg.{Arg}
 use Rattle.clap.specs.declared.builder.command.Command.{Command}
 use Rattle.clap.specs.declared.builder.command.Command.TheViews.{out-Command}
-use Rattle.gmp_words.specs.CommandLine.{with_more}
+use Rattle.gmp_words.specs.Program.{with_more}
 
 -- one more option
 pub one_more : (old new : Command) (a : Arg) → AddsArg old a new → a.global ≡ false → shape_of new ≡ with_more (shape_of old) (rule_of a ∷ [])

@@ -1,4 +1,4 @@
 pub mod Said
-pub mod CommandLine
+pub mod Program
 pub mod Words
 pub mod Runs

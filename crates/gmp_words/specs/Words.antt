@@ -1,11 +1,13 @@
 -- What the words of a command line say, by what `clap` reads in them.
-use Rattle.std.specs.Prelude.{◌≡◌, ℕ, true, Bool, false, codes, ◌&&◌, ◌||◌, ◌==◌, List, [], ◌∷◌, Option, Some, None, is_some, not, min, option_map, if◌then◌else◌}
+use Rattle.std.specs.Prelude.{◌≡◌, ◌≤◌, ◌⊎◌, ℕ, true, Bool, false, codes, ◌&&◌, ◌||◌, ◌==◌, List, [], ◌∷◌, Option, Some, None, is_some, not, min, option_map, if◌then◌else◌}
 use Rattle.std.specs.List.{list_all, list_any, slice_split}
 use Rattle.std.specs.Str.{bytes_eq}
 use Rattle.std.specs.Option.{option_map_or}
-use Rattle.clap.specs.Words.{Row, Text, first_of, subcommand_of}
+use Rattle.clap.specs.Words.{IsAmong, Row, Text, fault_of, first_of, subcommand_of}
+use Rattle.clap.specs.declared.error.kind.ErrorKind.{ErrorKind}
+use Rattle.clap.specs.declared.error.kind.ErrorKind.TheVariants as kind
 use Rattle.gmp_script.specs.Numbers.{parsed_number}
-use Rattle.gmp_words.specs.CommandLine.{gmp}
+use Rattle.gmp_words.specs.Program.{gmp}
 use Rattle.gmp_words.specs.declared.options.CommandLine.{CommandLine}
 use Rattle.gmp_words.specs.declared.options.Segments.{Segments}
 use Rattle.gmp_words.specs.declared.options.Settings.{Settings}
@@ -76,7 +78,7 @@ AreEntries rows entries None =
 AreEntries rows entries (Some x) =
     (names_folder rows ≡ true) × (entries ≡ 10000)
     × number_given rows (codes "entries") 10000 ≡ Some x.entries
-    × option_map (λ room. min room x.entries) (number_given rows (codes "room") 1000000) ≡ Some x.room
+    × ((room : ℕ) × number_given rows (codes "room") 1000000 ≡ Some room × (room ≤ 1000000) × x.room ≡ min room x.entries)
 
 -- The settings are what the options are given: the number that each has, or its default, and the flags.
 pub record AreGiven (rows : List Row) (s : Settings) : Type 0 where
@@ -104,6 +106,18 @@ entered words = subcommand_of gmp words
 
 abbrev pub options_of : Option (Text × List Row) → List Row
 options_of command = option_map_or (λ c. c.1) command []
+
+-- help or the version
+abbrev pub IsHelp : ErrorKind → Type 0
+IsHelp k = (k ≡ kind.DisplayHelp) ⊎ (k ≡ kind.DisplayVersion)
+
+-- what `clap` may find wrong with the words is that they ask for that
+abbrev pub AskForHelp : List Text → Type 0
+AskForHelp words = IsAmong kind.DisplayHelp (fault_of gmp words) ⊎ IsAmong kind.DisplayVersion (fault_of gmp words)
+
+-- and nothing else
+abbrev pub AskForHelpAlone : List Text → Type 0
+AskForHelpAlone words = (fault_of gmp words ≡ kind.DisplayHelp ∷ []) ⊎ (fault_of gmp words ≡ kind.DisplayVersion ∷ [])
 
 -- The line is what was entered: the task is the command, and the settings and the folder are what its options are given.
 pub record AreSaid (command : Option (Text × List Row)) (line : CommandLine) : Type 0 where

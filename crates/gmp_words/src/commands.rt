@@ -3,8 +3,8 @@
 ghost use Rattle.std.specs.Prelude.{◌≡◌, [], IfOk, codes, false, map, true};
 ghost use Rattle.clap.specs.Words.{app_of, rule_of, shape_of};
 ghost use Rattle.clap.specs.declared.builder.command.Command.TheViews.{out-Command as fields_of};
-ghost use Rattle.gmp_words.specs.CommandLine.{flag, folder, gmp, numeric_of, with_more};
-ghost use Rattle.gmp_words.specs.CommandLine as line;
+ghost use Rattle.gmp_words.specs.Program.{flag, folder, gmp, numeric_of, with_more};
+ghost use Rattle.gmp_words.specs.Program as line;
 
 use crate::numeric::Numeric;
 use crate::wanting;

@@ -3,7 +3,7 @@
 
 ghost use Rattle.std.specs.Prelude.{◌≡◌, ◌≤◌, ℕ, IsSome, IfSome, Some, false, option_map};
 ghost use Rattle.clap.specs.Words.{found_of, rows_of, rule_of};
-ghost use Rattle.gmp_words.specs.CommandLine.{numeric_of};
+ghost use Rattle.gmp_words.specs.Program.{numeric_of};
 ghost use Rattle.gmp_words.specs.Words.{given, number_given};
 
 use clap::builder::ValueParser;

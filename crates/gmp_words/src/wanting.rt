@@ -1,10 +1,10 @@
 //! The option `--want`: names of what no run of a script is to do, parted by commas.
 
-ghost use Rattle.std.specs.Prelude.{◌≡◌, ◌==◌, IfSome, codes, false};
+ghost use Rattle.std.specs.Prelude.{◌≡◌, ◌==◌, IfNone, IfSome, codes, false};
 ghost use Rattle.std.specs.List.{list_all, list_any, slice_split};
 ghost use Rattle.std.specs.Str.{bytes_eq};
 ghost use Rattle.clap.specs.Words.{found_of, rows_of, rule_of};
-ghost use Rattle.gmp_words.specs.CommandLine.{option};
+ghost use Rattle.gmp_words.specs.Program.{option};
 ghost use Rattle.gmp_words.specs.Words.{AreWanted, is_name};
 
 use crate::numeric::given;
@@ -57,7 +57,8 @@ fn has(list: &[u8], name: &[u8]) -> bool
 ///
 /// None where something is no name of what can be wanted.
 pub fn wanted(matches: &ArgMatches) -> Option<Wanted>
-    ensures { IfSome result (AreWanted (rows_of (found_of matches.now))) }
+    ensures some { IfSome result (AreWanted (rows_of (found_of matches.now))) }
+    ensures none { IfNone result ((w : Wanted) → AreWanted (rows_of (found_of matches.now)) w → ⊥) }
 {
     let list = match given(matches, "want") {
         Some(names) => names.as_bytes(),

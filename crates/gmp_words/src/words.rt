@@ -1,9 +1,10 @@
 //! Reads the words of the command line. `clap` parses it and finds each option's text; the numbers and names in those texts are judged here.
 
-ghost use Rattle.std.specs.Prelude.{◌≡◌, ◌≢◌, ◌≤◌, ◌⊎◌, [], codes, map, string_bytes, true, Some, IfOk, IfErr, IfSome};
+ghost use Rattle.std.specs.Prelude.{◌≡◌, ◌≢◌, ◌≤◌, ◌⊎◌, ℕ, [], codes, map, string_bytes, true, Option, Some, IfOk, IfErr, IfNone, IfSome};
 ghost use Rattle.gmp_words.specs.Said.{is_of_words};
-ghost use Rattle.gmp_words.specs.CommandLine.{gmp};
-ghost use Rattle.gmp_words.specs.Words.{AreEntries, AreGiven, AreSaid, AreWanted, entered, go_together, is_given, name_of, names_folder, number_given};
+ghost use Rattle.gmp_words.specs.Program.{gmp};
+ghost use Rattle.gmp_words.specs.Words.{AreEntries, AreGiven, AreSaid, AreWanted, AskForHelp, AskForHelpAlone, IsHelp, entered, go_together, is_given, name_of, names_folder, number_given};
+ghost use Rattle.gmp_words.specs.declared.options.CommandLine.{CommandLine as Line};
 ghost use Rattle.clap.specs.Words.{fault_of, found_of, kind_of, rows_of, subcommand_rows_of};
 
 use crate::commands::{
@@ -22,9 +23,9 @@ use std::alloc::Global;
 /// What a refusal by `clap` ends with: its own text, and for help or the version that was asked for status 0.
 fn refused(alloc: Global, error: &clap::Error) -> Ended
     ensures said { is_of_words result.said ≡ true }
-    ensures help { (kind_of error.now ≡ ErrorKind.DisplayHelp) ⊎ (kind_of error.now ≡ ErrorKind.DisplayVersion) → (result.status ≡ 0) ⊎ (result.said ≡ Said.OutOfMemory) }
-    ensures refusal { kind_of error.now ≢ ErrorKind.DisplayHelp → kind_of error.now ≢ ErrorKind.DisplayVersion
-        → (result.status ≡ 64) ⊎ (result.said ≡ Said.OutOfMemory) }
+    ensures help { IsHelp (kind_of error.now) → (result.status ≡ 0) ⊎ (result.said ≡ Said.OutOfMemory) }
+    ensures asked { result.status ≡ 0 → IsHelp (kind_of error.now) }
+    ensures memory { kind_of error.now ≡ ErrorKind.OutOfMemory → result.said ≡ Said.OutOfMemory }
 {
     if error.kind() == ErrorKind::OutOfMemory {
         return Ended::out_of_memory();
@@ -38,7 +39,8 @@ fn refused(alloc: Global, error: &clap::Error) -> Ended
 
 /// The task of a command.
 fn task(name: &str) -> Option<Task>
-    ensures { IfSome result (λ task. name.now ≡ name_of task) }
+    ensures some { IfSome result (λ task. name.now ≡ name_of task) }
+    ensures none { IfNone result ((t : Task) → name.now ≢ name_of t) }
 {
     match name.as_bytes() {
         b"step" => Some(Task::Step),
@@ -80,6 +82,7 @@ fn of_trace(options: &ArgMatches) -> Option<OfTrace>
     ensures json { IfSome result (λ x. x.json ≡ is_given (rows_of (found_of options.now)) (codes "json")) }
     ensures from { IfSome result (λ x. number_given (rows_of (found_of options.now)) (codes "from") 0 ≡ Some x.from) }
     ensures to { IfSome result (λ x. number_given (rows_of (found_of options.now)) (codes "to") 18446744073709551615 ≡ Some x.to) }
+    ensures none { IfNone result ((s : Settings) → AreGiven (rows_of (found_of options.now)) s → ⊥) }
 {
     Some(OfTrace {
         at: AT.read(options)?,
@@ -120,6 +123,7 @@ struct Length {
 fn length_of(options: &ArgMatches) -> Option<Length>
     ensures said { IfSome result (λ x. AreEntries (rows_of (found_of options.now)) x.entries x.segments) }
     ensures in_range { IfSome result (λ x. (16 ≤ x.entries) × (x.entries ≤ 1000000)) }
+    ensures none { IfNone result ((s : Settings) → AreGiven (rows_of (found_of options.now)) s → ⊥) }
 {
     if !names_folder(options) {
         return Some(Length {
@@ -143,6 +147,7 @@ fn settings_of(task: Task, wanted: Wanted, options: &ArgMatches) -> Option<Setti
     requires together { go_together (rows_of (found_of options.now)) ≡ true }
     ensures task { IfSome result (λ s. s.task ≡ task) }
     ensures given { IfSome result (AreGiven (rows_of (found_of options.now))) }
+    ensures none { IfNone result ((s : Settings) → AreGiven (rows_of (found_of options.now)) s → ⊥) }
 {
     let of_trace = of_trace(options)?;
     let length = length_of(options)?;
@@ -198,7 +203,9 @@ const NO_NUMBER: Refusal = Refusal {
 
 /// What the matches say.
 fn line_of<'a>(matches: &ArgMatches<'a>) -> Result<CommandLine<'a>, Refusal>
-    ensures { IfOk result (AreSaid (subcommand_rows_of matches.now)) }
+    ensures ok { IfOk result (AreSaid (subcommand_rows_of matches.now)) }
+    ensures err { IfErr result (λ _. (line : Line) → AreSaid (subcommand_rows_of matches.now) line → ⊥) }
+    ensures kinds { IfErr result (λ refusal. IsHelp refusal.kind → ⊥) }
 {
     let Some((name, options)) = matches.subcommand() else {
         return Err(NO_COMMAND);
@@ -217,14 +224,20 @@ fn line_of<'a>(matches: &ArgMatches<'a>) -> Result<CommandLine<'a>, Refusal>
 
 /// What the command line says, the program's name first.
 ///
-/// A line that `clap` refuses ends with status 64 and its text, help or the version that was asked for with 0.
+/// A line that is refused ends with status 64 and `clap`'s text, help or the version that was asked for with 0.
 pub fn command_line<'a>(alloc: Global, words: &'a [String]) -> Result<CommandLine<'a>, Ended>
     ensures ok { IfOk result (AreSaid (entered (map string_bytes words.now))) }
 
     // Each word is known, each option has its value, in its range, and none comes twice.
     ensures taken { IfOk result (λ _. fault_of gmp (map string_bytes words.now) ≡ []) }
 
+    // Such a line is refused where it says nothing, or memory is.
+    ensures refused { IfErr result (λ e. fault_of gmp (map string_bytes words.now) ≡ [] → e.said ≢ Said.OutOfMemory
+        → (line : Line) → AreSaid (entered (map string_bytes words.now)) line → ⊥) }
+
     ensures err { IfErr result (λ e. is_of_words e.said ≡ true) }
+    ensures help { IfErr result (λ e. e.status ≡ 0 → AskForHelp (map string_bytes words.now)) }
+    ensures shown { IfErr result (λ e. AskForHelpAlone (map string_bytes words.now) → (e.status ≡ 0) ⊎ (e.said ≡ Said.OutOfMemory)) }
 {
     let mut command: Command<'a> = command(alloc)?;
     let matches = match command.try_get_matches_from_mut(words) {

@@ -1,4 +1,4 @@
-use Rattle.gmp_words.specs.CommandLine.{numeric_of}
+use Rattle.gmp_words.specs.Program.{numeric_of}
 use Rattle.gmp_words.proofs.Building.{one_after, one_more, still_local}
 use Rattle.gmp_words.proofs.commands.with.Goals as goal
 

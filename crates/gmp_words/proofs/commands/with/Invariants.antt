@@ -1,7 +1,7 @@
 use Rattle.std.proofs.Common.{◌≡◌, false, map, take}
 use Rattle.clap.specs.Words.{shape_of}
 use Rattle.clap.specs.declared.builder.command.Command.TheViews.{out-Command}
-use Rattle.gmp_words.specs.CommandLine.{numeric_of, with_more}
+use Rattle.gmp_words.specs.Program.{numeric_of, with_more}
 use Rattle.gmp_words.proofs.commands.with.Given as goal
 
 abbrev pub invariant-loop-option : goal.invariant-loop-option
