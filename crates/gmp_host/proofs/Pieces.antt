@@ -1,13 +1,13 @@
 -- What a run came to, of whose history each piece was handed out, the last one too.
 use Rattle.std.specs.Prelude.{is_none}
-use Rattle.std.proofs.Common.{◌≡◌, ◌<◌, ◌^◌, ℕ, List, [], ◌∷◌, ◌++◌, Option, None, Some, length, ap, sym, subst, ◌∙◌, arith}
+use Rattle.std.proofs.Common.{◌≡◌, ◌≢◌, ◌<◌, ◌^◌, ℕ, List, [], ◌∷◌, ◌++◌, Option, None, Some, length, ap, refl, sym, subst, ◌∙◌, arith}
 use Rattle.gmp_seq.proofs.Counts.{legal_total}
 use Rattle.gmp_seq.proofs.InOrder.{legal_in_order}
 use Rattle.gmp_seq.specs.declared.call.Entry.{Entry}
 use Rattle.gmp_seq.specs.declared.call.Limits.{Limits}
 use Rattle.gmp_seq.specs.declared.call.Outcome.{Outcome}
 use Rattle.gmp_seq.specs.Run.{IsLegal}
-use Rattle.gmp_run.proofs.Desks.{joined_with_left, sized_with_left, takes_one_more}
+use Rattle.gmp_run.proofs.Desks.{joined_with_left, some_full, takes_one_more}
 use Rattle.gmp_run.specs.Counts.{all_calls}
 use Rattle.gmp_run.specs.declared.ending.Report.{Report}
 use Rattle.gmp_run.specs.Desks.{IsLeftSo, TakesAll, joined, with_left}
@@ -40,7 +40,7 @@ module _ {T S : Type 0} (takes refuses : S → List Entry → S → Type 0) (lim
       record {
         pieces = with_left p.pieces r.history.list;
         taken = takes_rest p.pieces r.history.list (taken_whole ended.outcome (sym outcome)) took;
-        sized = sized_with_left limits p.pieces r.history.list p.sized p.few;
+        sized = record { full = p.pieces; left = r.history.list; are = refl; sized = p.sized; few = p.few };
         last = p.report.last;
         legal = subst (λ (h : List Entry). IsLegal limits bodies capacities h p.report.last) (sym all) p.report.legal;
         outcome = p.report.outcome ∙ sym outcome;
@@ -52,22 +52,25 @@ module _ {T S : Type 0} (takes refuses : S → List Entry → S → Type 0) (lim
         takes_rest pieces (e ∷ left) taken took = takes_one_more takes began mid sink pieces (e ∷ left) taken took
 
   -- the sink refused what is left
-  stopped : (behind sink : S) → TakesAll takes began p.pieces behind → refuses behind r.history.list sink → StopsPieces takes refuses limits capacities bodies began sink
-  stopped behind sink taken refused = record {
+  stopped : (behind sink : S) → TakesAll takes began p.pieces behind → refuses behind r.history.list sink → r.history.list ≢ [] → StopsPieces takes refuses limits capacities bodies began sink
+  stopped behind sink taken refused some = record {
     pieces = p.pieces;
     left = r.history.list;
     behind = behind;
     taken = taken;
     refused = refused;
     sized = p.sized;
+    some = some;
     few = p.few;
     last = p.report.last;
     legal = p.report.legal;
+    full = λ none. p.left_full (sym p.report.outcome ∙ none);
     within = p.report.within;
   }
 
   pub stopped_on_the_way : r.outcome ≡ None → StopsPieces takes refuses limits capacities bodies began mid
-  stopped_on_the_way none = stopped p.behind mid p.taken (subst (λ (o : Option Outcome). IsLeftSo refuses (is_none o) p.behind r.history.list mid) none p.left_so)
+  stopped_on_the_way none = stopped p.behind mid p.taken (subst (λ (o : Option Outcome). IsLeftSo refuses (is_none o) p.behind r.history.list mid) none p.left_so) (some_full p.report.within (p.left_full none))
 
-  pub stopped_at_last : (sink : S) (outcome : Outcome) → r.outcome ≡ Some outcome → refuses mid r.history.list sink → StopsPieces takes refuses limits capacities bodies began sink
-  stopped_at_last sink outcome is refused = stopped mid sink (taken_whole outcome is) refused
+  pub stopped_at_last : (sink : S) (outcome : Outcome) → r.outcome ≡ Some outcome → refuses mid r.history.list sink → r.history.list ≢ []
+      → StopsPieces takes refuses limits capacities bodies began sink
+  stopped_at_last sink outcome is refused some = stopped mid sink (taken_whole outcome is) refused some

@@ -1,11 +1,11 @@
 -- What is told of a run.
-use Rattle.std.specs.Prelude.{◌≡◌, ◌≤◌, ℕ, All, List, [], ◌∷◌, ◌++◌, length, Some}
+use Rattle.std.specs.Prelude.{◌≡◌, ◌≢◌, ◌≤◌, ℕ, All, List, [], ◌∷◌, ◌++◌, length, None, Some}
 use Rattle.gmp_seq.specs.declared.call.Entry.{Entry}
 use Rattle.gmp_seq.specs.declared.call.Limits.{Limits}
 use Rattle.gmp_seq.specs.Fits.{AreLimits}
 use Rattle.gmp_seq.specs.Run.{IsLegal}
 use Rattle.gmp_seq.specs.State.{State}
-use Rattle.gmp_run.specs.Desks.{IsPiece, TakesAll, joined}
+use Rattle.gmp_run.specs.Desks.{IsCut, IsFull, TakesAll, joined}
 use Rattle.gmp_host.specs.declared.ending.Ended.{Ended}
 
 -- There is a legal run, from the opening under these limits, which are in range, with these capacities and so many bodies, that has this
@@ -18,12 +18,12 @@ pub record IsOfLegalRun (limits : Limits) (capacities : List ℕ) (bodies : ℕ)
   pub entries : length history ≡ ended.entries
   pub within : AreLimits limits bodies capacities
 
--- The sink took these pieces, none of which has more entries than there is room for, and nothing more. In order they are a legal run, from the
--- opening under these limits, with these capacities and so many bodies, that has this outcome and as many entries.
+-- The sink took these pieces, cut where there was no room for another entry, and nothing more. In order they are a legal run, from the opening
+-- under these limits, with these capacities and so many bodies, that has this outcome and as many entries.
 pub record IsOfPieces {S : Type 0} (takes : S → List Entry → S → Type 0) (limits : Limits) (capacities : List ℕ) (bodies : ℕ) (began : S) (ended : Ended) (sink : S) : Type 0 where
   pub pieces : List (List Entry)
   pub taken : TakesAll takes began pieces sink
-  pub sized : All (IsPiece limits) pieces
+  pub sized : IsCut limits pieces
   pub last : State
   pub legal : IsLegal limits bodies capacities (joined pieces) last
   pub outcome : last.outcome ≡ Some ended.outcome
@@ -35,16 +35,19 @@ abbrev pub TakesLeft : {S : Type 0} → (S → List Entry → S → Type 0) → 
 TakesLeft takes old [] new = new ≡ old
 TakesLeft takes old (entry ∷ entries) new = takes old (entry ∷ entries) new
 
--- The sink took these pieces and then stopped the run, since it refused what is left, which has no more entries either: in order, and with
--- that, they are a legal run, from the opening under these limits, with these capacities and so many bodies.
+-- The sink took these pieces, each handed out where there was no room for another entry, and then stopped the run, since it refused what is left:
+-- some entries, and no more than there is room for. Where the run has no outcome, what is left is full. In order, and with that, they are a legal
+-- run, from the opening under these limits, with these capacities and so many bodies.
 pub record StopsPieces {S : Type 0} (takes refuses : S → List Entry → S → Type 0) (limits : Limits) (capacities : List ℕ) (bodies : ℕ) (began : S) (sink : S) : Type 0 where
   pub pieces : List (List Entry)
   pub left : List Entry
   pub behind : S
   pub taken : TakesAll takes began pieces behind
   pub refused : refuses behind left sink
-  pub sized : All (IsPiece limits) pieces
+  pub sized : All (IsFull limits) pieces
+  pub some : left ≢ []
   pub few : length left ≤ limits.room
   pub last : State
   pub legal : IsLegal limits bodies capacities (joined pieces ++ left) last
+  pub full : last.outcome ≡ None → IsFull limits left
   pub within : AreLimits limits bodies capacities

@@ -1,6 +1,6 @@
 //! How a run ended, or how it fell short.
 
-ghost use Rattle.std.specs.Prelude.{◌≡◌, ◌≢◌};
+ghost use Rattle.std.specs.Prelude.{◌≡◌, ◌≢◌, ◌↔◌};
 ghost use Rattle.gmp_base.specs.declared.refusal.Refusal.TheVariants as refusal;
 ghost use Rattle.gmp_host.specs.declared.ending.Short.TheVariants as short;
 
@@ -70,13 +70,15 @@ impl From<AllocError> for Short {
 }
 
 impl<T: Drop> From<AllocFailed<T>> for Short {
+    ghost from_gives = { λ _ why. why ≡ short.OutOfMemory };
+
     fn from(_error: AllocFailed<T>) -> Short {
         Short::OutOfMemory
     }
 }
 
 impl From<Refusal> for Short {
-    ghost from_gives = { λ why e. (e ≡ short.BadLimits → why ≡ refusal.BadLimits) × (e ≢ short.Stopped) };
+    ghost from_gives = { λ why e. ((e ≡ short.BadLimits) ↔ (why ≡ refusal.BadLimits)) × (e ≢ short.BadLimits → e ≡ short.OutOfMemory) };
 
     fn from(why: Refusal) -> Short {
         match why {

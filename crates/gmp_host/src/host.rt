@@ -1,5 +1,5 @@
 //! A host's goroutines and channels, and their run.
-ghost use Rattle.std.specs.Prelude.{◌≡◌, ◌≢◌, ◌↔◌, ◌++◌, ◌∷◌, ◌<◌, ◌^◌, [], IfErr, IfOk, OnErr, OnOk, Some, length};
+ghost use Rattle.std.specs.Prelude.{◌≡◌, ◌≢◌, ◌↔◌, ◌++◌, ◌∷◌, ◌<◌, ◌≤◌, ◌^◌, [], IfErr, IfOk, OnErr, OnOk, Some, length};
 ghost use Rattle.gmp_turn.specs.Whole.{IsWholeRun};
 ghost use Rattle.gmp_seq.specs.Fits.{AreLimits};
 ghost use Rattle.gmp_host.specs.Ends.{IsOfLegalRun, IsOfPieces, StopsPieces, TakesLeft};
@@ -61,6 +61,7 @@ fn made(logs: &[PassLog]) -> u64
 fn hand_rest<S: Sink>(sink: &mut S, history: &mut History) -> Result<(), Stop>
     ensures taken { OnOk result (TakesLeft S.takes sink.old history.old.list sink.new) }
     ensures refused { OnErr result (S.refuses sink.old history.old.list sink.new) }
+    ensures some { OnErr result (history.old.list ≢ []) }
 {
     if history.is_empty() {
         return Ok(());
@@ -89,6 +90,8 @@ impl Host {
     pub fn channel(&mut self, capacity: u32) -> Result<Channel, Short>
         ensures number { IfOk result (λ c. c.0 ≡ Some (record { 0 = length self.old.capacities.items })) }
         ensures capacities { OnOk result (self.new.capacities.items ≡ self.old.capacities.items ++ capacity ∷ []) }
+        ensures limits { (result ≡ Err Short.BadLimits) ↔ (65536 ≤ length self.old.capacities.items) }
+        ensures memory { IfErr result (λ e. e ≢ Short.BadLimits → e ≡ Short.OutOfMemory) }
         ensures err { OnErr result (self.new.capacities.items ≡ self.old.capacities.items) }
         ensures bodies { self.new.bodies ≡ self.old.bodies }
         ensures settings { self.new.settings ≡ self.old.settings }
@@ -146,6 +149,8 @@ impl Host {
     pub fn push(&mut self, goroutine: Boxed) -> Result<GNo, Short>
         ensures number { IfOk result (λ g. g.0 ≡ length self.old.bodies.items) }
         ensures bodies { OnOk result (self.new.bodies.items ≡ self.old.bodies.items ++ goroutine ∷ []) }
+        ensures limits { (result ≡ Err Short.BadLimits) ↔ (65536 ≤ length self.old.bodies.items) }
+        ensures memory { IfErr result (λ e. e ≢ Short.BadLimits → e ≡ Short.OutOfMemory) }
         ensures err { OnErr result (self.new.bodies.items ≡ self.old.bodies.items) }
         ensures capacities { self.new.capacities ≡ self.old.capacities }
         ensures settings { self.new.settings ≡ self.old.settings }
@@ -163,8 +168,12 @@ impl Host {
     /// Runs the goroutines by a core in this thread, the same every time. All entries have to be kept.
     pub fn step(self) -> Result<Ended, Short>
         ensures ended { IfOk result (IsOfLegalRun (limits_of self.settings) self.capacities.items (length self.bodies.items)) }
+        ensures whole { OnOk result (self.settings.entries ≤ self.settings.room) }
         ensures limits { IfErr result (λ e. e ≡ Short.BadLimits
             → IsWholeRun (limits_of self.settings) (length self.bodies.items) self.capacities.items → ⊥) }
+        ensures memory { IfErr result (λ e. e ≡ Short.OutOfMemory
+            → IsWholeRun (limits_of self.settings) (length self.bodies.items) self.capacities.items) }
+        ensures kinds { IfErr result (λ e. (e ≢ Short.Mismatch) × (e ≢ Short.Stopped)) }
     {
         if !self.is_pushed() {
             return Err(Short::NotPushed);
@@ -190,8 +199,12 @@ impl Host {
     /// affair. All entries have to be kept.
     pub fn run<R: Threads + Wait + time::Clock + Sync>(self, rt: &R) -> Result<Ended, Short>
         ensures ended { IfOk result (IsOfLegalRun (limits_of self.settings) self.capacities.items (length self.bodies.items)) }
+        ensures whole { OnOk result (self.settings.entries ≤ self.settings.room) }
         ensures limits { IfErr result (λ e. e ≡ Short.BadLimits
             → IsWholeRun (limits_of self.settings) (length self.bodies.items) self.capacities.items → ⊥) }
+        ensures memory { IfErr result (λ e. e ≡ Short.OutOfMemory
+            → IsWholeRun (limits_of self.settings) (length self.bodies.items) self.capacities.items) }
+        ensures kinds { IfErr result (λ e. (e ≢ Short.NoEnd) × (e ≢ Short.Stopped)) }
     {
         let clock = Since::now(rt);
         self.run_by(rt, &clock, &Open)
@@ -205,8 +218,12 @@ impl Host {
         gate: &G,
     ) -> Result<Ended, Short>
         ensures ended { IfOk result (IsOfLegalRun (limits_of self.settings) self.capacities.items (length self.bodies.items)) }
+        ensures whole { OnOk result (self.settings.entries ≤ self.settings.room) }
         ensures limits { IfErr result (λ e. e ≡ Short.BadLimits
             → IsWholeRun (limits_of self.settings) (length self.bodies.items) self.capacities.items → ⊥) }
+        ensures memory { IfErr result (λ e. e ≡ Short.OutOfMemory
+            → IsWholeRun (limits_of self.settings) (length self.bodies.items) self.capacities.items) }
+        ensures kinds { IfErr result (λ e. (e ≢ Short.NoEnd) × (e ≢ Short.Stopped)) }
     {
         if !self.is_pushed() {
             return Err(Short::NotPushed);
@@ -249,6 +266,9 @@ impl Host {
         ensures ended { IfOk result.0 (λ e. IsOfPieces S.takes (limits_of self.settings) self.capacities.items (length self.bodies.items) sink e result.1) }
         ensures limits { IfErr result.0 (λ e. e ≡ Short.BadLimits
             → AreLimits (limits_of self.settings) (length self.bodies.items) self.capacities.items → ⊥) }
+        ensures memory { IfErr result.0 (λ e. e ≡ Short.OutOfMemory
+            → AreLimits (limits_of self.settings) (length self.bodies.items) self.capacities.items) }
+        ensures kinds { IfErr result.0 (λ e. (e ≢ Short.NoEnd) × (e ≢ Short.Mismatch)) }
         ensures unused { IfErr result.0 (λ e. e ≢ Short.Stopped → result.1 ≡ sink) }
         ensures stopped { IfErr result.0 (λ e. e ≡ Short.Stopped
             → StopsPieces S.takes S.refuses (limits_of self.settings) self.capacities.items (length self.bodies.items) sink result.1) }

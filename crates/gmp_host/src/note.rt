@@ -1,6 +1,6 @@
 //! What goroutines and their host share: a number that they leave for it, and the time.
 
-ghost use Rattle.std.specs.Prelude.{◌≡◌, ◌⊎◌, ◌*◌, ◌≤◌};
+ghost use Rattle.std.specs.Prelude.{◌≡◌, ◌+◌, ◌*◌, ◌≤◌, min};
 
 use crate::ending::Short;
 use gmp_base::Woke;
@@ -50,6 +50,13 @@ impl Note {
     }
 }
 
+/// The moment so many milliseconds after now, or the last moment that there is.
+fn later(now: u64, ms: u64) -> u64
+    ensures { result ≡ min (now + ms * 1000000) 18446744073709551615 }
+{
+    now.saturating_add(ms.saturating_mul(1_000_000))
+}
+
 /// The time, as a goroutine reads it: what the run's clock showed when a goroutine was last resumed.
 #[derive(Drop)]
 pub struct Time {
@@ -69,8 +76,8 @@ impl Time {
 
     /// The moment so many milliseconds later, or the last moment that there is.
     pub fn in_ms(&self, ms: u64) -> u64
-        ensures later { (ms * 1000000 ≤ result) ⊎ (result ≡ 18446744073709551615) }
+        ensures later { min (ms * 1000000) 18446744073709551615 ≤ result }
     {
-        self.now().saturating_add(ms.saturating_mul(1_000_000))
+        later(self.now(), ms)
     }
 }

@@ -1,5 +1,5 @@
 //! A run by a core: one thread makes the acts of all machines, which take turns.
-ghost use Rattle.std.specs.Prelude.{◌≡◌, IfErr, IfOk, IfSome, None, length};
+ghost use Rattle.std.specs.Prelude.{◌≡◌, ◌≢◌, IfErr, IfOk, IfSome, None, OnOk, length};
 ghost use Rattle.gmp_turn.specs.Whole.{IsWholeRun};
 ghost use Rattle.gmp_host.specs.Ends.{IsOfLegalRun};
 
@@ -85,9 +85,13 @@ pub(crate) fn play_all<T: InHand>(
     shown: Note,
 ) -> Result<Ended, Short>
     ensures ended { IfOk result (IsOfLegalRun limits capacities.now (length bodies.items)) }
+    ensures whole { OnOk result (limits.room ≡ limits.entries) }
     ensures limits { IfErr result (λ e. e ≡ Short.BadLimits → IsWholeRun limits (length bodies.items) capacities.now → ⊥) }
+    ensures memory { IfErr result (λ e. e ≡ Short.OutOfMemory → IsWholeRun limits (length bodies.items) capacities.now) }
+    ensures kinds { IfErr result (λ e. (e ≢ Short.Mismatch) × (e ≢ Short.Stopped)) }
 {
-    if u64::from(limits.room) != limits.entries {
+    // Also what `Player::open` tests itself: where it has no memory it doesn't say that they are in range.
+    if u64::from(limits.room) != limits.entries || !limits.allow(bodies.len(), capacities) {
         return Err(Short::BadLimits);
     }
     let outside = Shown { note: shown };

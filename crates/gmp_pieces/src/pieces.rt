@@ -1,8 +1,6 @@
 //! The sink.
-ghost use Rattle.std.specs.Prelude.{◌≡◌, IfErr, IfSome, None, OnOk, Some};
-ghost use Rattle.gmp_parts.specs.declared.error.PartError.TheVariants.{NoStep};
-ghost use Rattle.gmp_parts.specs.Writing.{GoesOn};
-ghost use Rattle.gmp_pieces.specs.Pieces.{Fails, WritesLeft};
+ghost use Rattle.std.specs.Prelude.{◌≡◌, [], IfErr, IfSome, IsSome, OnErr, OnOk, Some};
+ghost use Rattle.gmp_pieces.specs.Pieces.{Refuses, WritesLeft};
 
 use gmp_history::History;
 use gmp_parts::{Outlet, PartError, PartWriter};
@@ -37,9 +35,9 @@ impl<W: Outlet> Pieces<W> {
     /// Where a piece could not be written before, what is left isn't written either, and the error is that of the piece.
     pub fn finish(&mut self, left: &History) -> Result<(), PartError>
         ensures written { OnOk result (WritesLeft W.contents self.old.0 left.now.list self.new.0) }
-        ensures no_step { IfErr result (λ e. e ≡ NoStep → self.old.0.failed ≡ None → GoesOn self.old.0 left.now.list → ⊥) }
-        ensures unsent { IfErr result (λ e. e ≡ NoStep → self.new.0.out ≡ self.old.0.out) }
-        ensures failed { IfErr result (λ e. (self.new.0.failed ≡ Some e) × Fails self.old.0 self.new.0) }
+        ensures refused { OnErr result (Refuses self.old.0 left.now.list self.new.0) }
+        ensures why { IfErr result (λ e. self.new.0.failed ≡ Some e) }
+        ensures nothing { OnErr result (left.now.list ≡ [] → IsSome self.old.0.failed) }
         ensures again { IfSome self.old.0.failed (λ e. (result ≡ Err e) × (self.new ≡ self.old)) }
     {
         if let Some(error) = self.0.failed() {

@@ -22,7 +22,7 @@ use Rattle.gmp_journal.specs.Log.{Log, Records, calls_of, entries_made, is_over,
 use Rattle.gmp_journal.specs.Refusals.{need_lines, refusal_of, room_lines, turn_lines}
 use Rattle.gmp_journal.specs.declared.handed.Handed.{Handed}
 use Rattle.gmp_journal.proofs.Lines.{none_holds}
-use Rattle.gmp_run.specs.Desks.{IsDesk, IsLeftSo, IsPiece, TakesAll, joined, with_left}
+use Rattle.gmp_run.specs.Desks.{IsDesk, IsFull, IsLeftSo, TakesAll, joined, with_left}
 
 -- entries that stand in one of two places
 pub none_of_length : (xs : List Entry) → length xs ≡ 0 → xs ≡ []
@@ -70,14 +70,9 @@ pub joined_with_left : (pieces : List (List Entry)) (left : List Entry) → join
 joined_with_left pieces [] = sym (append-nil (joined pieces))
 joined_with_left pieces (e ∷ left) = joined_one_more pieces (e ∷ left)
 
-pub sized_with_left : (limits : Limits) (pieces : List (List Entry)) (left : List Entry) → All (IsPiece limits) pieces → length left ≤ limits.room → All (IsPiece limits) (with_left pieces left)
-sized_with_left limits pieces [] sized few = sized
-sized_with_left limits pieces (e ∷ left) sized few = All-push (IsPiece limits) pieces (e ∷ left) sized ((λ none. absurd (omega (arith, ap (λ (h : List Entry). length h) none))), few)
-
--- a full history is a piece
-piece_of : {limits : Limits} {bodies : ℕ} {capacities : List ℕ} {h : List Entry} → AreLimits limits bodies capacities → length h ≡ limits.room → IsPiece limits h
-piece_of {limits} {bodies} {capacities} {h} within full =
-    let room = within.room.0 in ((λ none. absurd (let empty = ap (λ (k : List Entry). length k) none in omega (arith, empty, full, room))), omega (arith, full))
+-- one that is full has entries
+pub some_full : {limits : Limits} {bodies : ℕ} {capacities : List ℕ} {h : List Entry} → AreLimits limits bodies capacities → IsFull limits h → h ≡ [] → ⊥
+some_full within full none = let room = within.room.0 in let empty = ap (λ (k : List Entry). length k) none in omega (arith, empty, full, room)
 
 -- an entry more has room
 more_room : (old now : Log) (before after : Pass) (call : Call) (reply : Reply) (values : Handed) → refusal_of old before call values ≡ None → Records old before call reply now after
@@ -111,7 +106,8 @@ module _ {S : Type 0} (run : ℕ) (first : S → Type 0) (takes refuses : S → 
     behind = desk.behind;
     taken = desk.taken;
     left_so = subst (λ (l : Log). IsLeftSo refuses l.stopped desk.behind spare.list sink) (sym same) desk.left_so;
-    sized = subst (λ (l : Log). All (IsPiece l.limits) desk.pieces) (sym same) desk.sized;
+    sized = subst (λ (l : Log). All (IsFull l.limits) desk.pieces) (sym same) desk.sized;
+    left_full = subst (λ (l : Log). l.stopped ≡ true → IsFull l.limits spare.list) (sym same) desk.left_full;
     few = subst (λ (l : Log). length (spare.list ++ l.history) ≤ l.limits.room) (sym same) desk.few;
     legal = subst (λ (l : Log). IsLegal l.limits l.bodies l.capacities (joined desk.pieces ++ (spare.list ++ l.history)) l.state) (sym same) desk.legal;
     whole = subst (λ (l : Log). l.limits.room ≡ l.limits.entries → desk.pieces ≡ []) (sym same) desk.whole;
@@ -158,7 +154,8 @@ module _ {S : Type 0} (run : ℕ) (first : S → Type 0) (takes refuses : S → 
         behind = desk.behind;
         taken = desk.taken;
         left_so = subst (λ (b : Bool). IsLeftSo refuses b desk.behind spare.list sink) (made.lasts ∙ sym on) desk.left_so;
-        sized = subst (λ (l : Limits). All (IsPiece l) desk.pieces) (sym limits) desk.sized;
+        sized = subst (λ (l : Limits). All (IsFull l) desk.pieces) (sym limits) desk.sized;
+        left_full = λ stopped. absurd (false≢true (sym on ∙ stopped));
         few =
             subst (λ (l : Limits). length (spare.list ++ now.history) ≤ l.room) (sym limits)
             (subst (λ (h : List Entry). length (h ++ now.history) ≤ old.limits.room) (sym empty) room);
@@ -194,10 +191,10 @@ module _ {S : Type 0} (run : ℕ) (first : S → Type 0) (takes refuses : S → 
       let same : sink ≡ desk.behind = subst (λ (b : Bool). IsLeftSo refuses b desk.behind spare.list sink) on desk.left_so in
       subst (TakesAll takes desk.began desk.pieces) (sym same) desk.taken
 
-  pub handed_out : (now : Log) (sink' : S) (spare' : HistoryContents) → now ≡ record old { history = [] } → takes sink old.history sink' → AreLimits old.limits old.bodies old.capacities
-      → length old.history ≡ old.limits.room → entries_made old < old.limits.entries → old.stopped ≡ false → spare'.list ≡ [] → old.limits.room ≤ spare'.room → old.limits.room ≤ spare'.lasting
+  pub handed_out : (now : Log) (sink' : S) (spare' : HistoryContents) → now ≡ record old { history = [] } → takes sink old.history sink'
+      → IsFull old.limits old.history → entries_made old < old.limits.entries → old.stopped ≡ false → spare'.list ≡ [] → old.limits.room ≤ spare'.room → old.limits.room ≤ spare'.lasting
       → IsDesk run first takes refuses now total sink' spare'
-  handed_out now sink' spare' same took within full goes on empty room lasting = subst (λ (l : Log). IsDesk run first takes refuses l total sink' spare') (sym same) (record {
+  handed_out now sink' spare' same took full goes on empty room lasting = subst (λ (l : Log). IsDesk run first takes refuses l total sink' spare') (sym same) (record {
     run_is = desk.run_is;
     counted = desk.counted;
     began = desk.began;
@@ -206,7 +203,8 @@ module _ {S : Type 0} (run : ℕ) (first : S → Type 0) (takes refuses : S → 
     behind = sink';
     taken = takes_one_more takes desk.began sink sink' desk.pieces old.history (taken_on on) took;
     left_so = subst (λ (b : Bool). IsLeftSo refuses b sink' spare'.list sink') (sym on) refl;
-    sized = All-push (IsPiece old.limits) desk.pieces old.history desk.sized (piece_of within full);
+    sized = All-push (IsFull old.limits) desk.pieces old.history desk.sized full;
+    left_full = λ stopped. absurd (false≢true (sym on ∙ stopped));
     few = subst (λ (h : List Entry). length (h ++ []) ≤ old.limits.room) (sym empty) (omega arith);
     legal =
         subst (λ (h : List Entry). IsLegal old.limits old.bodies old.capacities (joined (desk.pieces ++ old.history ∷ []) ++ (h ++ [])) old.state) (sym empty)
@@ -223,7 +221,7 @@ module _ {S : Type 0} (run : ℕ) (first : S → Type 0) (takes refuses : S → 
 
   -- the sink refused it, and the run was stopped
   pub stopped_by : (now : Log) (sink' : S) (spare' : HistoryContents) → now ≡ record old { history = []; stopped = true } → refuses sink old.history sink'
-      → length old.history ≡ old.limits.room → entries_made old < old.limits.entries → is_over old ≡ false → spare'.list ≡ old.history → All Fits old.history
+      → IsFull old.limits old.history → entries_made old < old.limits.entries → is_over old ≡ false → spare'.list ≡ old.history → All Fits old.history
       → IsDesk run first takes refuses now total sink' spare'
   stopped_by now sink' spare' same refused full goes lasts left fit = subst (λ (l : Log). IsDesk run first takes refuses l total sink' spare') (sym same) (record {
     run_is = desk.run_is;
@@ -235,6 +233,7 @@ module _ {S : Type 0} (run : ℕ) (first : S → Type 0) (takes refuses : S → 
     taken = taken_on (not_over old lasts).1;
     left_so = subst (λ (h : List Entry). refuses sink h sink') (sym left) refused;
     sized = desk.sized;
+    left_full = λ stopped. ap (λ (h : List Entry). length h) left ∙ full;
     few = (let long = ap (λ (h : List Entry). length h) (append-nil _ ∙ left) in omega (arith, long, full));
     legal =
         subst (λ (h : List Entry). IsLegal old.limits old.bodies old.capacities (joined desk.pieces ++ h) old.state) (sym (append-nil _ ∙ left)) (legal_on (not_over old lasts).1);
@@ -263,6 +262,12 @@ module _ {S : Type 0} (run : ℕ) (first : S → Type 0) (takes refuses : S → 
         by false none same = same
         by true none refused = subst (λ (h : List Entry). refuses desk.behind h sink) (sym (are ∙ ap (λ (h : List Entry). spare.list ++ h) (none refl) ∙ append-nil spare.list)) refused
 
+  -- of one that was stopped they are full
+  pub full_at_end : is_over old ≡ true → old.state.outcome ≡ None → (left : List Entry) → left ≡ spare.list ++ old.history → IsFull old.limits left
+  full_at_end over none left are =
+      let stopped : old.stopped ≡ true = stopped_so old.state.outcome old.stopped over desk.no_outcome ∙ ap (λ (o : Option Outcome). is_none o) none in
+      ap (λ (h : List Entry). length h) (are ∙ ap (λ (h : List Entry). spare.list ++ h) (desk.none_left stopped) ∙ append-nil spare.list) ∙ desk.left_full stopped
+
   -- a run that is over, and was kept whole, has an outcome
   pub ended : is_over old ≡ true → old.limits.room ≡ old.limits.entries → IsSome old.state.outcome
   ended over whole = by old.state.outcome refl where
@@ -282,7 +287,8 @@ opened run first takes refuses limits bodies capacities sink is_first = record {
   behind = sink;
   taken = refl;
   left_so = refl;
-  sized = All-nil (IsPiece limits);
+  sized = All-nil (IsFull limits);
+  left_full = λ stopped. absurd (false≢true stopped);
   few = omega arith;
   legal = refl;
   whole = λ e. refl;

@@ -1,5 +1,5 @@
 -- What lies under the lock, and the pieces of a history that a sink took.
-use Rattle.std.specs.Prelude.{◌≡◌, ◌≢◌, ◌≤◌, ℕ, Bool, true, false, All, List, [], ◌∷◌, ◌++◌, length, None}
+use Rattle.std.specs.Prelude.{◌≡◌, ◌≤◌, ℕ, Bool, true, false, All, List, [], ◌∷◌, ◌++◌, length, None}
 use Rattle.std.specs.List.{flat_map}
 use Rattle.gmp_history.specs.Brief.{HistoryContents}
 use Rattle.gmp_seq.specs.declared.call.Entry.{Entry}
@@ -23,9 +23,18 @@ abbrev pub with_left : List (List Entry) → List Entry → List (List Entry)
 with_left pieces [] = pieces
 with_left pieces (entry ∷ entries) = pieces ++ (entry ∷ entries) ∷ []
 
--- it has entries, and no more than there is room for at a time
-abbrev pub IsPiece : Limits → List Entry → Type 0
-IsPiece limits piece = (piece ≢ []) × (length piece ≤ limits.room)
+-- there is no room for another entry
+abbrev pub IsFull : Limits → List Entry → Type 0
+IsFull limits piece = length piece ≡ limits.room
+
+-- A history in pieces, cut where there was no room for another entry: each is full, but for the last one, which has entries, and no more than
+-- there is room for.
+pub record IsCut (limits : Limits) (pieces : List (List Entry)) : Type 0 where
+  pub full : List (List Entry)
+  pub left : List Entry
+  pub are : pieces ≡ with_left full left
+  pub sized : All (IsFull limits) full
+  pub few : length left ≤ limits.room
 
 -- Behind the pieces the sink is as it was left by them; where it stopped the run, it refused these entries since.
 abbrev pub IsLeftSo : {S : Type 0} → (S → List Entry → S → Type 0) → Bool → S → List Entry → S → Type 0
@@ -51,8 +60,8 @@ abbrev pub Stops : {T Q S : Type 0} → (S → List Entry → S → Type 0) → 
 Stops refuses old new = (new.book ≡ stopped_book old.book) × refuses old.sink old.book.log.history new.sink
 
 -- All entries, those that the sink took since the run began and those that are left, are a legal run to the present state, and as many as the
--- machines made calls. Where the run was stopped, the sink refused what is in the spare, and no entry follows. A run that has as much
--- room as entries hands none out.
+-- machines made calls. What the sink was handed was full each time. Where the run was stopped, the sink refused what is in the spare, and no
+-- entry follows. A run that has as much room as entries hands none out.
 pub record IsDesk {S : Type 0} (run : ℕ) (first : S → Type 0) (takes refuses : S → List Entry → S → Type 0) (log : Log) (total : ℕ) (sink : S) (spare : HistoryContents) : Type 0 where
   pub run_is : log.run ≡ run
   pub counted : entries_made log ≡ total
@@ -62,7 +71,8 @@ pub record IsDesk {S : Type 0} (run : ℕ) (first : S → Type 0) (takes refuses
   pub behind : S
   pub taken : TakesAll takes began pieces behind
   pub left_so : IsLeftSo refuses log.stopped behind spare.list sink
-  pub sized : All (IsPiece log.limits) pieces
+  pub sized : All (IsFull log.limits) pieces
+  pub left_full : log.stopped ≡ true → IsFull log.limits spare.list
   pub few : length (spare.list ++ log.history) ≤ log.limits.room
   pub legal : IsLegal log.limits log.bodies log.capacities (joined pieces ++ (spare.list ++ log.history)) log.state
   pub whole : log.limits.room ≡ log.limits.entries → pieces ≡ []

@@ -1,7 +1,7 @@
 //! Runs the machines of a run: opens book and queues, seats the machines, starts the threads, and gathers what they leave.
 //! A machine lies in a seat, a mutex of its own, from which its thread takes it and to which it brings it back. Not moved into the thread's
 //! closure: where that can't be started it is dropped with the machine, and its share of the calls would be lost.
-ghost use Rattle.std.specs.Prelude.{◌≡◌, ◌≤◌, [], All, IsSome, length, vec_capacity, IfErr, IfOk, OnErr};
+ghost use Rattle.std.specs.Prelude.{◌≡◌, ◌≤◌, [], All, IsSome, length, vec_capacity, IfErr, IfOk, OnErr, OnOk};
 ghost use Rattle.gmp_run.specs.Counts.{all_calls};
 ghost use Rattle.gmp_seq.specs.Fits.{AreLimits};
 ghost use Rattle.gmp_turn.specs.Whole.{IsWholeRun};
@@ -51,6 +51,7 @@ pub fn run<R: Threads + Wait + Sync, C: Clock + Sync, G: Gate + Sync>(
 ) -> Result<Report<Boxed>, Unrun<Boxed>>
     ensures report { IfOk result (IsRunReport limits capacities.now (length bodies.items) []) }
     ensures ended { IfOk result (λ r. IsSome r.outcome) }
+    ensures whole { OnOk result (limits.room ≡ limits.entries) }
     ensures why { IfErr result (λ u. WhyUnrun (IsWholeRun limits (length bodies.items) capacities.now) u.why) }
     ensures back { IfErr result (λ u. u.bodies.items ≡ bodies.items) }
 {

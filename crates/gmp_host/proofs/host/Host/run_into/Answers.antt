@@ -1,4 +1,4 @@
-use Rattle.std.proofs.Common.{◌≡◌, ◌<◌, ◌^◌, ℕ, List, IfOk, None, length, ap, rules, subst, sym, tests, ◌∙◌}
+use Rattle.std.proofs.Common.{◌≡◌, ◌≢◌, ◌<◌, ◌^◌, ℕ, List, [], IfOk, None, length, ap, rules, subst, sym, tests, ◌∙◌}
 use Rattle.gmp_seq.specs.declared.call.Limits.{Limits}
 use Rattle.gmp_run.specs.Counts.{all_calls}
 use Rattle.gmp_run.specs.Reports.{IsPiecesReport}
@@ -62,6 +62,7 @@ returns-then-is_err-clause-stopped g c is =
     let ran : IsPiecesReport takes refuses c.limits.result c.as_slice.result.now bodies c.args.sink c.in-Ok.report mid =
     subst (λ ran. IfOk ran (λ r. IsPiecesReport takes refuses c.limits.result c.as_slice.result.now bodies c.args.sink r mid)) c.in-Ok.is c.run_into-ran.ensures.report in
     let refused : refuses mid c.in-Ok.report.history.list sink = search (rules, tests) in
-    let all = stopped_at_last takes refuses c.limits.result c.as_slice.result.now bodies c.args.sink c.in-Ok.report mid ran sink c.in-Some.outcome c.in-Some.is refused in
+    let some : c.in-Ok.report.history.list ≢ [] = search (rules, tests) in
+    let all = stopped_at_last takes refuses c.limits.result c.as_slice.result.now bodies c.args.sink c.in-Ok.report mid ran sink c.in-Some.outcome c.in-Some.is refused some in
     subst (λ (limits : Limits). StopsPieces takes refuses limits c.args.self.capacities.items bodies c.args.sink sink) c.limits.ensures
     (subst (λ (capacities : List ℕ). StopsPieces takes refuses c.limits.result capacities bodies c.args.sink sink) c.as_slice.ensures.value all)

@@ -16,7 +16,7 @@ invariant_of-self g c =
     let goes : entries_made log < log.limits.entries = search (rules, tests) in
     let lasts : is_over log ≡ false = search (rules, tests) in
     handed_out g.L.RunLedger.run g.L.SinkLedger.first g.S.Sink.takes g.S.Sink.refuses log old.tally.total old.sink old.spare c.self.invariant c.hand_out.new.self.log c.take.new.self c.take.new.history out.rest
-    (subst (λ (h : List Entry). g.S.Sink.takes old.sink h c.take.new.self) out.out took.takes) c.history.ensures.part.part.within full goes (not_over log lasts).1 took.empty
+    (subst (λ (h : List Entry). g.S.Sink.takes old.sink h c.take.new.self) out.out took.takes) full goes (not_over log lasts).1 took.empty
     (let lasts = out.lasting in let room = took.room in omega (arith, lasts, room)) (let lasts = out.lasting in let lasting = took.lasting in omega (arith, lasts, lasting))
 
 -- it left them, and the run was stopped
