@@ -53,9 +53,9 @@ is_asked script P true lent e some = refl
 is_asked script P false None e some = absurd some
 is_asked script P false (Some s) e some = cc
 
-begun : (why : Refusal) → (why ≡ refusal.BadLimits) ⊎ (why ≡ refusal.OutOfMemory) → said_of_unrun why ≡ NoRun → ⊥
-begun why (inl e) n = let told : BadLimits ≡ NoRun = ap said_of_unrun (sym e) ∙ n in cc
-begun why (inr e) n = let told : OutOfMemory ≡ NoRun = ap said_of_unrun (sym e) ∙ n in cc
+pub not_no_run : (why : Refusal) → (why ≡ refusal.BadLimits) ⊎ (why ≡ refusal.OutOfMemory) → said_of_unrun why ≡ NoRun → ⊥
+not_no_run why (inl e) n = let told : BadLimits ≡ NoRun = ap said_of_unrun (sym e) ∙ n in cc
+not_no_run why (inr e) n = let told : OutOfMemory ≡ NoRun = ap said_of_unrun (sym e) ∙ n in cc
 
 -- that it is none of the script is said where that is asked, of a run within its limits
 pub none_where : {T : Type 0} (s : Settings) (capacities : List ℕ) (boxes : ℕ) (script : List Commands) (lent : Option (Bor (List Commands))) (said : Said) (ran : Result (Report T) (Unrun T)) → boxes ≡ length script
@@ -67,4 +67,4 @@ pub none_where : {T : Type 0} (s : Settings) (capacities : List ℕ) (boxes : �
 none_where s capacities boxes script lent said (Ok r) counted are report why unrun none is =
     (is_asked script (λ (b : Bor (List Commands)). IsOfScript r.limits capacities b.now r.history.list → ⊥) s.scripted lent are (none is), subst (λ (n : ℕ). AreLimits (limits_of s) n capacities) counted report.within)
 none_where s capacities boxes script lent said (Err u) counted are report why unrun none is =
-    absurd (begun u.why (two_ways (IsWholeRun (limits_of s) boxes capacities) u.why why) (sym unrun ∙ is))
+    absurd (not_no_run u.why (two_ways (IsWholeRun (limits_of s) boxes capacities) u.why why) (sym unrun ∙ is))

@@ -1,6 +1,6 @@
 -- What is written of a run in segments.
 use Rattle.std.specs.Prelude.{is_none}
-use Rattle.std.proofs.Common.{◌≡◌, ◌≢◌, ◌++◌, ◌+◌, ◌∙◌, ℕ, All, List, Option, None, Result, Ok, Err, IfOk, IfErr, true, refl, sym, ap, subst, arith, length}
+use Rattle.std.proofs.Common.{◌≡◌, ◌≢◌, ◌++◌, ◌+◌, ◌∙◌, ℕ, List, Option, None, Result, Ok, Err, IfOk, IfErr, true, refl, sym, ap, subst, arith, length}
 use Rattle.std.proofs.lemmas.Bool.{false≢true}
 use Rattle.std.specs.Io.KnownBytes.{Appends}
 use Rattle.gmp_seq.specs.declared.call.Limits.{Limits}
@@ -18,10 +18,9 @@ use Rattle.gmp_parts.specs.Parts.Parts.{NoPart, Then}
 use Rattle.gmp_parts.specs.Writing.{HasWritten, Writing}
 use Rattle.gmp_pieces.proofs.Taken.{refuses, run_written, takes}
 use Rattle.gmp_pieces.specs.Pieces.{pieces_of}
-use Rattle.gmp_run.proofs.Desks.{sized_with_left}
 use Rattle.gmp_run.specs.declared.ending.Report.{Report}
 use Rattle.gmp_run.specs.declared.ending.Unrun.{Unrun}
-use Rattle.gmp_run.specs.Desks.{IsPiece, joined, with_left}
+use Rattle.gmp_run.specs.Desks.{IsCut, joined, with_left}
 use Rattle.gmp_run.specs.Reports.{IsPiecesReport, WhyUnrun}
 use Rattle.gmp_words.specs.declared.said.Said.{Said}
 use Rattle.gmp_words.specs.declared.said.Said.TheVariants.{BadLimits, Nothing}
@@ -57,7 +56,7 @@ module _ {W : Type 0} (contents : W → Option (List ℕ)) (limits : Limits) (bo
     begun : start_of (whole parts last) ≡ start_of (opened capacities parts last)
     begun = rw (has.begins.2, has.begins.0, has.begins.1) refl
 
-  pub wrote_parts : (now : Writing W) (parts : Parts) (end : End) → HasWritten contents at_first now parts → All (IsPiece limits) (pieces_of parts) → end ≡ end_of now.state.outcome → end ≢ Running
+  pub wrote_parts : (now : Writing W) (parts : Parts) (end : End) → HasWritten contents at_first now parts → IsCut limits (pieces_of parts) → end ≡ end_of now.state.outcome → end ≢ Running
       → (old new : Option (List ℕ)) → Appends old new (lines_of end now.entries now.parts) → WritesParts limits capacities bodies (status_of end) (contents outlet) (contents now.out) old new
   wrote_parts now NoPart end has sized ended over old new told = absurd (over (ended ∙ ap (λ s. end_of s.outcome) has.stops))
   wrote_parts now (Then parts last) end has sized ended over old new told =
@@ -98,7 +97,7 @@ module _ {T W S : Type 0} (contents : W → Option (List ℕ)) (of : S → Writi
             → WritesParts limits capacities bodies status (contents outlet) (contents after.out) old new
         by_end (end, tells, is) (parts, are, entries, has) =
             let has_first : HasWritten contents (at_first contents limits bodies capacities outlet within) after parts = subst (λ (w : Writing W). HasWritten contents w after parts) first has in
-            let sized : All (IsPiece limits) (pieces_of parts) = subst (All (IsPiece limits)) (sym are) (sized_with_left limits report.pieces r.history.list report.sized report.few) in
+            let sized : IsCut limits (pieces_of parts) = record { full = report.pieces; left = r.history.list; are = are; sized = report.sized; few = report.few } in
             subst (λ (n : ℕ). WritesParts limits capacities bodies n (contents outlet) (contents after.out) old new) (sym is)
             (wrote_parts contents limits bodies capacities outlet within after parts end has_first sized tells.ended tells.over old new tells.told)
   wrote_run said status boxes after old new (Err u) counted report why unrun told nothing =

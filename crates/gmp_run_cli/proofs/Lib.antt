@@ -1,3 +1,4 @@
 pub mod Written
 pub mod InParts
+pub mod OneRun
 pub mod Held

@@ -25,7 +25,7 @@ use Rattle.gmp_run_cli.specs.Runs.{WritesTraceOrSummary}
 use Rattle.gmp_run_cli.specs.Told.{IsOfScript, TellsEnd, said_of_unrun, trace_of}
 
 -- a run that has an outcome has ended
-over : (o : Option Outcome) → IsSome o → end_of o ≢ Running
+pub over : (o : Option Outcome) → IsSome o → end_of o ≢ Running
 over (Some outcome.MainEnded) some = λ e. cc
 over (Some outcome.AllAsleep) some = λ e. cc
 over (Some outcome.BookFull) some = λ e. cc

@@ -1,5 +1,5 @@
 -- What a run in segments writes.
-use Rattle.std.specs.Prelude.{◌≡◌, ◌≢◌, ℕ, All, Bool, true, false, List, ◌++◌, Option, IfSome, length}
+use Rattle.std.specs.Prelude.{◌≡◌, ◌≢◌, ◌⊎◌, ℕ, Bool, true, false, List, [], ◌++◌, Option, Some, IsSome, IfSome, length}
 use Rattle.std.specs.Io.KnownBytes.{Appends}
 use Rattle.gmp_seq.specs.declared.call.Limits.{Limits}
 use Rattle.gmp_script.specs.Lines.{lines, IsScript}
@@ -15,10 +15,10 @@ use Rattle.gmp_parts.specs.declared.error.PartError.TheVariants as part_error
 use Rattle.gmp_parts.specs.Parts.{AreInOrder, Parts, joined_text, parts_line, texts, whole}
 use Rattle.gmp_parts.specs.Parts.Parts.{Then}
 use Rattle.gmp_parts.specs.Writing.{Writing}
-use Rattle.gmp_pieces.specs.Pieces.{WritesLeft, pieces_of}
+use Rattle.gmp_pieces.specs.Pieces.{Refuses, WritesLeft, pieces_of}
 use Rattle.gmp_run.specs.declared.ending.Report.{Report}
 use Rattle.gmp_run.specs.Counts.{all_calls}
-use Rattle.gmp_run.specs.Desks.{IsPiece}
+use Rattle.gmp_run.specs.Desks.{IsCut}
 use Rattle.gmp_words.specs.declared.said.Said.{Said}
 use Rattle.gmp_words.specs.declared.said.Said.TheVariants as said
 use Rattle.gmp_words.specs.Said.{is_of_step}
@@ -28,13 +28,13 @@ use Rattle.gmp_words.specs.Runs.{IsTraceOf, status_of}
 abbrev pub opened : List ℕ → Parts → Content → Content
 opened capacities parts last = record (whole parts last) { begins = AtOpening capacities }
 
--- What went out are the texts of right traces in order, the parts of a legal run by so many bodies, which ended; none has more entries than there
--- is room for. What was written are the lines by which `join` tells them, and the status tells the end.
+-- What went out are the texts of right traces in order, the parts of a legal run by so many bodies, which ended, cut where there was no room for
+-- another entry. What was written are the lines by which `join` tells them, and the status tells the end.
 pub record WritesParts (limits : Limits) (capacities : List ℕ) (bodies status : ℕ) (before after old new : Option (List ℕ)) : Type 0 where
   pub parts : Parts
   pub last : Content
   pub in_order : AreInOrder (Then parts last)
-  pub sized : All (IsPiece limits) (pieces_of (Then parts last))
+  pub sized : IsCut limits (pieces_of (Then parts last))
   pub begun : start_of (whole parts last) ≡ start_of (opened capacities parts last)
   pub legal : IsTraceOf limits capacities (opened capacities parts last)
   pub stock : (whole parts last).bodies ≡ bodies
@@ -59,6 +59,21 @@ pub record TellsParts {T W : Type 0} (contents : W → Option (List ℕ)) (befor
   pub over : end ≢ Running
   pub calls : after.entries ≡ all_calls r.logs.items
   pub told : Appends old new (outcome_line end ++ entries_line after.entries ++ parts_line after.parts)
+
+-- What the run left was not written: it is said to be no step.
+pub record LeavesNoStep {T W : Type 0} (before : Writing W) (r : Report T) (after : Writing W) : Type 0 where
+  pub refused : Refuses before r.history.list after
+  pub why : after.failed ≡ Some part_error.NoStep
+  pub nothing : r.history.list ≡ [] → IsSome before.failed
+
+-- What the run left was written as the last part, but the run is not over, or there are not as many entries as calls.
+pub record FallsShort {T W : Type 0} (contents : W → Option (List ℕ)) (before : Writing W) (r : Report T) (after : Writing W) : Type 0 where
+  pub left : WritesLeft contents before r.history.list after
+  pub short : end_of after.state.outcome ≢ Running → after.entries ≡ all_calls r.logs.items → ⊥
+
+-- Either of these: what was written is no run that is over.
+abbrev pub IsNoRun : {T W : Type 0} → (W → Option (List ℕ)) → Writing W → Report T → Writing W → Type 0
+IsNoRun contents before r after = LeavesNoStep before r after ⊎ FallsShort contents before r after
 
 -- what is said where a part was not written
 abbrev pub said_of_part : PartError → Said

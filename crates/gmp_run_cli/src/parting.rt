@@ -3,9 +3,9 @@
 ghost use Rattle.std.specs.Prelude.{◌≡◌, ◌≢◌, ◌^◌, ◌≤◌, IfErr, IfNone, IfOk, IfSome, IsErrAnd, true};
 ghost use Rattle.gmp_run.specs.Counts.{all_calls};
 ghost use Rattle.gmp_trace.specs.declared.trace.End.{End};
-ghost use Rattle.gmp_words.specs.declared.said.Said.TheVariants.{Nothing, OutputFailed};
+ghost use Rattle.gmp_words.specs.declared.said.Said.TheVariants.{NoRun, Nothing, OutputFailed};
 ghost use Rattle.gmp_words.specs.Runs.{status_of};
-ghost use Rattle.gmp_run_cli.specs.Segments.{TellsParts, is_of_end_in_parts, is_of_parts, said_of_part};
+ghost use Rattle.gmp_run_cli.specs.Segments.{IsNoRun, TellsParts, is_of_end_in_parts, is_of_parts, said_of_part};
 ghost use Rattle.gmp_run_cli.specs.Told.{said_of_unrun};
 
 use crate::telling::unrun;
@@ -53,6 +53,7 @@ fn ended<T, O: Outlet, W: Write>(
 ) -> Result<End, Ended>
     ensures told { IfOk result (λ end. TellsParts O.contents pieces.old.0 report.now pieces.new.0 end (W.contents writer.old) (W.contents writer.new)) }
     ensures kinds { IfErr result (λ e. is_of_parts e.said ≡ true) }
+    ensures no_run { IfErr result (λ e. e.said ≡ NoRun → IsNoRun O.contents pieces.old.0 report.now pieces.new.0) }
     ensures stopped { IfSome pieces.old.0.failed (λ error. IsErrAnd result (λ e. e.said ≡ said_of_part error)) }
     ensures quiet { IfErr result (λ e. e.said ≢ OutputFailed → W.contents writer.new ≡ W.contents writer.old) }
 {
@@ -78,6 +79,7 @@ pub(crate) fn told_in_parts<T: Drop, O: Outlet, W: Write>(
     ensures told { IfOk ran (λ report. result.said ≡ Nothing
         → (end : End) × TellsParts O.contents pieces.old.0 report pieces.new.0 end (W.contents writer.old) (W.contents writer.new) × result.status ≡ status_of end) }
     ensures kinds { IfOk ran (λ report. is_of_end_in_parts result.said ≡ true) }
+    ensures no_run { IfOk ran (λ report. result.said ≡ NoRun → IsNoRun O.contents pieces.old.0 report pieces.new.0) }
     ensures stopped { IfOk ran (λ report. IfSome pieces.old.0.failed (λ error. result.said ≡ said_of_part error)) }
     ensures quiet { result.said ≢ Nothing → result.said ≢ OutputFailed → W.contents writer.new ≡ W.contents writer.old }
     ensures unrun { IfErr ran (λ u. result.said ≡ said_of_unrun u.why) }

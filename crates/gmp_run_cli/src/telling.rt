@@ -1,10 +1,10 @@
 //! What is told of a run in threads. It takes any report, with no condition, and judges it by its logs, and by the script where that is
 //! asked for, before anything is printed: so what is said of a wrong one can be tried.
 
-ghost use Rattle.std.specs.Prelude.{◌≡◌, ◌≢◌, ◌<◌, ◌⊎◌, All, IfOk, IfErr, IfSome, IsSomeAnd, OnOk, length, true};
+ghost use Rattle.std.specs.Prelude.{◌≡◌, ◌≢◌, ◌<◌, ◌≤◌, ◌⊎◌, All, IfOk, IfErr, IfSome, IsSomeAnd, OnOk, length, true};
 ghost use Rattle.gmp_base.specs.declared.number.MNo.{MNo};
 ghost use Rattle.gmp_words.specs.declared.said.Said.TheVariants.{BadLimits, Mismatch, NoRun, Nothing, OutOfMemory, OutputFailed};
-ghost use Rattle.gmp_run_cli.specs.Told.{IsLeast, IsOfScript, IsPrinted, Prints, TellsEnd, is_of_print, is_of_report, is_short, said_of_unrun, trace_of};
+ghost use Rattle.gmp_run_cli.specs.Told.{AllAgree, IsLeast, IsOfScript, IsPrinted, Prints, TellsEnd, is_of_print, is_of_report, is_short, said_of_unrun, trace_of};
 ghost use Rattle.gmp_trace.specs.Text.{IsCounted, begins_at, content};
 
 use gmp_base::Refusal;
@@ -114,6 +114,10 @@ fn reported<T: Drop, W: Write>(
         → IsSomeAnd against.entry (λ script. IsOfScript report.limits capacities.now script.now report.history.list → ⊥)) }
     ensures limits { IfErr result (λ e. e.said ≡ BadLimits → 65535 < length report.bodies.items) }
     ensures mismatch { IfErr result (λ e. (m : MNo) → e.said ≡ Mismatch m → IsLeast report m) }
+    // The output is tried last.
+    ensures failed { IfErr result (λ e. e.said ≡ OutputFailed
+        → AllAgree report × (length report.bodies.items ≤ 65535)
+        × IfSome against.entry (λ script. IsOfScript report.limits capacities.now script.now report.history.list)) }
     ensures quiet { IfErr result (λ e. e.said ≢ OutputFailed → e.said ≢ OutOfMemory → W.contents writer.new ≡ W.contents writer.old) }
 {
     // More bodies than a trace can count.
@@ -151,6 +155,10 @@ pub fn told<T: Drop, W: Write>(
         → IsSomeAnd against.entry (λ script. IsOfScript report.limits capacities.now script.now report.history.list → ⊥)) }
     ensures limits { IfOk ran (λ report. result.said ≡ BadLimits → 65535 < length report.bodies.items) }
     ensures mismatch { IfOk ran (λ report. (m : MNo) → result.said ≡ Mismatch m → IsLeast report m) }
+    // The output is tried last, once the audits are passed.
+    ensures failed { IfOk ran (λ report. result.said ≡ OutputFailed
+        → AllAgree report × (length report.bodies.items ≤ 65535)
+        × IfSome against.entry (λ script. IsOfScript report.limits capacities.now script.now report.history.list)) }
     ensures unrun { IfErr ran (λ u. result.said ≡ said_of_unrun u.why) }
 
     // Where it is not begun, or falls short before it is written, nothing is written.
