@@ -1,6 +1,6 @@
 //! Bodies that are handed over to goroutines, more of them than goroutines, and what they leave where there is room for one at a time.
 
-use crate::ways::Place;
+use crate::ways::Runner;
 use gmp_host::{
     Ask, Ended, Fault, Goroutine, Host, Nonsense, Note, Outputs, Short, Spawner, Task, Woke,
 };
@@ -200,14 +200,14 @@ impl Goroutine for Boss {
     }
 }
 
-/// The end of a run at this place, in which main finds this out.
+/// The end of a run by this runner, in which main finds this out.
 pub fn run_handed<R: Threads + Wait + Clock + Sync>(
     rt: &R,
     alloc: Global,
-    place: Place,
+    runner: Runner,
     found: &Found,
 ) -> Result<Ended, Short> {
-    let mut host = Host::new(alloc, place.settings())?;
+    let mut host = Host::new(alloc, runner.settings())?;
     let told = host.channel(0)?;
     let outputs = host.outputs(1, told)?;
     let spawner = host.spawner(2)?;
@@ -226,5 +226,5 @@ pub fn run_handed<R: Threads + Wait + Clock + Sync>(
         let goroutine = host.boxed(spawner.goroutine(&outputs)?)?;
         host.push(goroutine)?;
     }
-    place.run(rt, host)
+    runner.run(rt, host)
 }

@@ -8,7 +8,7 @@ mod ways;
 
 use crate::handed::{Found, run_handed};
 use crate::split::run_split;
-use crate::ways::Place;
+use crate::ways::Runner;
 use anyhow::Result;
 use gmp_host::{
     Act, Ask, Channel, Ended, GNo, Gate, Goroutine, History, Host, MNo, Nonsense, Note, Settings,
@@ -169,6 +169,31 @@ fn stopped<R: Threads + Wait + Clock + Sync>(
     Ok((ended, sink.pieces))
 }
 
+/// What became of bodies that were handed over, and of work that was split, by this runner.
+fn show_spawned<R: Threads + Wait + Clock + Sync + Print>(
+    rt: &R,
+    alloc: Global,
+    runner: Runner,
+) -> Result<()> {
+    let found = Found::new(alloc)?;
+    let ended = run_handed(rt, alloc, runner, &found)?;
+    println!(rt;
+        "handed over: {ended}; outputs {}, sum {}, twice {}, bodies came back: {}",
+        found.outputs.get(),
+        found.sum.get(),
+        found.twice.get(),
+        found.back.get() > 0
+    )?;
+    let (count, sum) = (Note::new(alloc)?, Note::new(alloc)?);
+    let ended = run_split(rt, alloc, runner, &count, &sum)?;
+    println!(rt;
+        "split: {ended}; numbers {}, sum {}",
+        count.get(),
+        sum.get()
+    )?;
+    Ok(())
+}
+
 fn main(rt: HostRuntime) -> Result<()> {
     let alloc = rt.alloc();
     println!(rt; "step: {}", lossy(&rt, alloc, Way::Step)?)?;
@@ -202,23 +227,6 @@ fn main(rt: HostRuntime) -> Result<()> {
         (Ok(ended), _) => println!(rt; "{ended}")?,
         (Err(short), pieces) => println!(rt; "{short}, pieces: {pieces}")?,
     }
-    for place in [Place::Here, Place::Threads] {
-        let found = Found::new(alloc)?;
-        let ended = run_handed(&rt, alloc, place, &found)?;
-        println!(rt;
-            "handed over: {ended}; outputs {}, sum {}, twice {}, bodies came back: {}",
-            found.outputs.get(),
-            found.sum.get(),
-            found.twice.get(),
-            found.back.get() > 0
-        )?;
-        let (count, sum) = (Note::new(alloc)?, Note::new(alloc)?);
-        let ended = run_split(&rt, alloc, place, &count, &sum)?;
-        println!(rt;
-            "split: {ended}; numbers {}, sum {}",
-            count.get(),
-            sum.get()
-        )?;
-    }
-    Ok(())
+    show_spawned(&rt, alloc, Runner::Core)?;
+    show_spawned(&rt, alloc, Runner::Threads)
 }

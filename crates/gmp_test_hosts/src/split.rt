@@ -1,7 +1,7 @@
 //! Bodies that hand over others: the numbers of a span are added up by goroutines, each of which hands half of what it has over, where a
 //! goroutine is free for it, and adds up the rest itself.
 
-use crate::ways::Place;
+use crate::ways::Runner;
 use gmp_host::{
     Ask, Ended, Fault, Goroutine, Host, Nonsense, Note, Outputs, Short, Spawner, Task, Woke,
 };
@@ -148,15 +148,15 @@ impl Goroutine for Whole {
     }
 }
 
-/// The end of a run at this place, in which so many numbers are added up to this sum.
+/// The end of a run by this runner, in which so many numbers are added up to this sum.
 pub fn run_split<R: Threads + Wait + Clock + Sync>(
     rt: &R,
     alloc: Global,
-    place: Place,
+    runner: Runner,
     count: &Note,
     sum: &Note,
 ) -> Result<Ended, Short> {
-    let mut host = Host::new(alloc, place.settings())?;
+    let mut host = Host::new(alloc, runner.settings())?;
     let told = host.channel(0)?;
     let outputs = host.outputs(1, told)?;
     let spawner = host.spawner(2)?;
@@ -173,5 +173,5 @@ pub fn run_split<R: Threads + Wait + Clock + Sync>(
         let goroutine = host.boxed(spawner.goroutine(&outputs)?)?;
         host.push(goroutine)?;
     }
-    place.run(rt, host)
+    runner.run(rt, host)
 }

@@ -23,33 +23,33 @@ impl Sink for LetsGo {
     }
 }
 
-/// Where a host is run.
+/// What runs a host.
 #[derive(Clone, Copy, Drop)]
-pub enum Place {
-    /// By a core, in this thread.
-    Here,
-    /// In threads.
+pub enum Runner {
+    /// A core, in this thread.
+    Core,
+    /// Machines in threads.
     Threads,
 }
 
-impl Place {
+impl Runner {
     /// In threads there are entries for goroutines that yield for as long as others take.
     pub fn settings(self) -> Settings {
         let settings = Settings::default();
         match self {
-            Place::Here => settings,
-            Place::Threads => Settings {
+            Runner::Core => settings,
+            Runner::Threads => Settings {
                 entries: 1 << 40,
                 ..settings
             },
         }
     }
 
-    /// Runs the host there.
+    /// Runs the host.
     pub fn run<R: Threads + Wait + Clock + Sync>(self, rt: &R, host: Host) -> Result<Ended, Short> {
         match self {
-            Place::Here => host.step(),
-            Place::Threads => host.run_into(rt, LetsGo).0,
+            Runner::Core => host.step(),
+            Runner::Threads => host.run_into(rt, LetsGo).0,
         }
     }
 }

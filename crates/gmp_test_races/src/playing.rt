@@ -47,6 +47,16 @@ struct Joined {
 }
 
 impl Joined {
+    /// Has no entry yet. Of some seeds it stops the run at the second piece.
+    fn of(alloc: Global, seed: u64) -> Self {
+        Joined {
+            entries: History::new(alloc),
+            is_short: false,
+            pieces: if seed % 8 == 1 { 1 } else { u64::MAX },
+            has_stopped: false,
+        }
+    }
+
     /// Adds these entries behind those that are there.
     fn add(&mut self, entries: &History) {
         for entry in entries.iter() {
@@ -161,13 +171,7 @@ fn raced<R: Threads + Wait + Sync>(
         0
     };
     let gate = Turnstile::new(seed, others);
-    let none = Joined {
-        entries: History::new(alloc),
-        is_short: false,
-        // Some runs are stopped at their second piece.
-        pieces: if seed % 8 == 1 { 1 } else { u64::MAX },
-        has_stopped: false,
-    };
+    let none = Joined::of(alloc, seed);
     let (ran, joined) = run_into(
         rt, alloc, seed, limits, capacities, boxes, &clock, &gate, seed, none,
     );
@@ -179,11 +183,7 @@ fn raced<R: Threads + Wait + Sync>(
     if whole.is_short {
         return Err(RaceError::OutOfMemory);
     }
-    let ends = if whole.has_stopped {
-        None
-    } else {
-        Some(row.ends)
-    };
+    let ends = (!whole.has_stopped).then_some(row.ends);
     judge(
         alloc,
         limits,

@@ -32,6 +32,9 @@ use std::thread::Threads;
 /// The command line of a run that prints its trace; the other commands have no use for the flag.
 const LINE: &str = "gmp run --trace --entries 16";
 
+/// The command line of one that is held against its script.
+const SCRIPTED: &str = "gmp run --trace --scripted --entries 16";
+
 /// The command line of an exploration that tells what it finds.
 const WORDS: &str = "gmp explore";
 
@@ -83,21 +86,24 @@ fn settings_of(alloc: Global, line: &str) -> Result<Settings, Ended> {
     command_line(alloc, &words).map(|line| line.settings)
 }
 
-/// A command, with what it writes, and what it writes where a make is refused memory.
+/// A command, with what it writes, and what it writes where a make is refused memory: nothing where that is then no run of the script.
 #[derive(Clone, Copy)]
 struct Command {
     name: &'static str,
     task: Task,
+    /// Whether the run is held against its script.
+    scripted: bool,
     /// The status where nothing is refused.
     status: u8,
     whole: &'static str,
     unmade: &'static str,
 }
 
-const COMMANDS: [Command; 8] = [
+const COMMANDS: [Command; 9] = [
     Command {
         name: "step",
         task: Task::Step,
+        scripted: false,
         status: 0,
         whole: TRACE,
         unmade: UNMADE,
@@ -105,13 +111,23 @@ const COMMANDS: [Command; 8] = [
     Command {
         name: "run",
         task: Task::Run,
+        scripted: false,
         status: 0,
         whole: TRACE,
         unmade: UNMADE,
     },
     Command {
+        name: "scripted",
+        task: Task::Run,
+        scripted: true,
+        status: 0,
+        whole: TRACE,
+        unmade: "",
+    },
+    Command {
         name: "check",
         task: Task::Check,
+        scripted: false,
         status: 0,
         whole: SUMMARY,
         unmade: SUMMARY,
@@ -119,6 +135,7 @@ const COMMANDS: [Command; 8] = [
     Command {
         name: "join",
         task: Task::Join,
+        scripted: false,
         status: 0,
         whole: PARTS_TOLD,
         unmade: PARTS_TOLD,
@@ -126,6 +143,7 @@ const COMMANDS: [Command; 8] = [
     Command {
         name: "cut",
         task: Task::Cut,
+        scripted: false,
         status: 0,
         whole: PART,
         unmade: PART,
@@ -133,6 +151,7 @@ const COMMANDS: [Command; 8] = [
     Command {
         name: "explain",
         task: Task::Explain,
+        scripted: false,
         status: 0,
         whole: FACTS,
         unmade: FACTS,
@@ -140,6 +159,7 @@ const COMMANDS: [Command; 8] = [
     Command {
         name: "draw",
         task: Task::Draw,
+        scripted: false,
         status: 0,
         whole: PICTURE,
         unmade: PICTURE,
@@ -147,11 +167,27 @@ const COMMANDS: [Command; 8] = [
     Command {
         name: "explore",
         task: Task::Explore,
+        scripted: false,
         status: 2,
         whole: FOUND,
         unmade: FOUND,
     },
 ];
+
+/// Runs the script and holds the run against it; the trace goes to `output`.
+fn held<R: Threads + Wait + Sync>(rt: &R, alloc: Global, output: &mut &mut [u8]) -> Ended {
+    match settings_of(alloc, SCRIPTED) {
+        Ok(settings) => run(
+            rt,
+            alloc,
+            &settings,
+            &mut SCRIPT.as_bytes(),
+            output,
+            &Stopped,
+        ),
+        Err(ended) => ended,
+    }
+}
 
 /// What `explain` tells goes to `output`.
 fn told(alloc: Global, output: &mut &mut [u8]) -> Ended {
@@ -187,6 +223,7 @@ impl Command {
         let mut script = SCRIPT.as_bytes();
         match self.task {
             Task::Step => step(alloc, settings, &mut script, output),
+            Task::Run if self.scripted => held(rt, alloc, output),
             Task::Run => run(rt, alloc, settings, &mut script, output, &Stopped),
             Task::Check => check(alloc, &mut TRACE.as_bytes(), output, &mut ()),
             Task::Join => join(alloc, &mut PARTS.as_bytes(), output, &mut ()),
