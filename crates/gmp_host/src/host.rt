@@ -7,7 +7,6 @@ ghost use Rattle.gmp_host.specs.Openings.{limits_of};
 ghost use Rattle.gmp_run.specs.Counts.{all_calls};
 
 use crate::channel::Channel;
-use crate::clock::Since;
 use crate::ending::{Ended, Lost, Short};
 use crate::goroutine::{Go, Goroutine, Loss};
 use crate::note::{Note, Time};
@@ -17,7 +16,7 @@ use crate::stamps::Stamps;
 use crate::stepping::play_all;
 use gmp_base::{CNo, GNo};
 use gmp_history::History;
-use gmp_run::{Clock, Gate, Open, Sink, Stop, run, run_into};
+use gmp_run::{Clock, Gate, Open, Since, Sink, Stop, run, run_into};
 use gmp_worker::{Boxed, PassLog, audit};
 use std::alloc::Global;
 use std::sync::{Arc, Mutex, Wait};

@@ -12,7 +12,6 @@
 #![tactic(auto)]
 
 mod channel;
-mod clock;
 mod ending;
 mod goroutine;
 mod host;
@@ -25,12 +24,11 @@ mod stamps;
 mod stepping;
 
 pub use channel::Channel;
-pub use clock::Since;
 pub use ending::{Ended, Lost, Short};
 pub use gmp_base::{Ask, CNo, Case, Cases, Fault, GNo, MNo, Woke};
 pub use gmp_driver::Act;
 pub use gmp_history::History;
-pub use gmp_run::{Clock, Gate, MOST_REST, Open, Sink, Stop};
+pub use gmp_run::{Clock, Gate, MOST_REST, Open, Since, Sink, Stop};
 pub use gmp_seq::Outcome;
 pub use goroutine::{Go, Goroutine, Nonsense};
 pub use host::Host;

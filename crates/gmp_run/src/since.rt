@@ -1,7 +1,7 @@
 //! A clock for machines in threads.
 
+use crate::outside::{self, MOST_REST};
 use crossbeam_utils::sync::Parker;
-use gmp_run::MOST_REST;
 use std::sync::Wait;
 use std::thread::sleep;
 use std::time::{Clock, Duration, Instant};
@@ -23,7 +23,7 @@ impl<'a, T: Clock> Since<'a, T> {
     }
 }
 
-impl<T: Clock + Wait> gmp_run::Clock for Since<'_, T> {
+impl<T: Clock + Wait> outside::Clock for Since<'_, T> {
     /// How long ago it started.
     fn now(&self) -> u64 {
         match self.start.map(|start| start.elapsed(self.rt)) {
