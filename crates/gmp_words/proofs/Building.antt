@@ -1,5 +1,5 @@
 -- The shape of a command to which options are added in turn.
-use Rattle.std.proofs.Common.{◌≡◌, ◌∙◌, ◌+◌, ◌<◌, ℕ, false, List, [], ◌∷◌, map, take, get_or, length, ap, ap₂, sym, append_assoc}
+use Rattle.std.proofs.Common.{◌≡◌, ◌∙◌, ◌+◌, ◌<◌, ℕ, false, List, [], ◌∷◌, map, take, get_or, length, ap, ap₂, sym, append_assoc, Result, Ok, Err, IfOk, IsOkAnd}
 use Rattle.std.proofs.lemmas.List.{map_more}
 use Rattle.clap.specs.Words.{AddsArg, AddsSubcommand, App, Rule, Shape, app_of, rule_of, shape_of, with_subcommand}
 use Rattle.clap.specs.declared.builder.arg.Arg.{Arg}
@@ -23,7 +23,9 @@ one_after f s now new r xs i x lt at so_far next =
     ∙ ap (λ rs. record s { rules = rs }) (append_assoc s.rules (map f (take i xs)) (f (get_or xs i x) ∷ []))
     ∙ ap (with_more s) (sym (map_more f xs i x lt))
 
--- one more command
-pub one_command : (old sub new : Command) (a : App) (s : Shape) → AddsSubcommand old sub new → (out-Command sub).has_globals ≡ false
-    → app_of old ≡ a → shape_of sub ≡ s → app_of new ≡ with_subcommand a s
-one_command old sub new a s adds local so_far is = adds.shape local ∙ ap₂ with_subcommand so_far is
+-- one more command, which was made
+pub one_command : {E : Type 0} (old : Command) (made : Result Command E) (new : Command) (a : App) (s : Shape)
+    → IsOkAnd made (λ sub. AddsSubcommand old sub new) → IfOk made (λ sub. (out-Command sub).has_globals ≡ false)
+    → app_of old ≡ a → IfOk made (λ sub. shape_of sub ≡ s) → app_of new ≡ with_subcommand a s
+one_command old (Ok sub) new a s adds local so_far is = adds.shape local ∙ ap₂ with_subcommand so_far is
+one_command old (Err e) new a s adds local so_far is = absurd adds

@@ -1,7 +1,7 @@
 //! The commands as `clap` has them: each option and each command is a function or a constant here, with its texts.
 
-ghost use Rattle.std.specs.Prelude.{◌≡◌, [], IfOk, codes, false, map, true};
-ghost use Rattle.clap.specs.Words.{app_of, rule_of, shape_of};
+ghost use Rattle.std.specs.Prelude.{◌≡◌, [], IfOk, IsOkAnd, codes, false, map, true};
+ghost use Rattle.clap.specs.Words.{AddsSubcommand, app_of, rule_of, shape_of};
 ghost use Rattle.clap.specs.declared.builder.command.Command.TheViews.{out-Command as fields_of};
 ghost use Rattle.gmp_words.specs.Program.{flag, folder, gmp, numeric_of, with_more};
 ghost use Rattle.gmp_words.specs.Program as line;
@@ -376,17 +376,26 @@ fn program<'a>(alloc: Global) -> Command<'a>
         .subcommand_required(true)
 }
 
+/// The program with one command more, if that could be made.
+fn with_command<'a>(
+    program: Command<'a>,
+    made: Result<Command<'a>, AllocError>,
+) -> Result<Command<'a>, AllocError>
+    ensures { IfOk result (λ r. IsOkAnd made.entry (λ command. AddsSubcommand program.entry command r)) }
+{
+    program.subcommand(made?)
+}
+
 /// The program with all its commands.
 pub(crate) fn command<'a>(alloc: Global) -> Result<Command<'a>, AllocError>
     ensures { IfOk result (λ r. app_of r ≡ gmp) }
 {
-    program(alloc)
-        .subcommand(step(alloc)?)?
-        .subcommand(run(alloc)?)?
-        .subcommand(check(alloc))?
-        .subcommand(join(alloc))?
-        .subcommand(cut(alloc)?)?
-        .subcommand(explain(alloc)?)?
-        .subcommand(draw(alloc)?)?
-        .subcommand(explore(alloc)?)
+    let gmp = with_command(program(alloc), step(alloc))?;
+    let gmp = with_command(gmp, run(alloc))?;
+    let gmp = with_command(gmp, Ok(check(alloc)))?;
+    let gmp = with_command(gmp, Ok(join(alloc)))?;
+    let gmp = with_command(gmp, cut(alloc))?;
+    let gmp = with_command(gmp, explain(alloc))?;
+    let gmp = with_command(gmp, draw(alloc))?;
+    with_command(gmp, explore(alloc))
 }

@@ -222,6 +222,18 @@ fn line_of<'a>(matches: &ArgMatches<'a>) -> Result<CommandLine<'a>, Refusal>
     })
 }
 
+/// What a line ends with that is refused behind `clap`: the reason, as `clap` tells its own.
+fn told(alloc: Global, command: &mut Command, refusal: Refusal) -> Ended
+    requires { IsHelp refusal.kind → ⊥ }
+    ensures said { is_of_words result.said ≡ true }
+    ensures help { result.status ≡ 0 → ⊥ }
+{
+    match command.error(refusal.kind, refusal.text) {
+        Ok(error) => refused(alloc, &error),
+        Err(_) => Ended::out_of_memory(),
+    }
+}
+
 /// What the command line says, the program's name first.
 ///
 /// A line that is refused ends with status 64 and `clap`'s text, help or the version that was asked for with 0.
@@ -246,9 +258,6 @@ pub fn command_line<'a>(alloc: Global, words: &'a [String]) -> Result<CommandLin
     };
     match line_of(&matches) {
         Ok(line) => Ok(line),
-        Err(refusal) => {
-            let error = command.error(refusal.kind, refusal.text)?;
-            Err(refused(alloc, &error))
-        }
+        Err(refusal) => Err(told(alloc, &mut command, refusal)),
     }
 }

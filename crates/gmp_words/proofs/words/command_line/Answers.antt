@@ -13,11 +13,6 @@ use Rattle.gmp_words.proofs.words.command_line.Goals as goal
 has_of : (app : App) (words : List Text) (e : Error) → app ≡ gmp → HasKind (fault_of app words) e → HasKind (fault_of gmp words) e
 has_of app words e is has = subst (λ (a : App). HasKind (fault_of a words) e) is has
 
--- of such an error it is enough that memory was refused
-of_memory : {X : Type 0} (A B : Type 0) (r : Result X Ended) → IfErr r (λ e. e.said ≡ said.OutOfMemory) → IfErr r (λ e. A → e.said ≢ said.OutOfMemory → B)
-of_memory A B (Ok x) is = is
-of_memory A B (Err e) is = λ none some. absurd (some is)
-
 -- where nothing is wrong memory is
 memory_alone : (kinds : Kinds) (e : Error) → HasKind kinds e → kinds ≡ [] → kind_of e ≡ kind.OutOfMemory
 memory_alone kinds e has none = by (subst (λ (k : Kinds). HasKind k e) none has) where
@@ -81,17 +76,14 @@ returns-in-Err-clause-shown c = λ asked.
       by (inl help) = c.refused.ensures.help help
       by (inr memory) = inr (c.refused.ensures.memory memory)
 
-pub returns-in_err-error-in-Err-line_of-clause-refused : goal.returns-in_err-error-in-Err-line_of-clause-refused
-returns-in_err-error-in-Err-line_of-clause-refused c = of_memory _ _ c.from_residual-in_err-error-in-Err-line_of.result (search (rules, tests))
-
-pub returns-clause-refused : goal.returns-clause-refused
-returns-clause-refused c = λ none some line said.
+pub returns-in-Err-line_of-clause-refused : goal.returns-in-Err-line_of-clause-refused
+returns-in-Err-line_of-clause-refused c = λ none some line said.
     let app = c.in_ok-command.ensures in
     let found = c.in-Ok.ensures.ok.2 (ap is_simple app ∙ gmp_is_simple) in
     let nothing : (l : Line) → AreSaid (subcommand_rows_of c.in-Ok.matches) l → ⊥ = search (rules, tests) in
     nothing line (subst (λ entered. AreSaid entered line) (sym (found.1 ∙ ap (λ (a : App). subcommand_of a (map string_bytes c.args.words.now)) app)) said)
 
-pub returns-clause-shown : goal.returns-clause-shown
-returns-clause-shown c = λ asked.
+pub returns-in-Err-line_of-clause-shown : goal.returns-in-Err-line_of-clause-shown
+returns-in-Err-line_of-clause-shown c = λ asked.
     let app = c.in_ok-command.ensures in
     absurd (no_help (fault_of gmp (map string_bytes c.args.words.now)) (sym (ap (λ (a : App). fault_of a (map string_bytes c.args.words.now)) app) ∙ c.in-Ok.ensures.kinds (ap is_simple_and_free app ∙ gmp_is_free)) asked)
