@@ -22,7 +22,6 @@ pub struct Judgement {
     pub trace: Trace,
     /// The first wrong line, if one is.
     pub wrong: Option<Bad>,
-    pub ghost judged: { IsJudged (content trace) wrong },
 }
 
 impl Judgement {
@@ -30,6 +29,7 @@ impl Judgement {
     fn of<P: Progress>(alloc: Global, trace: Trace, progress: &mut P) -> Result<Self, Ended>
         requires { HasText (content trace) }
         ensures trace { IfOk result (λ found. found.trace ≡ trace) }
+        ensures judged { IfOk result (λ found. IsJudged (content trace) found.wrong) }
         ensures memory { IfErr result (λ e. e.said ≡ OutOfMemory) }
     {
         match check_view(alloc, trace.view(), progress) {
@@ -46,6 +46,7 @@ impl Judgement {
 
     /// The trace, if it is right, or how a command ends that takes no other.
     pub fn right(self) -> Result<Trace, Ended>
+        requires { IsJudged (content self.trace) self.wrong }
         ensures right { IfOk result (λ trace. IsRightTrace (content trace)) }
         ensures trace { IfOk result (λ trace. trace ≡ self.trace) }
         ensures none { IfOk result (λ _. self.wrong ≡ None) }
@@ -63,6 +64,7 @@ impl Judgement {
 /// The trace whose text the bytes are, right or not.
 /// Progress ends with it, whatever came of it, so that a line that is shown is gone before anything is written.
 fn judge<P: Progress>(alloc: Global, bytes: &[u8], progress: &mut P) -> Result<Judgement, Ended>
+    ensures judged { IfOk result (λ found. IsJudged (content found.trace) found.wrong) }
     ensures read { IfOk result (λ found. IsRead bytes.now (content found.trace)) }
     ensures wrong { IfOk result (λ found. IfSome found.wrong (IsWrong bytes.now)) }
 
@@ -97,6 +99,7 @@ pub fn read_trace<R: Read, P: Progress>(
     reader: &mut R,
     progress: &mut P,
 ) -> Result<Judgement, Ended>
+    ensures judged { IfOk result (λ found. IsJudged (content found.trace) found.wrong) }
     ensures read { IfOk result (λ found. IfSome (R.remaining reader.old) (λ all. IsRead all (content found.trace))) }
     ensures wrong { IfOk result (λ found. SaysOfTrace (R.remaining reader.old) (said_of found.wrong)) }
 

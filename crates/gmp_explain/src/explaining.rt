@@ -2,7 +2,8 @@
 ghost use Rattle.std.specs.Prelude.{◌≡◌, ◌≢◌, ◌↔◌, ◌⊎◌, true, IfSome};
 ghost use Rattle.gmp_check_cli.specs.Check.{HasRightTrace, SaysOfTrace, said_of};
 ghost use Rattle.gmp_words.specs.Said.{is_of_check};
-ghost use Rattle.gmp_words.specs.declared.said.Said.TheVariants.{Nothing, OutOfMemory, OutputFailed};
+ghost use Rattle.gmp_words.specs.declared.said.Said.TheVariants as said;
+ghost use Rattle.gmp_words.specs.declared.said.Said.TheVariants.{Nothing, OutputFailed};
 
 use crate::fact::{Fact, Sink};
 use crate::json::Json;
@@ -65,7 +66,7 @@ fn facts(alloc: Global, json: bool, judgement: &Judgement) -> Result<String, Out
 
 /// How it ends on a trace, and the facts. A wrong line is named even where there is no memory to say why it is wrong.
 fn explain_trace(alloc: Global, json: bool, judgement: &Judgement) -> Explained
-    ensures said { (result.ended.said ≡ said_of judgement.now.wrong) ⊎ (result.ended.said ≡ OutOfMemory) }
+    ensures said { (result.ended.said ≡ said_of judgement.now.wrong) ⊎ (result.ended.said ≡ said.OutOfMemory) }
     ensures status { result.ended.status ≡ 0 ↔ result.ended.said ≡ Nothing }
 {
     let facts = facts(alloc, json, judgement);
