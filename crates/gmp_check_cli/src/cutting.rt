@@ -1,16 +1,15 @@
 //! A part of a trace: it begins at the state before its first entry, so anybody can check it alone.
 
-ghost use Rattle.std.specs.Prelude.{◌≡◌, ◌≢◌, ◌↔◌, ◌<◌, ◌≤◌, true, false, length, IfSome};
-ghost use Rattle.gmp_trace.specs.declared.bad.Bad.{Bad};
-ghost use Rattle.gmp_check_cli.specs.Check.{HasNoRightTrace, IsBadLine};
+ghost use Rattle.std.specs.Prelude.{◌≡◌, ◌↔◌, true, IfSome};
+ghost use Rattle.gmp_check_cli.specs.Check.{SaysOfTrace};
 ghost use Rattle.gmp_check_cli.specs.Cut.{HasNoPart, HasPart, WritesPart};
-ghost use Rattle.gmp_words.specs.Said.{is_before_writing, is_of_cut, is_of_input};
-ghost use Rattle.gmp_words.specs.declared.said.Said.TheVariants.{BadLimits, BadTrace, InputTooLong, Nothing, OutputFailed};
+ghost use Rattle.gmp_words.specs.Said.{is_before_writing, is_of_cut};
+ghost use Rattle.gmp_words.specs.declared.said.Said.TheVariants.{BadLimits, Nothing, OutputFailed};
 
-use crate::checking::right_trace;
+use crate::judging::right_trace;
 use gmp_check::{SplitError, split};
 use gmp_trace::write;
-use gmp_words::{Ended, MAX_TRACE};
+use gmp_words::Ended;
 use std::alloc::Global;
 use std::io::{Read, Write};
 
@@ -28,10 +27,9 @@ pub fn cut<R: Read, W: Write>(alloc: Global, at: u64, reader: &mut R, writer: &m
 
     ensures failed { result.said ≡ OutputFailed → IfSome (R.remaining reader.old) (HasPart at) }
     ensures past { result.said ≡ BadLimits → IfSome (R.remaining reader.old) (HasNoPart at) }
-    ensures first { (bad : Bad) → result.said ≡ BadTrace bad → IfSome (R.remaining reader.old) (λ all. IsBadLine all bad) }
-    ensures too_long { result.said ≡ InputTooLong → IfSome (R.remaining reader.old) (λ all. MAX_TRACE < length all) }
-    ensures short { is_of_input result.said ≡ false → IfSome (R.remaining reader.old) (λ all. length all ≤ MAX_TRACE) }
-    ensures exact { (bad : Bad) → result.said ≡ BadTrace bad → IfSome (R.remaining reader.old) HasNoRightTrace }
+
+    // A line that is called bad is, and so is an input that is called too long.
+    ensures says { SaysOfTrace (R.remaining reader.old) result.said }
 {
     let trace = match right_trace(alloc, reader, &mut ()) {
         Ok(trace) => trace,

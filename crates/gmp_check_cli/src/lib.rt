@@ -7,13 +7,17 @@
 //! the command with its own text: an input that is longer than 1 GiB or can't be read, the first bad line, no such part, an output that
 //! fails, and want of memory.
 //!
+//! `judging` reads and judges, for each command that takes a trace: what they say of it is true by one definition (`SaysOfTrace`).
+//!
 //! Long inputs take a while, so a caller may be told how far the check is (`Progress`); what is found doesn't depend on it.
 #![tactic(auto)]
 
 mod checking;
 mod cutting;
+mod judging;
 mod progress;
 
-pub use checking::{check, judged};
+pub use checking::check;
 pub use cutting::cut;
+pub use judging::{Judgement, judged, read_trace, right_trace};
 pub use progress::Progress;

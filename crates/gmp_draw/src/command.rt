@@ -1,16 +1,15 @@
 //! The command `draw` as a function: it reads and checks a trace as `check` does, and writes its picture.
-ghost use Rattle.std.specs.Prelude.{◌≡◌, ◌≢◌, ◌↔◌, ◌<◌, ◌≤◌, true, false, length, IfErr, IfOk, IfSome};
-ghost use Rattle.gmp_trace.specs.declared.bad.Bad.{Bad};
-ghost use Rattle.gmp_check_cli.specs.Check.{HasNoRightTrace, HasRightTrace, IsBadLine};
-ghost use Rattle.gmp_words.specs.Said.{is_of_check, is_of_input, is_of_trace};
-ghost use Rattle.gmp_words.specs.declared.said.Said.TheVariants.{BadTrace, InputTooLong, Nothing, OutputFailed};
+ghost use Rattle.std.specs.Prelude.{◌≡◌, ◌≢◌, ◌↔◌, true, IfSome};
+ghost use Rattle.gmp_check_cli.specs.Check.{HasRightTrace, SaysOfTrace};
+ghost use Rattle.gmp_words.specs.Said.{is_of_check};
+ghost use Rattle.gmp_words.specs.declared.said.Said.TheVariants.{Nothing, OutputFailed};
 
 use crate::drawing::picture;
 use crate::range::Range;
-use gmp_check_cli::{Progress, judged};
-use gmp_trace::{Bad, Trace};
+use gmp_check_cli::{Progress, right_trace};
+use gmp_trace::Trace;
 use gmp_walk::first_number;
-use gmp_words::{Ended, MAX_TRACE, input};
+use gmp_words::Ended;
 use std::alloc::Global;
 use std::io::{Read, Write};
 
@@ -21,30 +20,6 @@ fn range_of(trace: &Trace, from: u64, to: u64) -> Range {
         Range::beginning_at(from)
     } else {
         Range { from, to }
-    }
-}
-
-/// The picture of the right trace whose text the bytes are.
-fn drawn<P: Progress>(
-    alloc: Global,
-    from: u64,
-    to: u64,
-    bytes: &[u8],
-    progress: &mut P,
-) -> Result<Vec<u8>, Ended>
-    ensures right { IfOk result (λ _. HasRightTrace bytes.now) }
-    ensures kinds { IfErr result (λ e. is_of_trace e.said ≡ true) }
-    ensures first { IfErr result (λ e. (bad : Bad) → e.said ≡ BadTrace bad → IsBadLine bytes.now bad) }
-    ensures exact { IfErr result (λ e. (bad : Bad) → e.said ≡ BadTrace bad → HasNoRightTrace bytes.now) }
-{
-    let trace = match judged(alloc, bytes, progress) {
-        Ok(trace) => trace,
-        Err(ended) => return Err(ended),
-    };
-    let range = range_of(&trace, from, to);
-    match picture(alloc, trace.view(), range, &mut ()) {
-        Ok(svg) => Ok(svg),
-        Err(_) => Err(Ended::out_of_memory()),
     }
 }
 
@@ -68,23 +43,19 @@ pub fn draw<R: Read, W: Write, P: Progress>(
     ensures quiet { result.said ≢ Nothing → result.said ≢ OutputFailed → W.contents writer.new ≡ W.contents writer.old }
     ensures failed { result.said ≡ OutputFailed → IfSome (R.remaining reader.old) HasRightTrace }
 
-    ensures first { (bad : Bad) → result.said ≡ BadTrace bad → IfSome (R.remaining reader.old) (λ all. IsBadLine all bad) }
-    ensures too_long { result.said ≡ InputTooLong → IfSome (R.remaining reader.old) (λ all. MAX_TRACE < length all) }
-    ensures short { is_of_input result.said ≡ false → IfSome (R.remaining reader.old) (λ all. length all ≤ MAX_TRACE) }
-    ensures exact { (bad : Bad) → result.said ≡ BadTrace bad → IfSome (R.remaining reader.old) HasNoRightTrace }
+    // A line that is called bad is, and so is an input that is called too long.
+    ensures says { SaysOfTrace (R.remaining reader.old) result.said }
 {
-    let bytes = match input(alloc, reader, MAX_TRACE) {
-        Ok(bytes) => bytes,
+    let trace = match right_trace(alloc, reader, progress) {
+        Ok(trace) => trace,
         Err(ended) => return ended,
     };
-    progress.begin(bytes.len());
-    let drawn = drawn(alloc, from, to, &bytes, progress);
-    progress.end();
-    match drawn {
-        Ok(svg) => match writer.write_all(&svg) {
-            Ok(()) => Ended::passed(),
-            Err(_) => Ended::output_failed(),
-        },
-        Err(ended) => ended,
+    let range = range_of(&trace, from, to);
+    let Ok(svg) = picture(alloc, trace.view(), range, &mut ()) else {
+        return Ended::out_of_memory();
+    };
+    match writer.write_all(&svg) {
+        Ok(()) => Ended::passed(),
+        Err(_) => Ended::output_failed(),
     }
 }

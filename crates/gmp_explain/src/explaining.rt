@@ -1,9 +1,9 @@
 //! The command `explain` as a function: it reads and checks a trace as `check` does, and tells its facts.
-ghost use Rattle.std.specs.Prelude.{◌≡◌, ◌≢◌, ◌↔◌, ◌<◌, ◌≤◌, true, false, length, IfSome};
-ghost use Rattle.gmp_trace.specs.declared.bad.Bad.{Bad};
-ghost use Rattle.gmp_check_cli.specs.Check.{HasNoRightTrace, HasRightTrace, IsBadLine};
-ghost use Rattle.gmp_words.specs.Said.{is_of_check, is_of_input, is_of_trace};
-ghost use Rattle.gmp_words.specs.declared.said.Said.TheVariants.{BadTrace, InputTooLong, Nothing, OutputFailed};
+ghost use Rattle.std.specs.Prelude.{◌≡◌, ◌≢◌, ◌↔◌, ◌⊎◌, true, IfSome};
+ghost use Rattle.gmp_check_cli.specs.Check.{HasRightTrace, SaysOfTrace, said_of};
+ghost use Rattle.gmp_words.specs.Said.{is_of_check};
+ghost use Rattle.gmp_words.specs.declared.said.Said.TheVariants as said;
+ghost use Rattle.gmp_words.specs.declared.said.Said.TheVariants.{Nothing, OutputFailed};
 
 use crate::fact::{Fact, Sink};
 use crate::json::Json;
@@ -12,9 +12,9 @@ use crate::riddle::tell_riddle;
 use crate::telling::tell_story;
 use crate::told::story_of;
 use gmp_check::OutOfMemory;
-use gmp_check_cli::{Progress, judged};
-use gmp_trace::{Bad, End, Trace, Why, read};
-use gmp_words::{Ended, MAX_TRACE, Said, input};
+use gmp_check_cli::{Judgement, Progress, read_trace};
+use gmp_trace::{End, Why};
+use gmp_words::Ended;
 use std::alloc::Global;
 use std::io::Read;
 
@@ -26,19 +26,14 @@ pub struct Explained {
     pub facts: String,
 }
 
-/// The facts of a right trace, or why its first wrong line is wrong.
-fn tell<S: Sink>(
-    alloc: Global,
-    trace: &Trace,
-    bad: Option<Bad>,
-    sink: &mut S,
-) -> Result<(), OutOfMemory> {
-    let Ok(story) = story_of(alloc, trace.view(), &mut ()) else {
+/// The facts of a right trace, or why the first wrong line of another is wrong.
+fn tell<S: Sink>(alloc: Global, judgement: &Judgement, sink: &mut S) -> Result<(), OutOfMemory> {
+    let Ok(story) = story_of(alloc, judgement.trace.view(), &mut ()) else {
         return Err(OutOfMemory);
     };
-    match bad {
+    match judgement.wrong {
         None => Ok(tell_story(alloc, &story, sink)?),
-        Some(bad) if bad.why == Why::Step => match trace.entries.get(story.steps) {
+        Some(bad) if bad.why == Why::Step => match judgement.trace.entries.get(story.steps) {
             Some(entry) => tell_riddle(alloc, &story, entry, sink),
             None => Ok(()),
         },
@@ -46,62 +41,43 @@ fn tell<S: Sink>(
     }
 }
 
+/// Whether there are facts: of a right trace, and where an entry is no step or the end is not that of the run.
+fn has_facts(judgement: &Judgement) -> bool {
+    match judgement.wrong {
+        None => true,
+        Some(bad) => matches!(bad.why, Why::Step | Why::Outcome),
+    }
+}
+
 /// The facts, as lines or as one JSON object.
-fn facts(
-    alloc: Global,
-    json: bool,
-    trace: &Trace,
-    bad: Option<Bad>,
-) -> Result<String, OutOfMemory> {
+fn facts(alloc: Global, json: bool, judgement: &Judgement) -> Result<String, OutOfMemory> {
+    if !has_facts(judgement) {
+        return Ok(String::new(alloc));
+    }
     if json {
         let mut object = Json::new(alloc);
-        tell(alloc, trace, bad, &mut object)?;
+        tell(alloc, judgement, &mut object)?;
         return Ok(object.text()?);
     }
     let mut lines = Lines::new(alloc);
-    tell(alloc, trace, bad, &mut lines)?;
+    tell(alloc, judgement, &mut lines)?;
     Ok(lines.text)
 }
 
-/// Why the trace that the bytes are is not right, where an entry is no step or the end is not that of the run; else nothing.
-/// It is read once more: who judged it has let it go.
-fn reasons(alloc: Global, json: bool, bytes: &[u8], ended: &Ended) -> String {
-    if let Said::BadTrace(bad) = ended.said {
-        if matches!(bad.why, Why::Step | Why::Outcome) {
-            if let Ok(trace) = read(alloc, bytes) {
-                if let Ok(facts) = facts(alloc, json, &trace, Some(bad)) {
-                    return facts;
-                }
-            }
-        }
-    }
-    String::new(alloc)
-}
-
-/// How it ends on these bytes, and the facts.
-fn judge<P: Progress>(alloc: Global, json: bool, bytes: &[u8], progress: &mut P) -> Explained
-    ensures passed { result.ended.said ≡ Nothing → HasRightTrace bytes.now }
+/// How it ends on a trace, and the facts. A wrong line is named even where there is no memory to say why it is wrong.
+fn explain_trace(alloc: Global, json: bool, judgement: &Judgement) -> Explained
+    ensures said { (result.ended.said ≡ said_of judgement.now.wrong) ⊎ (result.ended.said ≡ said.OutOfMemory) }
     ensures status { result.ended.status ≡ 0 ↔ result.ended.said ≡ Nothing }
-    ensures kinds { result.ended.said ≢ Nothing → is_of_trace result.ended.said ≡ true }
-    ensures first { (bad : Bad) → result.ended.said ≡ BadTrace bad → IsBadLine bytes.now bad }
-    ensures exact { (bad : Bad) → result.ended.said ≡ BadTrace bad → HasNoRightTrace bytes.now }
 {
-    let trace = match judged(alloc, bytes, progress) {
-        Ok(trace) => trace,
-        Err(ended) => {
-            let facts = reasons(alloc, json, bytes, &ended);
-            return Explained { ended, facts };
-        }
+    let facts = facts(alloc, json, judgement);
+    let ended = match (judgement.wrong, &facts) {
+        (Some(bad), _) => Ended::bad_trace(bad),
+        (None, Ok(_)) => Ended::passed(),
+        (None, Err(OutOfMemory)) => Ended::out_of_memory(),
     };
-    match facts(alloc, json, &trace, None) {
-        Ok(facts) => Explained {
-            ended: Ended::passed(),
-            facts,
-        },
-        Err(OutOfMemory) => Explained {
-            ended: Ended::out_of_memory(),
-            facts: String::new(alloc),
-        },
+    Explained {
+        ended,
+        facts: facts.unwrap_or(String::new(alloc)),
     }
 }
 
@@ -121,22 +97,14 @@ pub fn explain<R: Read, P: Progress>(
     // What is wrong is said by one of the program's own texts.
     ensures kinds { is_of_check result.ended.said ≡ true }
     ensures written { result.ended.said ≢ OutputFailed }
-    ensures first { (bad : Bad) → result.ended.said ≡ BadTrace bad → IfSome (R.remaining reader.old) (λ all. IsBadLine all bad) }
-    ensures too_long { result.ended.said ≡ InputTooLong → IfSome (R.remaining reader.old) (λ all. MAX_TRACE < length all) }
-    ensures short { is_of_input result.ended.said ≡ false → IfSome (R.remaining reader.old) (λ all. length all ≤ MAX_TRACE) }
-    ensures exact { (bad : Bad) → result.ended.said ≡ BadTrace bad → IfSome (R.remaining reader.old) HasNoRightTrace }
+    // A line that is called bad is, and so is an input that is called too long.
+    ensures says { SaysOfTrace (R.remaining reader.old) result.ended.said }
 {
-    let bytes = match input(alloc, reader, MAX_TRACE) {
-        Ok(bytes) => bytes,
-        Err(ended) => {
-            return Explained {
-                ended,
-                facts: String::new(alloc),
-            };
-        }
-    };
-    progress.begin(bytes.len());
-    let explained = judge(alloc, json, &bytes, progress);
-    progress.end();
-    explained
+    match read_trace(alloc, reader, progress) {
+        Ok(judgement) => explain_trace(alloc, json, &judgement),
+        Err(ended) => Explained {
+            ended,
+            facts: String::new(alloc),
+        },
+    }
 }

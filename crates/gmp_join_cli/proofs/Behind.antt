@@ -6,7 +6,7 @@ use Rattle.gmp_trace.specs.declared.bad.Bad.{Bad}
 use Rattle.gmp_trace.specs.declared.trace.End.{End}
 use Rattle.gmp_trace.specs.Summary.{entries_line, outcome_line}
 use Rattle.gmp_trace.specs.Text.{Content, text}
-use Rattle.gmp_check_cli.specs.Check.{HasNoRightTrace, IsBadLine}
+use Rattle.gmp_check_cli.specs.Check.{IsWrong}
 use Rattle.gmp_join_cli.specs.declared.joining.Joined.{Joined}
 use Rattle.gmp_join_cli.specs.declared.stopping.Stop.{Stop}
 use Rattle.gmp_parts.proofs.Parts.{one_run}
@@ -21,7 +21,7 @@ long_behind (Some all) (Some rest) most joined so_far long =
     record { parts = so_far.parts; in_order = so_far.tells.in_order; rest = rest; whole = so_far.taken; long = long }
 
 pub bad_behind : (input now later : Option (List ℕ)) (joined : Joined) (bytes : List ℕ) (n : ℕ) (bad : Bad) → IsReadSoFar input now joined → Consumes now later bytes
-    → (n ≡ joined.parts + 1) × IsBadLine bytes bad × HasNoRightTrace bytes → IfSome input (IsBadPart n bad)
+    → (n ≡ joined.parts + 1) × IsWrong bytes bad → IfSome input (IsBadPart n bad)
 bad_behind None now later joined bytes n bad so_far taken is = tt
 bad_behind (Some all) None later joined bytes n bad so_far taken is = absurd so_far.taken
 bad_behind (Some all) (Some rest) None joined bytes n bad so_far taken is = absurd taken
@@ -33,8 +33,7 @@ bad_behind (Some all) (Some rest) (Some more) joined bytes n bad so_far taken is
       bytes = bytes;
       rest = more;
       whole = so_far.taken ∙ ap (λ (l : List ℕ). texts so_far.parts ++ l) taken;
-      bad_line = is.1;
-      none = is.2;
+      wrong = is.1;
     }
 
 pub apart_behind : (input now later : Option (List ℕ)) (joined : Joined) (bytes : List ℕ) (n : ℕ) → IsReadSoFar input now joined → Consumes now later bytes

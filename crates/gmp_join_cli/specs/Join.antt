@@ -10,7 +10,7 @@ use Rattle.gmp_trace.specs.Text.{Content, text}
 use Rattle.gmp_check.specs.Checked.{start_of}
 use Rattle.gmp_parts.specs.Parts.{AreInOrder, Follows, IsRightTrace, Parts, count, entries_of, joined_text, texts, whole}
 use Rattle.gmp_parts.specs.Parts.Parts.{NoPart, Then}
-use Rattle.gmp_check_cli.specs.Check.{HasNoRightTrace, IsBadLine}
+use Rattle.gmp_check_cli.specs.Check.{IsWrong}
 use Rattle.gmp_join_cli.specs.declared.joining.Joined.{Joined}
 use Rattle.gmp_join_cli.specs.declared.stopping.Stop.{Stop}
 
@@ -42,8 +42,7 @@ pub record IsBadPart (n : ℕ) (bad : Bad) (all : List ℕ) : Type 0 where
   pub bytes : List ℕ
   pub rest : List ℕ
   pub whole : all ≡ texts parts ++ (bytes ++ rest)
-  pub bad_line : IsBadLine bytes bad
-  pub none : HasNoRightTrace bytes
+  pub wrong : IsWrong bytes bad
 
 -- Behind parts in order comes a right trace that doesn't go on where they stop. It would be part n.
 pub record IsApart (n : ℕ) (all : List ℕ) : Type 0 where

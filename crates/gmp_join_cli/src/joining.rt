@@ -7,7 +7,7 @@ ghost use Rattle.gmp_trace.specs.declared.bad.Bad.{Bad};
 ghost use Rattle.gmp_trace.specs.Text.{content};
 ghost use Rattle.gmp_check.specs.Checked.{IsRight};
 ghost use Rattle.gmp_parts.specs.Parts.{Follows, IsRightTrace, Parts};
-ghost use Rattle.gmp_check_cli.specs.Check.{HasNoRightTrace, IsBadLine, IsRead};
+ghost use Rattle.gmp_check_cli.specs.Check.{IsBadLine, IsRead, IsWrong};
 ghost use Rattle.gmp_words.specs.Said.{is_of_input, is_of_join, is_of_next, is_of_part, is_of_trace};
 ghost use Rattle.gmp_words.specs.declared.said.Said.TheVariants.{Apart, BadPart, BadTrace, InputTooLong, Nothing, OutputFailed};
 ghost use Rattle.gmp_join_cli.specs.Join.{HasRunInParts, IsApart, IsBadPart, IsLongBehind, IsNextApart, IsTold, JoinsNext, Tells, WritesJoined};
@@ -50,12 +50,9 @@ fn right_part<P: Progress>(
     ensures read { IfOk result (λ trace. IsRead bytes.items (content trace)) }
     ensures kinds { IfErr result (λ e. is_of_part e.said ≡ true) }
     ensures bad { IfErr result (λ e. (n : ℕ) (bad : Bad) → e.said ≡ BadPart n bad
-        → (n ≡ number) × IsBadLine bytes.items bad × HasNoRightTrace bytes.items) }
+        → (n ≡ number) × IsWrong bytes.items bad) }
 {
-    progress.begin(bytes.len());
-    let judged = judged(alloc, &bytes, progress);
-    progress.end();
-    match judged {
+    match judged(alloc, &bytes, progress) {
         Ok(trace) => Ok(trace),
         Err(ended) => Err(in_part(number, &ended)),
     }
@@ -99,7 +96,7 @@ impl Joined {
 
         ensures kinds { IfErr result (λ e. is_of_next e.said ≡ true) }
         ensures bad { IfErr result (λ e. (n : ℕ) (bad : Bad) → e.said ≡ BadPart n bad
-            → (n ≡ self.parts + 1) × IsBadLine bytes.items bad × HasNoRightTrace bytes.items) }
+            → (n ≡ self.parts + 1) × IsWrong bytes.items bad) }
         ensures apart { IfErr result (λ e. (n : ℕ) → e.said ≡ Apart n
             → (n ≡ self.parts + 1) × ((parts : Parts) → Tells self parts → IsNextApart parts bytes.items)) }
     {

@@ -1,11 +1,8 @@
 use Rattle.std.proofs.Common.{ℕ, List, subst}
-use Rattle.gmp_check_cli.specs.Check.{HasNoRightTrace, IsBadLine}
+use Rattle.gmp_check_cli.specs.Check.{IsWrong}
 use Rattle.gmp_join_cli.proofs.joining.right_part.Goals as goal
 
 pub returns-clause-bad : goal.returns-clause-bad
 returns-clause-bad g c n bad told =
-    let found = c.in_part.ensures.bad n bad told in (
-      found.0,
-      subst (λ (all : List ℕ). IsBadLine all bad) c.deref.ensures.value (c.in-Err.ensures.first bad found.1),
-      subst HasNoRightTrace c.deref.ensures.value (c.in-Err.ensures.exact bad found.1),
-    )
+    let found = c.in_part.ensures.bad n bad told in
+    (found.0, subst (λ (all : List ℕ). IsWrong all bad) c.deref.ensures.value (c.in-Err.ensures.wrong bad found.1))

@@ -1,0 +1,28 @@
+use Rattle.std.proofs.Common.{◌≡◌, ◌∙◌, ℕ, List, Result, Ok, Err, IfErr, subst, sym}
+use Rattle.gmp_trace.specs.declared.bad.Bad.{Bad}
+use Rattle.gmp_check_cli.proofs.Wrong.{wrong_text}
+use Rattle.gmp_check_cli.specs.Check.{IsWrong}
+use Rattle.gmp_check_cli.specs.declared.judging.Judgement.{Judgement}
+use Rattle.gmp_words.specs.declared.ended.Ended.{Ended}
+use Rattle.gmp_words.specs.declared.said.Said.TheVariants.{BadTrace, OutOfMemory}
+use Rattle.gmp_check_cli.proofs.judging.judge.Goals.{in-Ok, in-Err}
+use Rattle.gmp_check_cli.proofs.judging.judge.Goals as goal
+
+-- a line that is named is bad
+Names : List ℕ → Result Judgement Ended → Type 0
+Names bytes r = IfErr r (λ e. (bad : Bad) → e.said ≡ BadTrace bad → IsWrong bytes bad)
+
+of_memory : (bytes : List ℕ) (r : Result Judgement Ended) → IfErr r (λ e. e.said ≡ OutOfMemory) → Names bytes r
+unfolding Names
+of_memory bytes (Ok found) is = tt
+of_memory bytes (Err e) is = λ bad told. let both : OutOfMemory ≡ BadTrace bad = sym is ∙ told in absurd cc
+
+pub returns-clause-bad : goal.returns-clause-bad
+unfolding Names
+returns-clause-bad g c =
+    elim c.match-read_watched.branch [
+      | in-Ok w ↦ subst (Names c.args.bytes.now) (sym w.found-is) (of_memory c.args.bytes.now w.of-found.result w.of-found.ensures.memory)
+      | in-Err w ↦
+          subst (Names c.args.bytes.now) (sym w.found-is)
+          (λ bad told. wrong_text c.args.bytes.now w.in-Err.bad bad w.from.result.said w.from.ensures w.in-Err.ensures.fault w.in-Err.ensures.only told)
+    ]

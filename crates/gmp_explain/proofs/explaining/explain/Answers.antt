@@ -1,8 +1,0 @@
-use Rattle.gmp_check_cli.proofs.Inputs.{of_input}
-use Rattle.gmp_check_cli.specs.Check.{HasNoRightTrace}
-use Rattle.gmp_explain.proofs.explaining.explain.Goals as goal
-
-pub returns-clause-exact : goal.returns-clause-exact
-returns-clause-exact g c bad told =
-    of_input (g.R.Read.remaining c.args.reader.now) c.in-Ok.bytes.items HasNoRightTrace c.in-Ok.ensures.whole
-    (rw c.deref.ensures.value at (c.judge-explained.ensures.exact bad told))
