@@ -70,7 +70,8 @@ fn steals(thief: &mut Thief, g: u16) -> Result<(), Wrong>
 fn left(alloc: Global, owner: Owner, first: Thief, second: Thief) -> Result<Vec<(GNo, u64)>, Wrong>
     requires { AreTheEnds owner (first ∷ second ∷ []) }
 {
-    let mut thieves = Vec::with_capacity(alloc, 2)?;
+    let mut thieves = Vec::new(alloc);
+    thieves.reserve(2)?;
     thieves.push_reserved(first);
     thieves.push_reserved(second);
     let mut out = Vec::new(alloc);
