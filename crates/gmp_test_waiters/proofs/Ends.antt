@@ -52,12 +52,12 @@ thief_stays : (o p : Owner) (t u : Thief) → KeepsOwner o p → KeepsThief t u 
 thief_stays o p t u a b h = (b.0.0 ∙ h.0 ∙ sym a.0.0, b.0.1 ∙ h.1 ∙ sym a.0.1)
 
 -- two thieves and their owner, after pushes, pops and steals
-pub still_the_ends : (o p : Owner) (a b c d : Thief) (thieves : List Thief) → AreTheEnds o (a ∷ b ∷ []) → KeepsOwner o p → KeepsThief a c → KeepsThief b d → thieves ≡ c ∷ d ∷ [] → AreTheEnds p thieves
-still_the_ends o p a b c d thieves ends same first second is =
+pub still_the_ends : (o p : Owner) (a b c d : Thief) → AreTheEnds o (a ∷ b ∷ []) → KeepsOwner o p → KeepsThief a c → KeepsThief b d → AreTheEnds p (c ∷ d ∷ [])
+still_the_ends o p a b c d ends same first second =
     let one : IsThiefOf p c = thief_stays o p a c same first (All-head (IsThiefOf o) a (b ∷ []) ends.0) in
     let two : IsThiefOf p d = thief_stays o p b d same second (All-head (IsThiefOf o) b [] (All-tail (IsThiefOf o) a (b ∷ []) ends.0)) in
     let whole = ends.1 in
     let x = first.1 in
     let y = second.1 in
     let z = same.1 in
-    subst (AreTheEnds p) (sym is) (All-cons (IsThiefOf p) c (d ∷ []) one (All-cons (IsThiefOf p) d [] two (All-nil (IsThiefOf p))), omega arith)
+    (All-cons (IsThiefOf p) c (d ∷ []) one (All-cons (IsThiefOf p) d [] two (All-nil (IsThiefOf p))), omega arith)

@@ -1,0 +1,81 @@
+//! One run of a row's script in threads, under a gate: its capacities and its report (`Ran`), and what `gmp run` tells of them.
+
+use crate::row::Row;
+use crate::waiting::Stopped;
+use crate::wrong::Wrong;
+use gmp_check_cli::check;
+use gmp_run::{Gate, Report, run};
+use gmp_run_cli::told;
+use gmp_script::ScriptBody;
+use gmp_words::{Ended, Settings, script};
+use gmp_worker::Boxed;
+use std::alloc::{AllocError, Global};
+use std::sync::Wait;
+use std::thread::Threads;
+
+/// What a run came to.
+#[derive(Drop)]
+pub struct Ran {
+    pub capacities: Vec<u32>,
+    pub report: Report<Boxed>,
+}
+
+/// The bodies, each in a box.
+fn boxed(alloc: Global, bodies: Vec<ScriptBody>) -> Result<Vec<Boxed>, AllocError> {
+    let mut boxes: Vec<Boxed> = Vec::new(alloc);
+    for body in bodies {
+        boxes.push(Box::new(alloc, body)?)?;
+    }
+    Ok(boxes)
+}
+
+impl Ran {
+    /// The run of the row's script by these settings, under this gate.
+    pub fn of<R: Threads + Wait + Sync, G: Gate + Sync>(
+        rt: &R,
+        alloc: Global,
+        row: &Row,
+        settings: &Settings,
+        gate: &G,
+    ) -> Result<Self, Wrong> {
+        let text = row.lines(alloc)?;
+        let Ok(script) = script(alloc, &mut text.as_slice()) else {
+            return Err(Wrong::Unreadable);
+        };
+        let capacities = script.capacities;
+        let bodies = boxed(alloc, script.bodies)?;
+        let limits = settings.limits();
+        let random = settings.random;
+        match run(
+            rt,
+            alloc,
+            0,
+            limits,
+            &capacities,
+            bodies,
+            &Stopped,
+            gate,
+            random,
+        ) {
+            Ok(report) => Ok(Ran { capacities, report }),
+            Err(_) => Err(Wrong::NotBegun),
+        }
+    }
+
+    /// How the command ends, and what it writes.
+    pub fn told(self, alloc: Global, settings: &Settings) -> (Ended, Vec<u8>) {
+        let mut output = Vec::new(alloc);
+        let Ran { capacities, report } = self;
+        let ended = told(alloc, settings, &capacities, None, Ok(report), &mut output);
+        (ended, output)
+    }
+}
+
+/// `gmp check` passes the trace.
+pub fn passes(alloc: Global, mut trace: &[u8]) -> Result<(), Wrong> {
+    let mut summary = Vec::new(alloc);
+    match check(alloc, &mut trace, &mut summary, &mut ()).status {
+        0 => Ok(()),
+        status => Err(Wrong::Checked(status)),
+    }
+}
