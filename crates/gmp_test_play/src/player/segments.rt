@@ -43,7 +43,11 @@ impl Player {
     /// A part that began here would begin with these lines, from that with `start` to that with `begin`, which are parted by `/`.
     pub(super) fn state(&self, book: &Desk, lines: &str) -> Result<(), PlayError> {
         let mut text = Vec::new(self.alloc);
-        put_start(&mut text, self.entries(book) as u64, &book.start(self.alloc)?)?;
+        put_start(
+            &mut text,
+            self.entries(book) as u64,
+            &book.start(self.alloc)?,
+        )?;
         for byte in text.iter_mut() {
             if *byte == b'\n' {
                 *byte = b'/';
