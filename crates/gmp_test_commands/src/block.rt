@@ -127,6 +127,7 @@ impl Block {
         match word {
             ">" => put_line(&mut self.lines, &[rest])?,
             ">-" => self.lines.extend_from_slice(rest.as_bytes())?,
+            ">each" => put_each(self.alloc, &mut self.lines, rest)?,
             "to" => self.lines.extend_from_slice(file(rt, rest)?.as_bytes())?,
             "!" => put_line(&mut self.says, &[rest])?,
             "status" => self.status = rest.parse().ok().ok_or(PlayError::Unreadable)?,
