@@ -105,6 +105,7 @@ impl Player {
             }
             "other" => self.other(number(rest)?),
             "segment" => self.segment(book, line),
+            "state" => self.state(book, rest),
             "held" | "called" | "proc" | "pass" => self.forged(word, rest),
             _ => self.numbered(book, line),
         }

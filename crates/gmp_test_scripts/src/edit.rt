@@ -22,6 +22,8 @@ pub enum Edit<'a> {
     Without,
     /// It stands there twice.
     Twice,
+    /// It stands behind the next one.
+    Swapped,
     /// This byte stands behind it.
     Behind(u8),
     /// The text ends before it.
@@ -49,6 +51,7 @@ impl<'a> Edit<'a> {
             "line" => Some(Edit::Line(more)),
             "without" => Some(Edit::Without),
             "twice" => Some(Edit::Twice),
+            "swapped" => Some(Edit::Swapped),
             "behind" => Some(Edit::Behind(byte?)),
             "before" => Some(Edit::Before),
             "within" => Some(Edit::Within),
@@ -79,6 +82,7 @@ impl<'a> Edit<'a> {
             Edit::Line(text) => extend(out, text.as_bytes(), b"\n", &[]),
             Edit::Without | Edit::Before => Ok(()),
             Edit::Twice => extend(out, line, line, &[]),
+            Edit::Swapped => extend(out, line, &[], &[]),
             Edit::Behind(byte) => extend(out, line, &[byte], &[]),
             Edit::Within => extend(out, head, &[], &[]),
             Edit::Spoil(byte) => extend(out, head, &[byte], tail.get(1..).unwrap_or(tail)),
@@ -86,13 +90,23 @@ impl<'a> Edit<'a> {
         }
     }
 
+    /// What stands behind the line, in two: what comes before it now, and the rest.
+    fn around(self, behind: &[u8]) -> (&[u8], &[u8]) {
+        let next = behind.iter().position(|byte| *byte == b'\n');
+        match (self, next) {
+            (Edit::Swapped, Some(end)) => behind.split_at(end.saturating_add(1).min(behind.len())),
+            _ => (&[], behind),
+        }
+    }
+
     /// The text, where the edit is made at this place in the line.
     pub fn made(self, alloc: Global, site: &Site, at: usize) -> Result<Vec<u8>, AllocError> {
+        let (next, behind) = self.around(site.behind);
         let mut out = Vec::new(alloc);
-        out.extend_from_slice(site.before)?;
+        extend(&mut out, site.before, next, &[])?;
         self.put(&mut out, site.line, at)?;
         if !self.cuts() {
-            out.extend_from_slice(site.behind)?;
+            out.extend_from_slice(behind)?;
         }
         Ok(out)
     }

@@ -1,9 +1,12 @@
-//! Segments of a run's history, and how much there is of it. What is handed out is kept, so that the whole run can be replayed.
+//! Segments of a run's history, how much there is of it, and with which state one begins. What is handed out is kept, so that the whole run
+//! can be replayed.
 
 use super::{Desk, Player};
 use crate::error::PlayError;
 use crate::opening::end_line;
+use crate::words::line_of;
 use gmp_history::History;
+use gmp_trace::put_start;
 
 impl Player {
     /// How many entries the run has, those with it that were handed out.
@@ -32,6 +35,26 @@ impl Player {
         let end = end_line(self.alloc, book.outcome())?;
         let said = format!(in self.alloc; "segment {count} {end}")?;
         if count == entries && book.history().is_empty() && said.as_str() == line {
+            Ok(())
+        } else {
+            Err(PlayError::Says(said))
+        }
+    }
+    /// A part that began here would begin with these lines, from that with `start` to that with `begin`, which are parted by `/`.
+    pub(super) fn state(&self, book: &Desk, lines: &str) -> Result<(), PlayError> {
+        let mut text = Vec::new(self.alloc);
+        put_start(
+            &mut text,
+            self.entries(book) as u64,
+            &book.start(self.alloc)?,
+        )?;
+        for byte in text.iter_mut() {
+            if *byte == b'\n' {
+                *byte = b'/';
+            }
+        }
+        let said = line_of(text)?;
+        if said.as_str() == lines {
             Ok(())
         } else {
             Err(PlayError::Says(said))
