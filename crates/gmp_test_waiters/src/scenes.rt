@@ -32,7 +32,7 @@ struct Scene<'a> {
     bodies: &'a str,
 }
 
-/// Two numbers that are parted by a space.
+/// What is before the first space, and what is behind it.
 fn pair(line: &str) -> Option<(&str, &str)> {
     line.split_once(' ')
 }
