@@ -151,10 +151,16 @@ fn parts_fail<R: Threads + Wait + Sync>(
     };
     for room in 0..=length {
         let wanted = if room < length { 1 } else { status };
-        held(ends(room, all) == Some((wanted, 0)), Wrong::Behind(room))?;
+        held(
+            ends(room, all) == Some((wanted, 0)),
+            Wrong::Number("where input or output fails behind byte", room as u64),
+        )?;
     }
     for told in 0..all {
-        held(ends(length, told) == Some((1, 0)), Wrong::Behind(told))?;
+        held(
+            ends(length, told) == Some((1, 0)),
+            Wrong::Number("where input or output fails behind byte", told as u64),
+        )?;
     }
     Ok(())
 }
@@ -174,12 +180,15 @@ pub fn tried<R: Threads + Wait + Sync>(rt: &R, alloc: Global, row: &str) -> Resu
         let read = script.get(..reads).unwrap_or(&[]);
         held(
             is_unreadable(rt, alloc, &settings, read),
-            Wrong::Behind(reads),
+            Wrong::Number("where input or output fails behind byte", reads as u64),
         )?;
     }
     for room in 0..=text.len() {
         let is_right = is_cut(rt, alloc, &settings, &script, text, room);
-        held(is_right, Wrong::Behind(room))?;
+        held(
+            is_right,
+            Wrong::Number("where input or output fails behind byte", room as u64),
+        )?;
     }
     Ok(())
 }

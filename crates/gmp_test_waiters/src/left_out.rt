@@ -45,10 +45,13 @@ fn are_left_out(report: &Report<Boxed>, gate: &Admits) -> Result<(), Wrong> {
         if log.m != MNo(0) && gate.has(log.m.0) {
             started = started.saturating_add(1);
         } else if log.m != MNo(0) && log.calls != 0 {
-            return Err(Wrong::Calls(log.m.0, log.calls));
+            return Err(Wrong::Number("calls by a machine that is left out", log.calls));
         }
     }
-    held(report.started == started, Wrong::Started(report.started))
+    held(
+        report.started == started,
+        Wrong::Number("machines that were started", u64::from(report.started)),
+    )
 }
 
 /// The run comes to its end by those who are let in; what is written of it.

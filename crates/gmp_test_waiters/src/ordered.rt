@@ -5,7 +5,7 @@
 use crate::row::{Row, settings_of};
 use crate::script::Ran;
 use crate::waiting::TURNS;
-use crate::wrong::{Wrong, held};
+use crate::wrong::{Wrong, ended, held};
 use crossbeam_utils::Backoff;
 use gmp_base::MNo;
 use gmp_driver::Act;
@@ -106,9 +106,9 @@ fn is_cut<R: Threads + Wait + Sync>(
         turn: AtomicUsize::new(0),
     };
     let ran = Ran::of(rt, alloc, row, &settings, &gate)?;
-    let (ended, output) = ran.told(alloc, &settings);
+    let (told, output) = ran.told(alloc, &settings);
     let (text, status) = wanted(alloc, row.text, entries)?;
-    held(ended.status == status, Wrong::Status(ended.status))?;
+    ended(told.status, status)?;
     held(output.as_slice() == text.as_bytes(), Wrong::OtherText)
 }
 

@@ -45,7 +45,7 @@ fn put(owner: &mut Owner, g: u16) -> Result<(), Wrong>
 {
     match owner.push(ticket(g)) {
         Ok(()) => Ok(()),
-        Err(back) => Err(Wrong::NotPut(spend(back))),
+        Err(back) => Err(Wrong::Number("ticket not put", u64::from(spend(back)))),
     }
 }
 
@@ -53,7 +53,10 @@ fn put(owner: &mut Owner, g: u16) -> Result<(), Wrong>
 fn pops(owner: &mut Owner, g: u16) -> Result<(), Wrong>
     ensures { KeepsOwner owner.old owner.new }
 {
-    held(owner.pop().map(spend) == Some(g), Wrong::NotTaken(g))
+    held(
+        owner.pop().map(spend) == Some(g),
+        Wrong::Number("ticket not in its turn", u64::from(g)),
+    )
 }
 
 /// The thief takes this ticket.
@@ -61,8 +64,11 @@ fn steals(thief: &mut Thief, g: u16) -> Result<(), Wrong>
     ensures { KeepsThief thief.old thief.new }
 {
     match thief.steal() {
-        Stole::Got(ticket) => held(spend(ticket) == g, Wrong::NotTaken(g)),
-        Stole::Empty | Stole::Unsure => Err(Wrong::NotTaken(g)),
+        Stole::Got(ticket) => held(
+            spend(ticket) == g,
+            Wrong::Number("ticket not in its turn", u64::from(g)),
+        ),
+        Stole::Empty | Stole::Unsure => Err(Wrong::Number("ticket not in its turn", u64::from(g))),
     }
 }
 

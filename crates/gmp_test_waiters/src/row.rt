@@ -1,6 +1,6 @@
 //! Rows of command lines, each with a script and how it ends (`Row`), and the words of lines.
 
-use crate::wrong::Wrong;
+use crate::wrong::{Wrong, ended};
 use gmp_words::{Settings, command_line};
 use std::alloc::{AllocError, Global};
 
@@ -38,11 +38,7 @@ impl<'a> Row<'a> {
 
     /// It ended with its status.
     pub fn ends_with(&self, status: u8) -> Result<(), Wrong> {
-        if self.status()? == status {
-            Ok(())
-        } else {
-            Err(Wrong::Status(status))
-        }
+        ended(status, self.status()?)
     }
 
     /// The text, with its last line feed, is what was written.

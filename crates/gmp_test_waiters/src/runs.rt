@@ -70,11 +70,11 @@ impl Gate for Together {
 /// All machines were started, and each made a call.
 fn are_all_in(report: &Report<Boxed>, machines: u8) -> Result<(), Wrong> {
     if report.started != machines {
-        return Err(Wrong::Started(report.started));
+        return Err(Wrong::Number("machines that were started", u64::from(report.started)));
     }
     for log in &report.logs {
         if log.calls == 0 {
-            return Err(Wrong::Calls(log.m.0, 0));
+            return Err(Wrong::Number("no call by machine", u64::from(log.m.0)));
         }
     }
     Ok(())

@@ -32,7 +32,7 @@ struct Scene<'a> {
     bodies: &'a str,
 }
 
-/// Two numbers that are parted by a space.
+/// What is before the first space, and what is behind it.
 fn pair(line: &str) -> Option<(&str, &str)> {
     line.split_once(' ')
 }
@@ -110,7 +110,7 @@ impl<'a> Scene<'a> {
     fn is_right(&self, report: &Report<Boxed>) -> Result<(), Wrong> {
         held(
             report.started == self.machines,
-            Wrong::Started(report.started),
+            Wrong::Number("machines that were started", u64::from(report.started)),
         )?;
         held(report.outcome == Some(Outcome::MainEnded), Wrong::OtherEnd)?;
         held(
@@ -119,7 +119,10 @@ impl<'a> Scene<'a> {
         )?;
         let count = report.history.len();
         let (least, most) = self.entries;
-        held(least <= count && count <= most, Wrong::Entries(count))?;
+        held(
+            least <= count && count <= most,
+            Wrong::Number("entries", count as u64),
+        )?;
         self.is_ordered(report)
     }
 
@@ -127,7 +130,10 @@ impl<'a> Scene<'a> {
     fn is_ordered(&self, report: &Report<Boxed>) -> Result<(), Wrong> {
         for (at, digit) in self.order.bytes().enumerate() {
             let m = report.history.get(at).map(|entry| entry.m.0);
-            held(m == Some(digit.wrapping_sub(b'0')), Wrong::OtherMachine(at))?;
+            held(
+                m == Some(digit.wrapping_sub(b'0')),
+                Wrong::Number("whose entry", at as u64),
+            )?;
         }
         Ok(())
     }

@@ -76,6 +76,6 @@ pub fn passes(alloc: Global, mut trace: &[u8]) -> Result<(), Wrong> {
     let mut summary = Vec::new(alloc);
     match check(alloc, &mut trace, &mut summary, &mut ()).status {
         0 => Ok(()),
-        status => Err(Wrong::Checked(status)),
+        status => Err(Wrong::Number("status of `gmp check`", u64::from(status))),
     }
 }

@@ -16,7 +16,7 @@ fn are_joined(alloc: Global, mut parts: &[u8], told: &[u8]) -> Result<(), Wrong>
     match join(alloc, &mut parts, &mut output, &mut ()).status {
         0 if output.as_slice() == told => Ok(()),
         0 => Err(Wrong::OtherText),
-        status => Err(Wrong::Joined(status)),
+        status => Err(Wrong::Number("status of `gmp join`", u64::from(status))),
     }
 }
 

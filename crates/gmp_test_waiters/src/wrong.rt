@@ -1,56 +1,61 @@
 //! How a row falls short. The text of each is what is printed of it.
 
-use std::alloc::AllocError;
-use thiserror::Error;
+use std::alloc::{AllocError, AllocFailed};
+use std::fmt;
 
 /// How a row falls short.
-#[derive(Debug, Drop, Error)]
+#[derive(Clone, Copy)]
 pub enum Wrong {
-    #[error("out of memory")]
-    OutOfMemory(#[from(alloc)] AllocError),
-    #[error("the row can't be read")]
+    OutOfMemory,
     Unreadable,
-    #[error("the run was not begun")]
     NotBegun,
-    #[error("{0} machines were started")]
-    Started(u8),
-    #[error("machine {0} made {1} calls")]
-    Calls(u8, u64),
-    #[error("a log disagrees with the history, or should and doesn't")]
     OtherLog,
-    #[error("it ended otherwise")]
     OtherEnd,
-    #[error("a body is missing")]
     BodyLost,
-    #[error("somebody waited in vain")]
     Late,
-    #[error("there are {0} entries")]
-    Entries(usize),
-    #[error("entry {0} is another machine's")]
-    OtherMachine(usize),
-    #[error("the status is {0}")]
-    Status(u8),
-    #[error("something else was written")]
     OtherText,
-    #[error("`gmp check` ends with status {0}")]
-    Checked(u8),
-    #[error("`gmp join` ends with status {0}")]
-    Joined(u8),
-    #[error("it goes wrong where input or output fails behind byte {0}")]
-    Behind(usize),
-    #[error("ticket {0} was not put")]
-    NotPut(u16),
-    #[error("ticket {0} did not come in its turn")]
-    NotTaken(u16),
-    #[error("the length is told as {0}")]
-    Length(u32),
-    #[error("the queue was not closed")]
     NotClosed,
-    #[error("not each ticket came once")]
     NotOnce,
+    /// What has another number than it has to have, or is wrong at this number.
+    Number(&'static str, u64),
+}
+
+impl fmt::Display for Wrong {
+    fn fmt<W: fmt::Write>(&self, f: &mut fmt::Formatter<W>) -> fmt::Result {
+        f.write_str(match self {
+            Wrong::OutOfMemory => "out of memory",
+            Wrong::Unreadable => "the row can't be read",
+            Wrong::NotBegun => "the run was not begun",
+            Wrong::OtherLog => "a log disagrees with the history, or should and doesn't",
+            Wrong::OtherEnd => "it ended otherwise",
+            Wrong::BodyLost => "a body is missing",
+            Wrong::Late => "somebody waited in vain",
+            Wrong::OtherText => "something else was written",
+            Wrong::NotClosed => "the queue was not closed",
+            Wrong::NotOnce => "not each ticket came once, in order",
+            Wrong::Number(what, number) => return write!(f, "{what}: {number}"),
+        })
+    }
+}
+
+impl From<AllocError> for Wrong {
+    fn from(_error: AllocError) -> Wrong {
+        Wrong::OutOfMemory
+    }
+}
+
+impl<T: Drop> From<AllocFailed<T>> for Wrong {
+    fn from(_error: AllocFailed<T>) -> Wrong {
+        Wrong::OutOfMemory
+    }
 }
 
 /// Nothing, or what is wrong where it isn't right.
 pub fn held(is_right: bool, wrong: Wrong) -> Result<(), Wrong> {
     if is_right { Ok(()) } else { Err(wrong) }
+}
+
+/// The status is the one that is wanted.
+pub fn ended(status: u8, wanted: u8) -> Result<(), Wrong> {
+    held(status == wanted, Wrong::Number("status", u64::from(status)))
 }

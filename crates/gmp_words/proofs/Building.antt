@@ -23,9 +23,14 @@ one_after f s now new r xs i x lt at so_far next =
     ∙ ap (λ rs. record s { rules = rs }) (append_assoc s.rules (map f (take i xs)) (f (get_or xs i x) ∷ []))
     ∙ ap (with_more s) (sym (map_more f xs i x lt))
 
--- one more command, which was made
-pub one_command : {E : Type 0} (old : Command) (made : Result Command E) (new : Command) (a : App) (s : Shape)
+-- one more command
+pub one_command : (old sub new : Command) (a : App) (s : Shape) → AddsSubcommand old sub new → (out-Command sub).has_globals ≡ false
+    → app_of old ≡ a → shape_of sub ≡ s → app_of new ≡ with_subcommand a s
+one_command old sub new a s adds local so_far is = adds.shape local ∙ ap₂ with_subcommand so_far is
+
+-- the same of one that may not have been made
+pub one_made : {E : Type 0} (old : Command) (made : Result Command E) (new : Command) (a : App) (s : Shape)
     → IsOkAnd made (λ sub. AddsSubcommand old sub new) → IfOk made (λ sub. (out-Command sub).has_globals ≡ false)
     → app_of old ≡ a → IfOk made (λ sub. shape_of sub ≡ s) → app_of new ≡ with_subcommand a s
-one_command old (Ok sub) new a s adds local so_far is = adds.shape local ∙ ap₂ with_subcommand so_far is
-one_command old (Err e) new a s adds local so_far is = absurd adds
+one_made old (Ok sub) new a s adds local so_far is = one_command old sub new a s adds local so_far is
+one_made old (Err e) new a s adds local so_far is = absurd adds

@@ -24,7 +24,10 @@ pub fn keeps(mut owner: Owner, mut thief: Thief) -> Result<(), Wrong> {
 /// The thief is told this length.
 fn is_told(thief: &Thief, length: u32) -> Result<(), Wrong> {
     let hint = thief.hint();
-    held(hint == length, Wrong::Length(hint))
+    held(
+        hint == length,
+        Wrong::Number("length that is told", u64::from(hint)),
+    )
 }
 
 /// Of five tickets the owner takes one and the thief another; three are left. Where nobody is at work the length is told.

@@ -46,7 +46,10 @@ fn are_all(mut one: Vec<u16>, two: &[u16], rest: &[(GNo, u64)]) -> Result<(), Wr
     held(one.is_sorted() && two.is_sorted(), Wrong::NotOnce)?;
     one.extend_from_slice(two)?;
     for (g, epoch) in rest {
-        held(*epoch == 1, Wrong::NotTaken(g.0))?;
+        held(
+            *epoch == 1,
+            Wrong::Number("ticket of another epoch", u64::from(g.0)),
+        )?;
         one.push(g.0)?;
     }
     one.sort()?;

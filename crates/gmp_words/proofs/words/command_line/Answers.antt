@@ -76,14 +76,14 @@ returns-in-Err-clause-shown c = λ asked.
       by (inl help) = c.refused.ensures.help help
       by (inr memory) = inr (c.refused.ensures.memory memory)
 
-pub returns-in-Err-line_of-clause-refused : goal.returns-in-Err-line_of-clause-refused
-returns-in-Err-line_of-clause-refused c = λ none some line said.
+pub returns-clause-refused : goal.returns-clause-refused
+returns-clause-refused c = λ none some line said.
     let app = c.in_ok-command.ensures in
     let found = c.in-Ok.ensures.ok.2 (ap is_simple app ∙ gmp_is_simple) in
     let nothing : (l : Line) → AreSaid (subcommand_rows_of c.in-Ok.matches) l → ⊥ = search (rules, tests) in
     nothing line (subst (λ entered. AreSaid entered line) (sym (found.1 ∙ ap (λ (a : App). subcommand_of a (map string_bytes c.args.words.now)) app)) said)
 
-pub returns-in-Err-line_of-clause-shown : goal.returns-in-Err-line_of-clause-shown
-returns-in-Err-line_of-clause-shown c = λ asked.
+pub returns-clause-shown : goal.returns-clause-shown
+returns-clause-shown c = λ asked.
     let app = c.in_ok-command.ensures in
     absurd (no_help (fault_of gmp (map string_bytes c.args.words.now)) (sym (ap (λ (a : App). fault_of a (map string_bytes c.args.words.now)) app) ∙ c.in-Ok.ensures.kinds (ap is_simple_and_free app ∙ gmp_is_free)) asked)
