@@ -1,9 +1,8 @@
-use Rattle.std.proofs.Common.{◌≡◌, ◌≢◌, ◌⊎◌, ◌∙◌, List, [], ◌∷◌, Result, Ok, Err, IfErr, ap, inl, inr, map, refl, rules, string_bytes, subst, sym, tests}
+use Rattle.std.proofs.Common.{◌≡◌, ◌⊎◌, ◌∙◌, List, [], ◌∷◌, ap, inl, inr, map, rules, string_bytes, subst, sym, tests}
 use Rattle.clap.specs.Words.{App, HasKind, IsAmong, Kinds, Text, app_of, fault_of, is_simple, is_simple_and_free, kind_of, subcommand_of, subcommand_rows_of}
 use Rattle.clap.specs.declared.error.Error.{Error}
 use Rattle.clap.specs.declared.error.kind.ErrorKind.TheVariants as kind
 use Rattle.gmp_words.specs.declared.options.CommandLine.{CommandLine as Line}
-use Rattle.gmp_words.specs.declared.ended.Ended.{Ended}
 use Rattle.gmp_words.specs.declared.said.Said.TheVariants as said
 use Rattle.gmp_words.specs.Program.{gmp}
 use Rattle.gmp_words.specs.Words.{AreSaid, IsHelp}

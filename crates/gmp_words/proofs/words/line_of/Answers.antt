@@ -1,4 +1,4 @@
-use Rattle.std.proofs.Common.{◌≡◌, None, Some, List, ap, rules, subst, sym, tests, ◌∙◌}
+use Rattle.std.proofs.Common.{◌≡◌, List, rules, subst, tests}
 use Rattle.clap.specs.Words.{Row, found_of, rows_of, subcommand_rows_of}
 use Rattle.gmp_words.specs.declared.options.CommandLine.{CommandLine as Line}
 use Rattle.gmp_words.specs.Words.{AreGiven, AreSaid, AreWanted, options_of}
