@@ -1,12 +1,13 @@
 -- What is wrong with a text, or with a line.
-use Rattle.std.proofs.Common.{◌≡◌, ◌≢◌, ◌∙◌, ℕ, true, List, refl, sym, subst, inl}
+use Rattle.std.proofs.Common.{◌≡◌, ◌≢◌, ◌∙◌, ℕ, true, List, Option, None, Some, IfSome, refl, sym, subst, inl, inr}
 use Rattle.gmp_trace.specs.declared.bad.Bad.{Bad}
 use Rattle.gmp_trace.specs.declared.bad.Why.{Why}
 use Rattle.gmp_trace.specs.declared.bad.Why.TheVariants as why
 use Rattle.gmp_trace.specs.HasText.{HasText}
 use Rattle.gmp_trace.specs.Reading.{IsFault}
 use Rattle.gmp_trace.specs.Text.{Content, text}
-use Rattle.gmp_check_cli.specs.Check.{HasNoRightTrace, IsWrong}
+use Rattle.gmp_parts.specs.Parts.{IsRightTrace}
+use Rattle.gmp_check_cli.specs.Check.{HasNoRightTrace, IsJudged, IsRead, IsWrong}
 use Rattle.gmp_words.specs.declared.said.Said.{Said}
 use Rattle.gmp_words.specs.declared.said.Said.TheVariants.{BadTrace, OutOfMemory}
 use Rattle.gmp_words.specs.Said.{is_of_line, said_for}
@@ -39,6 +40,16 @@ wrong_text bytes b bad said says fault only is =
   where
     no_memory : OutOfMemory ≡ BadTrace bad → ⊥
     no_memory h = cc
+
+-- of the text of a trace that is judged
+pub wrong_trace : (bytes : List ℕ) (x : Content) (wrong : Option Bad) → HasText x → IsRead bytes x → ((y : Content) → HasText y → bytes ≡ text y → x ≡ y) → IsJudged x wrong
+    → IfSome wrong (IsWrong bytes)
+wrong_trace bytes x None has_text read only right = tt
+wrong_trace bytes x (Some bad) has_text read only found =
+    record {
+      first = inr (record { trace = x; has_text = has_text; read = read; wrong = found.first });
+      exact = λ y right of_y. found.exact (subst IsRightTrace (sym (only y right.has_text of_y)) right);
+    }
 
 -- but for want of memory the word is one of a line
 pub is_line : (what : Why) → what ≢ why.OutOfMemory → is_of_line what ≡ true

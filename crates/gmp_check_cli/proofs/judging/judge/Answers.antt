@@ -1,7 +1,10 @@
-use Rattle.std.proofs.Common.{◌≡◌, ◌∙◌, ℕ, List, Result, Ok, Err, IfErr, subst, sym}
+use Rattle.std.proofs.Common.{◌≡◌, ◌∙◌, ℕ, List, Result, Ok, Err, IfErr, IfOk, IfSome, subst, sym}
 use Rattle.gmp_trace.specs.declared.bad.Bad.{Bad}
-use Rattle.gmp_check_cli.proofs.Wrong.{wrong_text}
-use Rattle.gmp_check_cli.specs.Check.{IsWrong}
+use Rattle.gmp_trace.specs.declared.trace.Trace.{Trace}
+use Rattle.gmp_trace.specs.HasText.{HasText}
+use Rattle.gmp_trace.specs.Text.{Content, content, text}
+use Rattle.gmp_check_cli.proofs.Wrong.{wrong_text, wrong_trace}
+use Rattle.gmp_check_cli.specs.Check.{IsJudged, IsRead, IsWrong}
 use Rattle.gmp_check_cli.specs.declared.judging.Judgement.{Judgement}
 use Rattle.gmp_words.specs.declared.ended.Ended.{Ended}
 use Rattle.gmp_words.specs.declared.said.Said.TheVariants.{BadTrace, OutOfMemory}
@@ -25,4 +28,25 @@ returns-clause-bad g c =
       | in-Err w ↦
           subst (Names c.args.bytes.now) (sym w.found-is)
           (λ bad told. wrong_text c.args.bytes.now w.in-Err.bad bad w.from.result.said w.from.ensures w.in-Err.ensures.fault w.in-Err.ensures.only told)
+    ]
+
+-- so is the first wrong line of a trace
+Finds : List ℕ → Result Judgement Ended → Type 0
+Finds bytes r = IfOk r (λ found. IfSome found.wrong (IsWrong bytes))
+
+of_judged : (bytes : List ℕ) (x : Content) (r : Result Judgement Ended) → HasText x → IsRead bytes x → ((y : Content) → HasText y → bytes ≡ text y → x ≡ y)
+    → IfOk r (λ found. IsJudged x found.wrong) → Finds bytes r
+unfolding Finds
+of_judged bytes x (Ok found) has_text read only judged = wrong_trace bytes x found.wrong has_text read only judged
+of_judged bytes x (Err e) has_text read only judged = tt
+
+pub returns-clause-wrong : goal.returns-clause-wrong
+unfolding Finds
+returns-clause-wrong g c =
+    elim c.match-read_watched.branch [
+      | in-Ok w ↦
+          subst (Finds c.args.bytes.now) (sym w.found-is)
+          (of_judged c.args.bytes.now (content w.in-Ok.trace) w.of-found.result w.in-Ok.ensures.found.0 w.in-Ok.ensures.found.1 w.in-Ok.ensures.only
+          w.of-found.ensures.judged)
+      | in-Err w ↦ subst (Finds c.args.bytes.now) (sym w.found-is) tt
     ]
