@@ -2,8 +2,8 @@
 //! time, that one which minds a deadline hears of work, that machines left out aren't missed, that local queues keep what is put and give each
 //! ticket out once, and what `gmp run` writes, also where its input or its output fails.
 //!
-//! Each argument names a file (docs/HACKING.md). Its rows are parted by empty lines, and those that begin with `#` say what the lines of the
-//! others are. The gate compares what is printed with `stdout`, which doesn't depend on how the machines go.
+//! Each argument names a file (docs/HACKING.md). Its rows are parted by empty lines, and those whose lines begin with `#` say what the lines
+//! of the others are. The gate compares what is printed with `stdout`, which doesn't depend on how the machines go.
 //!
 //! Threads are made to meet by gates and by bodies that wait for one another, never by time: each wait has an end after so many looks, and
 //! a row in which somebody waited in vain falls short.
@@ -59,11 +59,13 @@ fn is_right<R: Threads + Wait + Clock + Sync + Print>(
 ) -> io::Result<bool> {
     let mut count = 0usize;
     for row in rows.split("\n\n") {
-        if row.starts_with('#') {
+        let row = row.trim_end();
+        // A note stands alone: with a row below it, it is no row that can be read.
+        if !row.split('\n').any(|line| !line.starts_with('#')) {
             continue;
         }
         count = count.saturating_add(1);
-        if let Err(wrong) = tried(rt, alloc, name, row.trim_end()) {
+        if let Err(wrong) = tried(rt, alloc, name, row) {
             println!(rt; "{name}, row {count}: {wrong}")?;
             return Ok(false);
         }

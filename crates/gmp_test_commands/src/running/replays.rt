@@ -1,9 +1,9 @@
-//! The entries of a trace, replayed one by one by the plain scheduler. A make that is refused memory is made again. And what no trace can
-//! say: a reply that is spelled as another one is told apart from it.
+//! The entries of a trace, replayed one by one by the plain scheduler. And what no trace can say: a reply that is spelled as another one is
+//! told apart from it.
 
 use crate::words::put_line;
-use gmp_check::{OutOfMemory, Replay, outcome_of};
-use gmp_seq::{Call, Entry, Reply};
+use gmp_check::{Replay, outcome_of};
+use gmp_seq::{Entry, Reply};
 use gmp_trace::{Beginning, read};
 use gmp_words::Ended;
 use std::alloc::Global;
@@ -24,18 +24,6 @@ fn alike(reply: Reply) -> Option<Reply> {
     }
 }
 
-/// Whether the entry is a step, at once or, of a make that is refused memory, at the second time.
-fn steps(replay: &mut Replay, entry: &Entry) -> bool {
-    let mut last = replay.step(entry);
-    if last == Err(OutOfMemory)
-        && matches!(entry.call, Call::Make(_))
-        && replay.outcome().is_none()
-    {
-        last = replay.step(entry);
-    }
-    last == Ok(true)
-}
-
 /// The entry is first tried with the reply that is spelled alike, if there is one.
 fn judge(replay: &mut Replay, mut entry: Entry, found: &mut Found) {
     let reply = entry.reply;
@@ -46,7 +34,7 @@ fn judge(replay: &mut Replay, mut entry: Entry, found: &mut Found) {
         }
         entry.reply = reply;
     }
-    if steps(replay, &entry) {
+    if replay.step(&entry) == Ok(true) {
         found.steps = found.steps.wrapping_add(1);
     }
 }
