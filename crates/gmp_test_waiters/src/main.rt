@@ -10,6 +10,7 @@
 #![tactic(auto)]
 
 mod audits;
+mod boxing;
 mod failing;
 mod left_out;
 mod ordered;

@@ -4,13 +4,14 @@
 mod hooked;
 mod stage;
 
+use crate::boxing::boxed;
 use crate::row::{first_line, number, unless_none};
 use crate::waiting::Seen;
 use crate::wrong::{Wrong, held};
 use gmp_run::{Report, run};
 use gmp_seq::{Limits, Outcome};
 use gmp_worker::{Boxed, audit};
-use hooked::make_hooked;
+use hooked::Hooked;
 use stage::{Stage, Way, rules_of};
 use std::alloc::Global;
 use std::sync::{Arc, Wait};
@@ -71,14 +72,14 @@ impl<'a> Scene<'a> {
     }
 
     /// Its bodies, each as often as it says.
-    fn boxed(&self, alloc: Global, seen: &Arc<Seen, Global>) -> Result<Vec<Boxed>, Wrong> {
+    fn hooked(&self, alloc: Global, seen: &Arc<Seen, Global>) -> Result<Vec<Hooked>, Wrong> {
         let mut bodies = Vec::new(alloc);
         for line in self.bodies.lines() {
             let Some((count, body)) = pair(line) else {
                 return Err(Wrong::Unreadable);
             };
             for _ in 0..number(count)? {
-                bodies.push(make_hooked(alloc, body, seen)?)?;
+                bodies.push(Hooked::of(alloc, body, seen)?)?;
             }
         }
         Ok(bodies)
@@ -92,7 +93,7 @@ impl<'a> Scene<'a> {
         way: Way,
     ) -> Result<(), Wrong> {
         let seen = Arc::new(alloc, Seen::nothing())?;
-        let bodies = self.boxed(alloc, &seen)?;
+        let bodies = boxed!(alloc, self.hooked(alloc, &seen)?);
         let count = bodies.len();
         let capacities = capacities_of(alloc, self.capacities)?;
         let stage = Stage::new(rt, way, rules_of(alloc, self.rules)?, &seen);

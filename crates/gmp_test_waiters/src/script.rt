@@ -6,10 +6,10 @@ use crate::wrong::Wrong;
 use gmp_check_cli::check;
 use gmp_run::{Gate, Report, run};
 use gmp_run_cli::told;
-use gmp_script::ScriptBody;
+use gmp_script::Script;
 use gmp_words::{Ended, Settings, script};
 use gmp_worker::Boxed;
-use std::alloc::{AllocError, Global};
+use std::alloc::Global;
 use std::sync::Wait;
 use std::thread::Threads;
 
@@ -20,30 +20,22 @@ pub struct Ran {
     pub report: Report<Boxed>,
 }
 
-/// The bodies, each in a box.
-fn boxed(alloc: Global, bodies: Vec<ScriptBody>) -> Result<Vec<Boxed>, AllocError> {
-    let mut boxes: Vec<Boxed> = Vec::new(alloc);
-    for body in bodies {
-        boxes.push(Box::new(alloc, body)?)?;
-    }
-    Ok(boxes)
+/// The row's script.
+pub fn script_of(alloc: Global, row: &Row) -> Result<Script, Wrong> {
+    let text = row.lines(alloc)?;
+    script(alloc, &mut text.as_slice()).map_err(|_| Wrong::Unreadable)
 }
 
 impl Ran {
-    /// The run of the row's script by these settings, under this gate.
+    /// The run of these bodies by these settings, under this gate.
     pub fn of<R: Threads + Wait + Sync, G: Gate + Sync>(
         rt: &R,
         alloc: Global,
-        row: &Row,
+        capacities: Vec<u32>,
+        bodies: Vec<Boxed>,
         settings: &Settings,
         gate: &G,
     ) -> Result<Self, Wrong> {
-        let text = row.lines(alloc)?;
-        let Ok(script) = script(alloc, &mut text.as_slice()) else {
-            return Err(Wrong::Unreadable);
-        };
-        let capacities = script.capacities;
-        let bodies = boxed(alloc, script.bodies)?;
         let limits = settings.limits();
         let random = settings.random;
         match run(

@@ -5,7 +5,7 @@ use crate::waiting::Stopped;
 use crate::wrong::Wrong;
 use gmp_join_cli::join;
 use gmp_parts::Together;
-use gmp_run_cli::run_in_segments;
+use gmp_run_cli::{Segmented, run_in_segments};
 use std::alloc::Global;
 use std::sync::Wait;
 use std::thread::Threads;
@@ -39,8 +39,9 @@ pub fn tried<R: Threads + Wait + Sync>(rt: &R, alloc: Global, row: &str) -> Resu
         &mut output,
         &Stopped,
     );
-    row.ends_with(ran.ended.status)?;
-    let Some(Together(parts)) = ran.outlet else {
+    let Segmented { ended, outlet } = ran;
+    row.ends_with(ended.status)?;
+    let Some(Together(parts)) = outlet else {
         return Err(Wrong::OtherEnd);
     };
     are_joined(alloc, &parts, &output)?;

@@ -48,9 +48,8 @@ fn both(
     let mut swapped = parts.to_vec(alloc)?;
     swapped.extend_from_slice(&last)?;
     let lines = part_head.wrapping_add(next.wrapping_sub(at));
-    for text in [&mut parts, &mut swapped] {
-        put_first(text, &rest, lines)?;
-    }
+    put_first(&mut parts, &rest, lines)?;
+    put_first(&mut swapped, &rest, lines)?;
     parts.extend_from_slice(&last)?;
     Ok((told(alloc, &parts)?, told(alloc, &swapped)?))
 }

@@ -7,8 +7,7 @@ use crate::wrong::Wrong;
 use gmp_base::{Ask, Body, Woke};
 use gmp_script::ScriptBody;
 use gmp_words::script;
-use gmp_worker::Boxed;
-use std::alloc::{AllocError, Global};
+use std::alloc::Global;
 use std::sync::Arc;
 
 /// A line of a body.
@@ -23,7 +22,7 @@ enum Step {
 
 /// A script's body, and what it does between its asks.
 #[derive(Drop)]
-struct Hooked {
+pub struct Hooked {
     asks: ScriptBody,
     steps: Vec<Step>,
     at: usize,
@@ -83,26 +82,27 @@ fn asks_of(alloc: Global, lines: &[u8]) -> Result<ScriptBody, Wrong> {
     }
 }
 
-/// A body whose lines are parted by `/`.
-pub fn make_hooked(alloc: Global, body: &str, seen: &Arc<Seen, Global>) -> Result<Boxed, Wrong> {
-    let mut steps = Vec::new(alloc);
-    let mut asks = String::new(alloc);
-    for line in body.split('/') {
-        let step = Step::of(line)?;
-        if matches!(step, Step::Asks) {
-            asks.push_str(line)?;
-            asks.push('\n')?;
+impl Hooked {
+    /// A body whose lines are parted by `/`.
+    pub fn of(alloc: Global, body: &str, seen: &Arc<Seen, Global>) -> Result<Self, Wrong> {
+        let mut steps = Vec::new(alloc);
+        let mut asks = String::new(alloc);
+        for line in body.split('/') {
+            let step = Step::of(line)?;
+            if matches!(step, Step::Asks) {
+                asks.push_str(line)?;
+                asks.push('\n')?;
+            }
+            // No step stands for the first line, which asks nothing.
+            if line != "body" {
+                steps.push(step)?;
+            }
         }
-        // No step stands for the first line, which asks nothing.
-        if line != "body" {
-            steps.push(step)?;
-        }
+        Ok(Hooked {
+            asks: asks_of(alloc, asks.as_bytes())?,
+            steps,
+            at: 0,
+            seen: Arc::try_clone(seen)?,
+        })
     }
-    let hooked = Hooked {
-        asks: asks_of(alloc, asks.as_bytes())?,
-        steps,
-        at: 0,
-        seen: Arc::try_clone(seen)?,
-    };
-    Ok(Box::new(alloc, hooked)?)
 }
