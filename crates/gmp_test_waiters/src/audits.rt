@@ -1,9 +1,8 @@
 //! Reports of machine 0 alone whose logs are others, or that are held against another script. Behind its status a row has on a line each how
 //! many calls the logs say, how many in all the audit says where it finds fault with them, and the script against which the run is held.
 
-use crate::boxing::boxed;
+use crate::boxing::ran;
 use crate::row::{Row, first_line, lines, unless_none};
-use crate::script::{Ran, script_of};
 use crate::wrong::{Wrong, held};
 use gmp_base::MNo;
 use gmp_run::{Open, Report};
@@ -76,9 +75,7 @@ pub fn tried<R: Threads + Wait + Sync>(rt: &R, alloc: Global, row: &str) -> Resu
     let (said, rest) = first_line(rest);
     let (other, text) = first_line(rest);
     let settings = row.settings(alloc)?;
-    let script = script_of(alloc, &row)?;
-    let bodies = boxed!(alloc, script.bodies);
-    let ran = Ran::of(rt, alloc, script.capacities, bodies, &settings, &Open)?;
+    let ran = ran!(rt, alloc, &row, settings, &Open);
     let mut report = ran.report;
     report.logs = logs_of(alloc, unless_none(logs))?;
     is_audited(&report, said)?;

@@ -1,4 +1,4 @@
-//! Bodies of threads are boxes. A macro makes them, since a function that makes boxes of any type can't hand them out.
+//! Bodies of threads are boxes. Macros make and run them, since a function that makes boxes of any type, or runs them, can't hand them out.
 
 /// The bodies, each in a box.
 macro_rules! boxed {
@@ -11,4 +11,30 @@ macro_rules! boxed {
     }};
 }
 
+/// The run of the row's script in threads, by these settings, under this gate.
+macro_rules! ran {
+    ($rt:expr, $alloc:expr, $row:expr, $settings:expr, $gate:expr) => {{
+        let script = crate::script::script_of($alloc, $row)?;
+        let bodies = crate::boxing::boxed!($alloc, script.bodies);
+        let (capacities, limits, random) =
+            (script.capacities, $settings.limits(), $settings.random);
+        let ran = gmp_run::run(
+            $rt,
+            $alloc,
+            0,
+            limits,
+            &capacities,
+            bodies,
+            &crate::waiting::Stopped,
+            $gate,
+            random,
+        );
+        let Ok(report) = ran else {
+            return Err(crate::wrong::Wrong::NotBegun);
+        };
+        crate::script::Ran { capacities, report }
+    }};
+}
+
 pub(crate) use boxed;
+pub(crate) use ran;

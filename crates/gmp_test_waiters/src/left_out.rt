@@ -4,9 +4,9 @@
 //! Where a row has no text, each set of machines is left out in turn, all but machine 0 and none among them, and each trace is right. Else
 //! machine 0 is alone, and the text is written.
 
-use crate::boxing::boxed;
+use crate::boxing::ran;
 use crate::row::Row;
-use crate::script::{Ran, passes, script_of};
+use crate::script::passes;
 use crate::wrong::{Wrong, held};
 use gmp_base::MNo;
 use gmp_driver::Act;
@@ -63,9 +63,7 @@ fn ends<R: Threads + Wait + Sync>(
     row: &Row,
     gate: &Admits,
 ) -> Result<Vec<u8>, Wrong> {
-    let script = script_of(alloc, row)?;
-    let bodies = boxed!(alloc, script.bodies);
-    let ran = Ran::of(rt, alloc, script.capacities, bodies, settings, gate)?;
+    let ran = ran!(rt, alloc, row, settings, gate);
     are_left_out(&ran.report, gate)?;
     let (ended, output) = ran.told(alloc, settings);
     row.ends_with(ended.status)?;

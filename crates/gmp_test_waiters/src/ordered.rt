@@ -2,9 +2,8 @@
 //! each limit of entries. Left to run freely they may make as few entries as main needs alone.
 //! `InOrder` is the gate that lets one act pass at a time.
 
-use crate::boxing::boxed;
+use crate::boxing::ran;
 use crate::row::{Row, settings_of};
-use crate::script::{Ran, script_of};
 use crate::waiting::TURNS;
 use crate::wrong::{Wrong, ended, held};
 use crossbeam_utils::Backoff;
@@ -106,9 +105,7 @@ fn is_cut<R: Threads + Wait + Sync>(
         order: row.third.as_bytes(),
         turn: AtomicUsize::new(0),
     };
-    let script = script_of(alloc, row)?;
-    let bodies = boxed!(alloc, script.bodies);
-    let ran = Ran::of(rt, alloc, script.capacities, bodies, &settings, &gate)?;
+    let ran = ran!(rt, alloc, row, settings, &gate);
     let (told, output) = ran.told(alloc, &settings);
     let (text, status) = wanted(alloc, row.text, entries)?;
     ended(told.status, status)?;

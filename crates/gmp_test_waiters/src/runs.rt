@@ -2,9 +2,9 @@
 //! runs a second time with each claim held until every machine has acted (`Together`), so that one alone doesn't make all calls of a short
 //! script: that is over before the next thread has started.
 
-use crate::boxing::boxed;
+use crate::boxing::ran;
 use crate::row::Row;
-use crate::script::{Ran, passes, script_of};
+use crate::script::passes;
 use crate::waiting::{Stopped, TURNS};
 use crate::wrong::Wrong;
 use crossbeam_utils::Backoff;
@@ -89,9 +89,7 @@ fn is_right_together<R: Threads + Wait + Sync>(
 ) -> Result<(), Wrong> {
     let settings = row.settings(alloc)?;
     let gate = Together::of(settings.machines);
-    let script = script_of(alloc, row)?;
-    let bodies = boxed!(alloc, script.bodies);
-    let ran = Ran::of(rt, alloc, script.capacities, bodies, &settings, &gate)?;
+    let ran = ran!(rt, alloc, row, settings, &gate);
     are_all_in(&ran.report, settings.machines)?;
     let (ended, output) = ran.told(alloc, &settings);
     row.ends_with(ended.status)?;

@@ -1,17 +1,14 @@
 //! One run of a row's script in threads, under a gate: its capacities and its report (`Ran`), and what `gmp run` tells of them.
 
 use crate::row::Row;
-use crate::waiting::Stopped;
 use crate::wrong::Wrong;
 use gmp_check_cli::check;
-use gmp_run::{Gate, Report, run};
+use gmp_run::Report;
 use gmp_run_cli::told;
 use gmp_script::Script;
 use gmp_words::{Ended, Settings, script};
 use gmp_worker::Boxed;
 use std::alloc::Global;
-use std::sync::Wait;
-use std::thread::Threads;
 
 /// What a run came to.
 #[derive(Drop)]
@@ -27,33 +24,6 @@ pub fn script_of(alloc: Global, row: &Row) -> Result<Script, Wrong> {
 }
 
 impl Ran {
-    /// The run of these bodies by these settings, under this gate.
-    pub fn of<R: Threads + Wait + Sync, G: Gate + Sync>(
-        rt: &R,
-        alloc: Global,
-        capacities: Vec<u32>,
-        bodies: Vec<Boxed>,
-        settings: &Settings,
-        gate: &G,
-    ) -> Result<Self, Wrong> {
-        let limits = settings.limits();
-        let random = settings.random;
-        match run(
-            rt,
-            alloc,
-            0,
-            limits,
-            &capacities,
-            bodies,
-            &Stopped,
-            gate,
-            random,
-        ) {
-            Ok(report) => Ok(Ran { capacities, report }),
-            Err(_) => Err(Wrong::NotBegun),
-        }
-    }
-
     /// How the command ends, and what it writes.
     pub fn told(self, alloc: Global, settings: &Settings) -> (Ended, Vec<u8>) {
         let mut output = Vec::new(alloc);
