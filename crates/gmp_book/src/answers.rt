@@ -1,7 +1,7 @@
 //! What becomes of who exits or parks: `Exited` is of a goroutine, `Parking` of a machine.
 
 /// What became of a goroutine that exits.
-#[derive(Clone, Copy, Debug, PartialEq, Eq)]
+#[derive(Clone, Copy)]
 pub enum Exited {
     /// It is dead, and the run goes on.
     Dead,
@@ -10,7 +10,7 @@ pub enum Exited {
 }
 
 /// What a machine is answered that has nothing to do.
-#[derive(Clone, Copy, Debug, PartialEq, Eq)]
+#[derive(Clone, Copy)]
 pub enum Parking {
     /// It is parked, until it is woken.
     Parked,

@@ -106,7 +106,7 @@ fn handed_back<T>(why: Refusal, held: Held<T>) -> Held<T>
 
 /// Where a body goes by a reply.
 // By the reply and not by the call: whoever drives is proved over one relation, and not over one for each call.
-#[derive(Clone, Copy, Debug, PartialEq, Eq)]
+#[derive(Clone, Copy)]
 pub enum Way {
     /// It stays with the goroutine that asked.
     Stays,

@@ -22,7 +22,7 @@ impl From<AllocError> for OutOfMemory {
 }
 
 /// Why no replay was opened.
-#[derive(Clone, Copy, Debug, PartialEq, Eq, Error)]
+#[derive(Clone, Copy, Debug, Error)]
 pub enum OpenError {
     /// A run may not have these limits, so many bodies, or channels of these capacities.
     #[error("bad limits")]
@@ -40,7 +40,7 @@ impl From<AllocError> for OpenError {
 }
 
 /// Why a history has no outcome.
-#[derive(Clone, Copy, Debug, PartialEq, Eq, Error)]
+#[derive(Clone, Copy, Debug, Error)]
 pub enum ReplayError {
     /// A run may not have these limits, so many bodies, or channels of these capacities.
     #[error("bad limits")]
@@ -53,7 +53,7 @@ pub enum ReplayError {
 }
 
 /// Why the replay of a history doesn't come to its end.
-#[derive(Clone, Copy, Debug)]
+#[derive(Clone, Copy)]
 pub(crate) enum Stop {
     /// The entry at this index is no step, and all before it are.
     NoStep(usize),
@@ -91,7 +91,7 @@ impl From<OpenError> for ReplayError {
 }
 
 /// Why no part of a run was split off.
-#[derive(Clone, Copy, Debug, PartialEq, Eq, Error)]
+#[derive(Clone, Copy, Debug, Error)]
 pub enum SplitError {
     /// There are fewer entries before it, or the run ended with them.
     #[error("past the end")]
@@ -117,7 +117,7 @@ impl From<AllocError> for SplitError {
 }
 
 /// Why two parts were not joined.
-#[derive(Clone, Copy, Debug, PartialEq, Eq, Error)]
+#[derive(Clone, Copy, Debug, Error)]
 pub enum JoinError {
     /// The first doesn't end where the second begins.
     #[error("apart")]

@@ -7,14 +7,14 @@ use gmp_walk::Deed;
 use std::alloc::{AllocError, Global};
 
 /// An entry of a machine.
-#[derive(Clone, Copy, Debug, PartialEq, Eq)]
+#[derive(Clone, Copy)]
 pub struct Spot {
     pub machine: MNo,
     pub number: u64,
 }
 
 /// One time that a goroutine became ready and was claimed.
-#[derive(Clone, Copy, Debug, PartialEq, Eq)]
+#[derive(Clone, Copy)]
 pub struct Arrow {
     pub g: GNo,
     /// The entry that made it ready.

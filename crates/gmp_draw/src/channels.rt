@@ -8,7 +8,7 @@ use gmp_walk::{Deed, communication};
 use std::alloc::{AllocError, Global};
 
 /// A channel was so full for a while.
-#[derive(Clone, Copy, Debug)]
+#[derive(Clone, Copy)]
 pub struct Level {
     pub channel: CNo,
     /// How many values it had.
@@ -20,7 +20,7 @@ pub struct Level {
 }
 
 /// What an entry did beside a change of the level.
-#[derive(Clone, Copy, Debug, PartialEq, Eq)]
+#[derive(Clone, Copy)]
 pub enum Happening {
     /// A value went from a sender to a receiver, past the buffer.
     Handed,
@@ -30,7 +30,7 @@ pub enum Happening {
 }
 
 /// A happening, and its entry.
-#[derive(Clone, Copy, Debug)]
+#[derive(Clone, Copy)]
 pub struct Event {
     pub channel: CNo,
     pub number: u64,
@@ -38,7 +38,7 @@ pub struct Event {
 }
 
 /// A channel as far as the walk came.
-#[derive(Clone, Copy, Debug)]
+#[derive(Clone, Copy)]
 pub struct Channel {
     pub capacity: u32,
     /// Whether an entry of the range is about it.

@@ -33,7 +33,7 @@ fn position_of(left: u64, column: u64, entries: Range, number: u64) -> u64
 }
 
 /// The columns.
-#[derive(Clone, Copy, Debug)]
+#[derive(Clone, Copy)]
 pub struct Columns {
     /// The entries that are drawn.
     pub entries: Range,

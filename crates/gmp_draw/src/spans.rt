@@ -8,7 +8,7 @@ use gmp_walk::Deed;
 use std::alloc::{AllocError, Global};
 
 /// What a machine does for a while.
-#[derive(Clone, Copy, Debug, PartialEq, Eq)]
+#[derive(Clone, Copy, PartialEq, Eq)]
 pub enum Doing {
     /// It runs this goroutine.
     Runs(GNo),
@@ -20,7 +20,7 @@ pub enum Doing {
 }
 
 /// A while of a machine.
-#[derive(Clone, Copy, Debug)]
+#[derive(Clone, Copy)]
 pub struct Span {
     pub machine: MNo,
     pub doing: Doing,

@@ -7,7 +7,7 @@ use itoa::Buffer;
 use std::alloc::AllocError;
 
 /// A rectangle of pixels.
-#[derive(Clone, Copy, Debug, PartialEq, Eq)]
+#[derive(Clone, Copy)]
 pub struct Area {
     pub x: u64,
     pub y: u64,

@@ -8,7 +8,7 @@ use gmp_trace::{CALLS, End, call_name};
 use std::alloc::AllocError;
 
 /// What goroutines have to do with a channel.
-#[derive(Clone, Copy, Debug, PartialEq, Eq)]
+#[derive(Clone, Copy)]
 pub enum Role {
     WaitsToSend,
     WaitsToReceive,
@@ -18,7 +18,7 @@ pub enum Role {
 }
 
 /// What a goroutine alone did in a trace that another waits for.
-#[derive(Clone, Copy, Debug, PartialEq, Eq)]
+#[derive(Clone, Copy)]
 pub enum Help {
     Sent(CNo),
     Received(CNo),
@@ -26,7 +26,7 @@ pub enum Help {
 }
 
 /// Whose calls are counted.
-#[derive(Clone, Copy, Debug, PartialEq, Eq)]
+#[derive(Clone, Copy)]
 pub enum Unit {
     Machine(MNo),
     Processor(PNo),

@@ -8,7 +8,7 @@ use gmp_walk::{Deed, Listener, communication};
 use std::alloc::{AllocError, Global};
 
 /// What a goroutine ever did on a channel.
-#[derive(Clone, Copy, Debug, PartialEq, Eq)]
+#[derive(Clone, Copy)]
 pub enum Party {
     Sent,
     Received,
@@ -68,14 +68,14 @@ impl Parties {
 pub type Counts = [u64; CALLS];
 
 /// A `ready` that found its goroutine not parked: who called it, and in which entry.
-#[derive(Clone, Copy, Debug)]
+#[derive(Clone, Copy)]
 pub struct Lost {
     pub by: GNo,
     pub at: u64,
 }
 
 /// Who made a goroutine ready by `ready`.
-#[derive(Clone, Copy, Debug)]
+#[derive(Clone, Copy)]
 pub enum Readier {
     Nobody,
     One(GNo),
@@ -94,7 +94,7 @@ impl Readier {
 }
 
 /// The way of a ticket from ready to claimed, by the numbers of the entries.
-#[derive(Clone, Copy, Debug)]
+#[derive(Clone, Copy)]
 pub struct Way {
     pub g: GNo,
     pub ready: u64,

@@ -10,7 +10,7 @@ use gmp_walk::goroutine_at;
 use std::alloc::{AllocError, Global};
 
 /// Who alone could have helped a goroutine, as far as was seen, and by what.
-#[derive(Clone, Copy, Debug)]
+#[derive(Clone, Copy)]
 struct Helper {
     g: GNo,
     help: Help,

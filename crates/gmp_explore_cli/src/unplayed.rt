@@ -7,7 +7,7 @@ use gmp_words::{Ended, Untraced};
 use std::alloc::AllocError;
 
 /// Why a run does not follow what was found.
-#[derive(Clone, Copy, Debug, PartialEq, Eq)]
+#[derive(Clone, Copy)]
 pub(crate) enum Unplayed {
     /// There is no such run, or none was found.
     Untraced(Untraced),

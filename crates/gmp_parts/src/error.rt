@@ -9,7 +9,7 @@ use std::io;
 use thiserror::Error;
 
 /// Why a part was not written.
-#[derive(Clone, Copy, Debug, PartialEq, Eq, Error)]
+#[derive(Clone, Copy, Debug, Error)]
 pub enum PartError {
     /// There is no entry, or one is no step of the scheduler.
     #[error("no step")]

@@ -7,7 +7,7 @@ use gmp_seq::{Call, Entry, Goroutine, Reply, Taken};
 use std::alloc::AllocError;
 
 /// What one entry did.
-#[derive(Clone, Copy, Debug)]
+#[derive(Clone, Copy)]
 pub struct Deed<'a> {
     /// The entry's number in the run, from 0.
     pub number: u64,

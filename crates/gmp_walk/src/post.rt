@@ -9,7 +9,7 @@ use gmp_start::Start;
 use std::alloc::{AllocError, Global};
 
 /// What a machine has.
-#[derive(Clone, Copy, Debug)]
+#[derive(Clone, Copy)]
 struct Post {
     g: Option<GNo>,
     p: Option<PNo>,

@@ -10,7 +10,7 @@ use gmp_trace::{Bad, End, Why, WriteError};
 use std::alloc::AllocError;
 
 /// The exit status, and what is said: a status goes only with what it stands for.
-#[derive(Debug, Drop)]
+#[derive(Drop)]
 pub struct Ended {
     /// What the process ends with.
     pub status: u8,
@@ -31,7 +31,7 @@ fn status_of(end: End) -> u8
 }
 
 /// What was found of all runs of a script.
-#[derive(Clone, Copy, Debug, PartialEq, Eq)]
+#[derive(Clone, Copy)]
 pub enum Verdict {
     /// No run has what is not wanted.
     Safe,

@@ -6,7 +6,7 @@ ghost use Rattle.std.specs.Prelude.{◌≤◌};
 use gmp_seq::Limits;
 
 /// What the program is to do.
-#[derive(Clone, Copy, Debug, PartialEq, Eq)]
+#[derive(Clone, Copy)]
 pub enum Task {
     /// Runs a script in one thread, and prints the trace.
     Step,
@@ -27,7 +27,7 @@ pub enum Task {
 }
 
 /// What no run of a script is to do. One or more of these are wanted.
-#[derive(Clone, Copy, Debug, PartialEq, Eq)]
+#[derive(Clone, Copy)]
 pub struct Wanted {
     /// End since all goroutines are asleep.
     pub no_deadlock: bool,
@@ -38,7 +38,7 @@ pub struct Wanted {
 }
 
 /// How long a run is whose history is handed out in segments, and how much of it is kept.
-#[derive(Clone, Copy, Debug, PartialEq, Eq)]
+#[derive(Clone, Copy)]
 pub struct Segments {
     /// The most entries that the run may have: 16 to 9,223,372,036,854,775,807.
     pub entries: u64,
@@ -50,7 +50,7 @@ pub struct Segments {
 }
 
 /// What the command line says: the task, and the number of each option.
-#[derive(Clone, Copy, Debug, PartialEq, Eq)]
+#[derive(Clone, Copy)]
 pub struct Settings {
     pub task: Task,
     /// Processors: 1 to 32.
@@ -96,7 +96,7 @@ pub struct Settings {
 }
 
 /// What the command line says.
-#[derive(Clone, Copy, Debug)]
+#[derive(Clone, Copy)]
 pub struct CommandLine<'a> {
     pub settings: Settings,
     /// The folder that a run in segments writes into.

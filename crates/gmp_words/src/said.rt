@@ -5,7 +5,7 @@ use gmp_trace::Bad;
 use std::fmt;
 
 /// Why there is no trace of a run that follows what was found.
-#[derive(Clone, Copy, Debug, PartialEq, Eq)]
+#[derive(Clone, Copy)]
 pub enum Untraced {
     /// More goroutines are between two asks at once than there are processors, of which there are so many.
     Crowded(u8),
@@ -18,7 +18,7 @@ pub enum Untraced {
 /// What is said at the end, besides the trace or the summary.
 ///
 /// Its text, by `Display`, ends with a line feed. `Nothing` has no text.
-#[derive(Debug, Drop)]
+#[derive(Drop)]
 pub enum Said {
     /// The trace or the summary was written.
     Nothing,

@@ -10,7 +10,7 @@ use gmp_history::History;
 const MACHINES: usize = 256;
 
 /// How many calls a machine's pass made.
-#[derive(Clone, Copy, Debug, PartialEq, Eq)]
+#[derive(Clone, Copy)]
 pub struct PassLog {
     pub m: MNo,
     /// Those that were accepted.

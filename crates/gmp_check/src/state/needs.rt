@@ -13,7 +13,7 @@ use gmp_base::{Cases, MNo, Readiness};
 use gmp_seq::Call;
 
 /// What a call needs.
-#[derive(Clone, Copy, Debug, PartialEq, Eq)]
+#[derive(Clone, Copy)]
 pub enum Need {
     /// The machine is awake: neither parked nor in a blocking call.
     Awake,
