@@ -41,7 +41,8 @@ fn room_for(bodies: usize, procs: u8, choices: usize) -> u32 {
 
 /// The limits of the run: a machine for each processor, and room for all entries.
 fn limits_for(bodies: usize, bounds: Bounds, choices: usize) -> Limits
-    ensures { is_whole result ≡ true }
+    ensures whole { is_whole result ≡ true }
+    ensures asked { (result.channels ≡ bounds.channels) × (result.procs ≡ bounds.procs) }
 {
     let room = room_for(bodies, bounds.procs, choices);
     Limits {
@@ -183,7 +184,7 @@ fn write_run<W: Write>(
     requires runs { (s : State) × (after : List Commands)
         × IsRunOf limits script.now.capacities.items script.now.bodies.items stage.now.journal.history s after }
     ensures { OnOk result
-        (WritesPlayed script.now.capacities.items script.now.bodies.items found (W.contents writer.old) (W.contents writer.new)) }
+        (WritesPlayed limits.channels limits.procs script.now.capacities.items script.now.bodies.items found (W.contents writer.old) (W.contents writer.new)) }
 {
     let trace = TraceView {
         limits,
@@ -208,10 +209,11 @@ fn write_shown<'a, W: Write>(
 ) -> Ended
     requires fresh { AreFresh script.now.bodies.items }
     requires whole { is_whole limits ≡ true }
+    requires asked { (limits.channels ≡ bounds.channels) × (limits.procs ≡ bounds.procs) }
     requires opened { IsOpened limits (length script.now.bodies.items) script.now.capacities.items player.old.stage.journal }
     requires within { AreLimits limits (length script.now.bodies.items) script.now.capacities.items }
     ensures traced { result.said ≡ Nothing
-        → WritesPlayed script.now.capacities.items script.now.bodies.items found (W.contents writer.old) (W.contents writer.new) }
+        → WritesPlayed bounds.channels bounds.procs script.now.capacities.items script.now.bodies.items found (W.contents writer.old) (W.contents writer.new) }
     ensures status { result.said ≡ Nothing → result.status ≡ status_of_verdict found }
     ensures kinds { is_of_trace result.said ≡ true }
     ensures quiet { is_before_writing result.said ≡ true → W.contents writer.new ≡ W.contents writer.old }
@@ -236,7 +238,7 @@ pub(crate) fn traced<W: Write>(
 ) -> Ended
     requires { AreFresh script.now.bodies.items }
     ensures traced { result.said ≡ Nothing
-        → WritesPlayed script.now.capacities.items script.now.bodies.items found (W.contents writer.old) (W.contents writer.new) }
+        → WritesPlayed bounds.channels bounds.procs script.now.capacities.items script.now.bodies.items found (W.contents writer.old) (W.contents writer.new) }
     ensures status { result.said ≡ Nothing → result.status ≡ status_of_verdict found }
     ensures kinds { is_of_trace result.said ≡ true }
     ensures quiet { is_before_writing result.said ≡ true → W.contents writer.new ≡ W.contents writer.old }
