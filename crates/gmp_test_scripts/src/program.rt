@@ -5,7 +5,7 @@ use gmp_cli::step;
 use gmp_draw::draw;
 use gmp_explain::explain;
 use gmp_explore_cli::explore;
-use gmp_words::{Said, command_line};
+use gmp_words::{Said, Settings, command_line};
 use std::alloc::{AllocError, Global};
 
 /// What it wrote and what it said.
@@ -95,19 +95,27 @@ pub fn explored(alloc: Global, script: &[u8], trace: bool) -> Result<Ran, AllocE
     if trace {
         words.push(String::from_str(alloc, "--trace")?)?;
     }
-    let mut written = Vec::new(alloc);
-    match command_line(alloc, &words) {
-        Ok(line) => {
-            let found = explore(alloc, &line.settings, &mut &script[..], &mut written);
-            let said = format!(in alloc; "{}{}", found.ended.said, found.note)?;
-            Ok(Ran {
-                written,
-                said,
-                status: found.ended.status,
-            })
-        }
-        Err(ended) => done(alloc, written, ended.status, &ended.said),
+    explore_by(alloc, &words, script)
+}
+
+/// What the words of a command line say, on a script.
+fn explore_by(alloc: Global, words: &[String], script: &[u8]) -> Result<Ran, AllocError> {
+    match command_line(alloc, words) {
+        Ok(line) => explore_within(alloc, &line.settings, script),
+        Err(ended) => done(alloc, Vec::new(alloc), ended.status, &ended.said),
     }
+}
+
+/// `gmp explore` on a script by these settings.
+fn explore_within(alloc: Global, settings: &Settings, script: &[u8]) -> Result<Ran, AllocError> {
+    let mut written = Vec::new(alloc);
+    let found = explore(alloc, settings, &mut &script[..], &mut written);
+    let said = format!(in alloc; "{}{}", found.ended.said, found.note)?;
+    Ok(Ran {
+        written,
+        said,
+        status: found.ended.status,
+    })
 }
 
 /// What was written, with the text of what was said.

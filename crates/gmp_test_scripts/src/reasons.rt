@@ -1,11 +1,15 @@
 //! Of each entry of a right trace: its reply is among those that are allowed there, and its call lacks nothing.
 //! That each reply which is called allowed is a step is proved; that none is left out is seen here.
 
+ghost use Rattle.std.specs.Prelude.{[]};
+ghost use Rattle.gmp_seq.specs.Fits.{AreLimits};
+
 use crate::error::ScriptError;
 use gmp_check::{Replay, begun};
 use gmp_explain::allowed;
+use gmp_history::History;
 use gmp_seq::Entry;
-use gmp_trace::read;
+use gmp_trace::{Trace, read};
 use std::alloc::Global;
 
 /// The entry's reply is allowed before it.
@@ -22,18 +26,30 @@ fn judge_entry(alloc: Global, replay: &Replay, mut entry: Entry) -> Result<bool,
 
 /// Each entry's reply is among those that are allowed.
 pub fn judge_reasons(alloc: Global, text: &[u8]) -> Result<(), ScriptError> {
-    let Ok(trace) = read(alloc, text) else {
-        return Err(ScriptError::line(alloc, 0, "the trace is not read"));
-    };
+    match read(alloc, text) {
+        Ok(trace) => judge_trace(alloc, &trace),
+        Err(_) => Err(ScriptError::line(alloc, 0, "the trace is not read")),
+    }
+}
+
+/// The same of the trace that is read.
+fn judge_trace(alloc: Global, trace: &Trace) -> Result<(), ScriptError>
+    requires { AreLimits trace.now.limits trace.now.bodies [] }
+{
     let view = trace.view();
-    let Ok(mut replay) = begun(alloc, view.limits, view.bodies, view.beginning) else {
-        return Err(ScriptError::line(alloc, 0, "the trace doesn't begin"));
-    };
-    for i in 0..trace.entries.len() {
-        let (Some(one), Some(two)) = (trace.entries.get(i), trace.entries.get(i)) else {
+    match begun(alloc, view.limits, view.bodies, view.beginning) {
+        Ok(mut replay) => judge_entries(alloc, &mut replay, &trace.entries),
+        Err(_) => Err(ScriptError::line(alloc, 0, "the trace doesn't begin")),
+    }
+}
+
+/// The same of these entries, which the replay makes.
+fn judge_entries(alloc: Global, replay: &mut Replay, entries: &History) -> Result<(), ScriptError> {
+    for i in 0..entries.len() {
+        let (Some(one), Some(two)) = (entries.get(i), entries.get(i)) else {
             break;
         };
-        if !judge_entry(alloc, &replay, one)? || replay.step(&two) != Ok(true) {
+        if !judge_entry(alloc, replay, one)? || replay.step(&two) != Ok(true) {
             return Err(ScriptError::line(
                 alloc,
                 i.wrapping_add(4),

@@ -1,10 +1,13 @@
 //! Scripts, each with the trace that is to be written of it: run, compared, read again, checked, held
 //! against the script, cut, explained, drawn and explored.
 
+ghost use Rattle.std.specs.Prelude.{◌≡◌, All};
+
 use crate::error::ScriptError;
 use crate::program::{Ran, checked, drawn, explained, explored, stepped};
 use crate::reasons::judge_reasons;
 use gmp_follow::follows;
+use gmp_script::Script;
 use gmp_test_cuts::cut_everywhere;
 use gmp_trace::{read, write};
 use std::alloc::{AllocError, Global};
@@ -72,9 +75,7 @@ fn judge_read(alloc: Global, text: &[u8]) -> Result<(), ScriptError> {
 /// `gmp check` passes the trace, with the summary that lies beside the script.
 fn judge_check(rt: &HostRuntime, stem: &str, trace: &[u8]) -> Result<(), ScriptError> {
     let ran = checked(rt.alloc(), trace)?;
-    if ran.status != 0 {
-        return Err(ScriptError::line(rt.alloc(), 0, ran.said.trim_end()));
-    }
+    judge_status(rt.alloc(), &ran, 0)?;
     is_beside(
         rt,
         stem,
@@ -85,13 +86,10 @@ fn judge_check(rt: &HostRuntime, stem: &str, trace: &[u8]) -> Result<(), ScriptE
     Ok(())
 }
 
-/// The trace's entries are a run of the script's bodies.
-fn judge_follows(rt: &HostRuntime, name: &str, trace: &[u8]) -> Result<(), ScriptError> {
-    let alloc = rt.alloc();
-    let text = fs::read_to_string(rt, name)?;
-    let Ok(script) = gmp_words::script(alloc, &mut text.as_bytes()) else {
-        return Err(ScriptError::line(alloc, 0, "the script is not read"));
-    };
+/// The trace's entries are a run of this script.
+fn judge_run(alloc: Global, script: &Script, trace: &[u8]) -> Result<(), ScriptError>
+    requires { All (λ b. b.next ≡ 0) script.now.bodies.items }
+{
     let Ok(trace) = read(alloc, trace) else {
         return Err(ScriptError::line(alloc, 0, "the trace is not read"));
     };
@@ -104,6 +102,16 @@ fn judge_follows(rt: &HostRuntime, name: &str, trace: &[u8]) -> Result<(), Scrip
     ) {
         Ok(true) => Ok(()),
         _ => Err(ScriptError::line(alloc, 0, "the trace is no run of the script")),
+    }
+}
+
+/// The trace's entries are a run of the script's bodies.
+fn judge_follows(rt: &HostRuntime, name: &str, trace: &[u8]) -> Result<(), ScriptError> {
+    let alloc = rt.alloc();
+    let text = fs::read_to_string(rt, name)?;
+    match gmp_words::script(alloc, &mut text.as_bytes()) {
+        Ok(script) => judge_run(alloc, &script, trace),
+        Err(_) => Err(ScriptError::line(alloc, 0, "the script is not read")),
     }
 }
 
@@ -135,6 +143,18 @@ fn is_beside(
     }
 }
 
+/// What is said and written lies beside the script, if anything does. Does it?
+fn is_told_beside(
+    rt: &HostRuntime,
+    stem: &str,
+    end: &str,
+    ran: &Ran,
+    said: &str,
+) -> Result<bool, ScriptError> {
+    let got = text_of(rt.alloc(), ran)?;
+    is_beside(rt, stem, end, got.as_bytes(), said)
+}
+
 /// `gmp explain` on a trace tells what lies beside it, if that does. Does it?
 fn judge_explained(
     rt: &HostRuntime,
@@ -142,29 +162,18 @@ fn judge_explained(
     trace: &[u8],
     json: bool,
 ) -> Result<bool, ScriptError> {
-    let alloc = rt.alloc();
-    let ran = explained(alloc, trace, json)?;
+    let ran = explained(rt.alloc(), trace, json)?;
     if !json {
-        judge_width(alloc, &ran.written)?;
+        judge_width(rt.alloc(), &ran.written)?;
     }
-    let got = text_of(alloc, &ran)?;
     let end = if json { ".json" } else { ".explained" };
-    is_beside(
-        rt,
-        stem,
-        end,
-        got.as_bytes(),
-        "gmp explain wrote another line",
-    )
+    is_told_beside(rt, stem, end, &ran, "gmp explain wrote another line")
 }
 
 /// `gmp draw` draws the trace as the picture beside it, if one is.
 fn judge_drawn(rt: &HostRuntime, stem: &str, trace: &[u8]) -> Result<(), ScriptError> {
-    let alloc = rt.alloc();
-    let ran = drawn(alloc, trace)?;
-    if ran.status != 0 {
-        return Err(ScriptError::line(alloc, 0, ran.said.trim_end()));
-    }
+    let ran = drawn(rt.alloc(), trace)?;
+    judge_status(rt.alloc(), &ran, 0)?;
     is_beside(
         rt,
         stem,
@@ -181,54 +190,84 @@ fn text_of(alloc: Global, ran: &Ran) -> Result<String, AllocError> {
     format!(in alloc; "{}{written}", ran.said)
 }
 
+/// It ended with this status.
+fn judge_status(alloc: Global, ran: &Ran, status: u8) -> Result<(), ScriptError> {
+    if ran.status == status {
+        Ok(())
+    } else {
+        Err(ScriptError::line(alloc, 0, ran.said.trim_end()))
+    }
+}
+
+/// `gmp check` passes the trace.
+fn judge_right(alloc: Global, trace: &[u8]) -> Result<(), ScriptError> {
+    let ran = checked(alloc, trace)?;
+    judge_status(alloc, &ran, 0)
+}
+
+/// No line of what `gmp explain` tells of the trace is too wide.
+fn judge_telling(alloc: Global, trace: &[u8]) -> Result<(), ScriptError> {
+    let told = explained(alloc, trace, false)?;
+    judge_width(alloc, &told.written)
+}
+
+/// What is said in place of a trace is what was found.
+fn judge_note(alloc: Global, traced: &Ran, found: &Ran) -> Result<(), ScriptError> {
+    let told = text_of(alloc, found)?;
+    same(
+        alloc,
+        traced.said.as_bytes(),
+        told.as_bytes(),
+        "another note",
+    )
+}
+
 /// The trace of what `gmp explore` finds of a script ends with the same status, and `gmp check` passes it.
 fn judge_found(alloc: Global, script: &[u8], found: &Ran) -> Result<(), ScriptError> {
     let traced = explored(alloc, script, true)?;
-    if traced.status != found.status {
-        return Err(ScriptError::line(alloc, 0, traced.said.trim_end()));
-    }
+    judge_status(alloc, &traced, found.status)?;
     if traced.written.is_empty() {
-        let told = text_of(alloc, found)?;
-        return same(
-            alloc,
-            traced.said.as_bytes(),
-            told.as_bytes(),
-            "another note",
-        );
+        return judge_note(alloc, &traced, found);
     }
-    let ran = checked(alloc, &traced.written)?;
-    if ran.status != 0 {
-        return Err(ScriptError::line(alloc, 0, ran.said.trim_end()));
-    }
-    let told = explained(alloc, &traced.written, false)?;
-    judge_width(alloc, &told.written)
+    judge_right(alloc, &traced.written)?;
+    judge_telling(alloc, &traced.written)
+}
+
+/// `gmp explore` of this script finds what lies beside it, if that does, and has a trace of it.
+fn judge_exploring(rt: &HostRuntime, script: &[u8], stem: &str) -> Result<(), ScriptError> {
+    let found = explored(rt.alloc(), script, false)?;
+    judge_width(rt.alloc(), &found.written)?;
+    is_told_beside(
+        rt,
+        stem,
+        ".explored",
+        &found,
+        "gmp explore wrote another line",
+    )?;
+    judge_found(rt.alloc(), script, &found)
 }
 
 /// `gmp explore` of the script of this name finds what lies beside it, if that does, and has a trace of it.
 fn judge_explored(rt: &HostRuntime, name: &str, stem: &str) -> Result<(), ScriptError> {
-    let alloc = rt.alloc();
     let script = fs::read_to_string(rt, name)?;
-    let found = explored(alloc, script.as_bytes(), false)?;
-    judge_width(alloc, &found.written)?;
-    let got = text_of(alloc, &found)?;
-    is_beside(
-        rt,
-        stem,
-        ".explored",
-        got.as_bytes(),
-        "gmp explore wrote another line",
-    )?;
-    judge_found(alloc, script.as_bytes(), &found)
+    judge_exploring(rt, script.as_bytes(), stem)
+}
+
+/// `gmp explain` tells what lies beside the trace.
+fn judge_reason(rt: &HostRuntime, stem: &str, trace: &[u8]) -> Result<(), ScriptError> {
+    judge_explained(rt, stem, trace, true)?;
+    if judge_explained(rt, stem, trace, false)? {
+        Ok(())
+    } else {
+        Err(ScriptError::line(rt.alloc(), 0, "nothing says why it is wrong"))
+    }
 }
 
 /// The trace of this name is not right, and `gmp explain` says why: how many calls it has, or what falls short.
 pub fn judged_wrong(rt: &HostRuntime, name: &str) -> Result<usize, ScriptError> {
     let stem = name.strip_suffix(".wrong").unwrap_or(name);
     let trace = fs::read_to_string(rt, name)?;
-    judge_explained(rt, stem, trace.as_bytes(), true)?;
-    if !judge_explained(rt, stem, trace.as_bytes(), false)? {
-        return Err(ScriptError::line(rt.alloc(), 0, "nothing says why it is wrong"));
-    }
+    judge_reason(rt, stem, trace.as_bytes())?;
     Ok(trace.matches(" -> ").count())
 }
 
@@ -243,19 +282,34 @@ fn judge_cuts(alloc: Global, trace: &[u8]) -> Result<(), ScriptError> {
     }
 }
 
+/// The trace is the script's, and right, also in parts.
+fn judge_trace(rt: &HostRuntime, name: &str, stem: &str, trace: &[u8]) -> Result<(), ScriptError> {
+    judge_step(rt, name, trace)?;
+    judge_read(rt.alloc(), trace)?;
+    judge_check(rt, stem, trace)?;
+    judge_follows(rt, name, trace)?;
+    judge_cuts(rt.alloc(), trace)
+}
+
+/// What is told of the trace and its script.
+fn judge_tellings(
+    rt: &HostRuntime,
+    name: &str,
+    stem: &str,
+    trace: &[u8],
+) -> Result<(), ScriptError> {
+    judge_explained(rt, stem, trace, false)?;
+    judge_explained(rt, stem, trace, true)?;
+    judge_drawn(rt, stem, trace)?;
+    judge_explored(rt, name, stem)?;
+    judge_reasons(rt.alloc(), trace)
+}
+
 /// Runs the script of this name: how many calls its trace has, or what falls short.
 pub fn judged(rt: &HostRuntime, name: &str) -> Result<usize, ScriptError> {
     let stem = name.strip_suffix(".gmp").unwrap_or(name);
     let trace = read_beside(rt, stem, ".trace")?;
-    judge_step(rt, name, trace.as_bytes())?;
-    judge_read(rt.alloc(), trace.as_bytes())?;
-    judge_check(rt, stem, trace.as_bytes())?;
-    judge_follows(rt, name, trace.as_bytes())?;
-    judge_cuts(rt.alloc(), trace.as_bytes())?;
-    judge_explained(rt, stem, trace.as_bytes(), false)?;
-    judge_explained(rt, stem, trace.as_bytes(), true)?;
-    judge_drawn(rt, stem, trace.as_bytes())?;
-    judge_explored(rt, name, stem)?;
-    judge_reasons(rt.alloc(), trace.as_bytes())?;
+    judge_trace(rt, name, stem, trace.as_bytes())?;
+    judge_tellings(rt, name, stem, trace.as_bytes())?;
     Ok(trace.matches(" -> ").count())
 }

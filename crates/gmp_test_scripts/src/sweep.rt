@@ -28,6 +28,15 @@ struct Base<'a> {
     trace: String,
 }
 
+/// Adds a line of these pieces.
+fn put_line(out: &mut Vec<u8>, pieces: &[&[u8]]) -> Result<(), AllocError> {
+    for piece in pieces {
+        out.extend_from_slice(piece)?;
+    }
+    out.push(b'\n')?;
+    Ok(())
+}
+
 impl<'a> Row<'a> {
     fn read(number: usize, line: &'a str) -> Option<Self> {
         let (limit, rest) = line.split_once(": ")?;
@@ -53,25 +62,23 @@ impl<'a> Row<'a> {
     /// What is written of this trace under the limit: the limit stands last in line 2.
     fn cut(&self, alloc: Global, trace: &str) -> Result<Vec<u8>, AllocError> {
         let mut out = Vec::new(alloc);
-        for (index, line) in trace
-            .lines()
-            .take(self.count.wrapping_add(HEAD))
-            .enumerate()
-        {
+        self.put_head(&mut out, trace)?;
+        put_line(&mut out, &[b"end ", self.end.as_bytes()])?;
+        Ok(out)
+    }
+
+    /// Adds the lines before the end.
+    fn put_head(&self, out: &mut Vec<u8>, trace: &str) -> Result<(), AllocError> {
+        let lines = trace.lines().take(self.count.wrapping_add(HEAD));
+        for (index, line) in lines.enumerate() {
             match line.rsplit_once(' ') {
                 Some((head, _)) if index == 1 => {
-                    let line = format!(in alloc; "{head} {}\n", self.limit)?;
-                    out.extend_from_slice(line.as_bytes())?;
+                    put_line(out, &[head.as_bytes(), b" ", self.limit.as_bytes()])?;
                 }
-                _ => {
-                    out.extend_from_slice(line.as_bytes())?;
-                    out.push(b'\n')?;
-                }
+                _ => put_line(out, &[line.as_bytes()])?,
             }
         }
-        let end = format!(in alloc; "end {}\n", self.end)?;
-        out.extend_from_slice(end.as_bytes())?;
-        Ok(out)
+        Ok(())
     }
 }
 
@@ -88,23 +95,47 @@ impl<'a> Base<'a> {
     /// `gmp step` writes under the row's limit what the row says, and `gmp check` passes it.
     fn judge(&self, alloc: Global, row: &Row) -> Result<(), ScriptError> {
         let ran = stepped_within(alloc, self.script.as_bytes(), row.limit)?;
-        if ran.status != row.status() {
-            let (name, status) = (self.name, ran.status);
-            let said = format!(in alloc; "{name}: status {status}")?;
-            return Err(ScriptError::Line(row.number, said));
+        self.judge_status(alloc, row, ran.status)?;
+        self.judge_trace(alloc, row, &ran.written)?;
+        judge_right(alloc, row.number, &ran.written)
+    }
+
+    /// It ended with the row's status.
+    fn judge_status(&self, alloc: Global, row: &Row, status: u8) -> Result<(), ScriptError> {
+        if status == row.status() {
+            return Ok(());
         }
-        same(
-            alloc,
-            &ran.written,
-            &row.cut(alloc, self.trace.as_str())?,
-            "the line of a trace that is another",
-        )?;
-        let ran = checked(alloc, &ran.written)?;
-        if ran.status == 0 {
-            Ok(())
-        } else {
-            Err(ScriptError::line(alloc, row.number, ran.said.trim_end()))
-        }
+        let said = format!(in alloc; "{}: status {status}", self.name)?;
+        Err(ScriptError::Line(row.number, said))
+    }
+
+    /// The trace is the beginning that the row says.
+    fn judge_trace(&self, alloc: Global, row: &Row, written: &[u8]) -> Result<(), ScriptError> {
+        let cut = row.cut(alloc, self.trace.as_str())?;
+        same(alloc, written, &cut, "the line of a trace that is another")
+    }
+}
+
+/// `gmp check` passes the trace of the row on this line.
+fn judge_right(alloc: Global, number: usize, trace: &[u8]) -> Result<(), ScriptError> {
+    let ran = checked(alloc, trace)?;
+    if ran.status == 0 {
+        Ok(())
+    } else {
+        Err(ScriptError::line(alloc, number, ran.said.trim_end()))
+    }
+}
+
+/// The script goes by the row on this line.
+fn judge_line(
+    alloc: Global,
+    base: &Option<Base>,
+    number: usize,
+    line: &str,
+) -> Result<(), ScriptError> {
+    match (base, Row::read(number, line)) {
+        (Some(base), Some(row)) => base.judge(alloc, &row),
+        _ => Err(ScriptError::line(alloc, number, "no row")),
     }
 }
 
@@ -116,11 +147,7 @@ fn judge_table(rt: &HostRuntime, table: &str) -> Result<usize, ScriptError> {
         if let Some(name) = line.strip_prefix("of ") {
             base = Some(Base::read(rt, name)?);
         } else if !line.is_empty() && !line.starts_with('#') {
-            let number = index.wrapping_add(1);
-            match (&base, Row::read(number, line)) {
-                (Some(base), Some(row)) => base.judge(rt.alloc(), &row)?,
-                _ => return Err(ScriptError::line(rt.alloc(), number, "no row")),
-            }
+            judge_line(rt.alloc(), &base, index.wrapping_add(1), line)?;
             rows = rows.wrapping_add(1);
         }
     }
