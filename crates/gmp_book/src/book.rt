@@ -12,7 +12,7 @@ ghost use Rattle.gmp_journal.specs.Done.{IsDoneTo};
 ghost use Rattle.gmp_journal.specs.Handed.{goroutine_in, names_other, processor_in};
 ghost use Rattle.gmp_journal.specs.Log.{Records, entries_made, is_over};
 ghost use Rattle.gmp_journal.specs.Refusals.{Says, refusal_in, refusal_of};
-ghost use Rattle.gmp_journal.specs.Segments.{MayGoOn};
+ghost use Rattle.gmp_journal.specs.Segments.{IsSegment, MayGoOn, WhyNoSegment, handed_out};
 ghost use Rattle.gmp_book.specs.Hands.{handed_of};
 
 mod asking;
@@ -28,7 +28,7 @@ use crate::slots::Slots;
 use crate::values::{Values, claimed, handed, ticket_out, told_by, way_of};
 use gmp_base::{MNo, Pass, Refusal};
 use gmp_history::History;
-use gmp_journal::Journal;
+use gmp_journal::{Journal, Segment};
 use gmp_seq::{Call, Limits, Outcome, Reply};
 use gmp_start::Start;
 use std::alloc::{AllocError, Global};
@@ -66,9 +66,9 @@ impl<T, Q> Book<T, Q> {
 
     /// A book of a run that has made no call, and one pass for each machine, in order.
     ///
-    /// It takes memory for a history's entries, the shelf, the channels, all who may wait, and all that is counted; but for it only `make`
-    /// and `start` take any. `capacities` are those of the channels that the run begins with. There is a body for each goroutine, and an
-    /// owner for each processor. Refused, by `BadLimits` or `OutOfMemory`, it hands both back.
+    /// It takes memory for a history's entries, the shelf, the channels, all who may wait, and all that is counted; but for it only `make`,
+    /// `start` and `segment` take any. `capacities` are those of the channels that the run begins with. There is a body for each goroutine,
+    /// and an owner for each processor. Refused, by `BadLimits` or `OutOfMemory`, it hands both back.
     pub fn open(
         alloc: Global,
         run: u64,
@@ -142,14 +142,15 @@ impl<T, Q> Book<T, Q> {
     }
 
     /// Hands out the entries since the last time, and takes the spare in their place. It takes no pass, makes no entry and takes no memory,
-    /// and may be called whenever one likes, after the outcome too. Emptied, what was handed out is a spare again.
+    /// and may be called whenever one likes, after the outcome too. Emptied, what was handed out is a spare again. The state at which the
+    /// next entries begin is not kept, so there is no `segment` of them.
     pub fn hand_out(&mut self, spare: &mut History)
         requires empty { spare.old.list ≡ [] }
         requires room { self.old.log.limits.room ≤ spare.old.room }
         requires lasting { self.old.log.limits.room ≤ spare.old.lasting }
         ensures out { spare.new.list ≡ self.old.log.history }
         ensures lasting { self.old.log.limits.room ≤ spare.new.lasting }
-        ensures rest { self.new.log ≡ record self.old.log { history = [] } }
+        ensures rest { self.new.log ≡ handed_out self.old.log }
         ensures values { SameValues self.old self.new }
     {
         self.journal.hand_out(spare);
@@ -162,6 +163,20 @@ impl<T, Q> Book<T, Q> {
         ensures together { IfOk result (λ s. self.now.log.state.outcome ≡ None → MayGoOn self.now.log (state_of s)) }
     {
         self.journal.start(alloc)
+    }
+
+    /// Hands out the entries since the last time, with the state before the first of them, and how the run ended, if it did. It takes no
+    /// pass and makes no entry.
+    ///
+    /// Refused, it has changed nothing: `Over` where entries were handed out since the outcome, `Busy` where there are entries since a
+    /// `hand_out`, and else `OutOfMemory`. Directly after a `hand_out` a segment has no entries.
+    pub fn segment(&mut self, alloc: Global) -> Result<Segment, Refusal>
+        ensures taken { IfOk result (λ x. IsSegment self.old.log x self.new.log) }
+        ensures why { IfErr result (WhyNoSegment self.old.log) }
+        ensures values { SameValues self.old self.new }
+        ensures err { OnErr result (self.new ≡ self.old) }
+    {
+        self.journal.segment(alloc)
     }
 
     /// How the run ended, if it did.

@@ -26,7 +26,8 @@
 //!   channel, or has the least deadline.
 //! - `outcome`, `history`, `is_full` and the surrenders are constant.
 //! - `open` takes memory for the entries of a history and all goroutines; `into_report` moves each body and owner once.
-//! - `hand_out` is constant and copies nothing; `start` copies the state. No call but `open`, a make and `start` takes memory.
+//! - `hand_out` is constant and copies nothing; `start` copies the state, `segment` twice, and takes memory for the entries of a history.
+//!   No call but `open`, a make, `start` and `segment` takes memory.
 #![tactic(auto)]
 
 mod answers;
@@ -41,6 +42,7 @@ mod went;
 
 pub use answers::{Exited, Parking};
 pub use book::Book;
+pub use gmp_journal::Segment;
 pub use opening::Unopened;
 pub use report::Report;
 pub use returned::Returned;

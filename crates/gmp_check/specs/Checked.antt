@@ -79,7 +79,7 @@ abbrev pub AreBadCapacities : Limits → ℕ → Begins → ℕ → Type 0
 AreBadCapacities limits bodies (AtOpening capacities) line = (line ≡ 3) × AreLimits limits bodies [] × (AreLimits limits bodies capacities → ⊥)
 AreBadCapacities limits bodies (AtState s) line = ⊥
 
--- the line of versions 2 and 3 that has `begin`: the limits are in range, and no run may go on from the state
+-- the line of versions 2 and 4 that has `begin`: the limits are in range, and no run may go on from the state
 abbrev pub IsBadStart : Limits → ℕ → Begins → ℕ → Type 0
 IsBadStart limits bodies (AtOpening capacities) line = ⊥
 IsBadStart limits bodies (AtState s) line = (line ≡ lines_before (AtState s)) × AreLimits limits bodies [] × (MayGoOn limits bodies s → ⊥)

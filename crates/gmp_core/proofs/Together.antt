@@ -19,6 +19,7 @@ use Rattle.gmp_seq.specs.Table.{is_outstanding, is_shelved}
 use Rattle.gmp_table.specs.Kept.{IsListing}
 use Rattle.gmp_journal.specs.Grants.{Chooses}
 use Rattle.gmp_journal.specs.Log.{is_over}
+use Rattle.gmp_journal.specs.Segments.{handed_out}
 use Rattle.gmp_book.specs.Book.{BookContents}
 use Rattle.gmp_driver.specs.declared.act.Act.{Act}
 use Rattle.gmp_driver.specs.declared.act.Act.TheVariants as act
@@ -191,13 +192,13 @@ never_waits c core kept whole over is full =
     full_when_over c.book.log.state.outcome c.book.log.stopped over (length c.book.log.history) c.book.log.limits.room is (core_room c core kept whole) full
 
 -- A core whose entries were handed out keeps what it kept.
-pub core_emptied : {T : Type 0} (c : Parts T) (book : BookContents T Unit) → IsCore c → All Fits c.book.log.history → book.log ≡ record c.book.log { history = [] }
+pub core_emptied : {T : Type 0} (c : Parts T) (book : BookContents T Unit) → IsCore c → All Fits c.book.log.history → book.log ≡ handed_out c.book.log
     → book.bodies ≡ c.book.bodies → book.owners ≡ c.book.owners → IsCore (record c { book = book })
 core_emptied {T = T} c book core fits log bodies owners = subst (λ (b : BookContents T Unit). IsCore (record c { book = b })) (sym same) kept where
-  same : book ≡ record c.book { log = record c.book.log { history = [] } }
+  same : book ≡ record c.book { log = handed_out c.book.log }
   same = λ i. record { log = log i; bodies = bodies i; owners = owners i }
 
-  kept : IsCore (record c { book = record c.book { log = record c.book.log { history = [] } } })
+  kept : IsCore (record c { book = record c.book { log = handed_out c.book.log } })
   kept = record {
     out = core.out ++ c.book.log.history;
     sound = subst IsSound (sym (hands_out core.out (system_of c) core.sound)) core.sound;

@@ -47,6 +47,9 @@ impl Scene {
 }
 
 impl Listener for Scene {
+    // What it keeps no clause says.
+    ghost hears = { λ before entry rows after. Unit {0} };
+
     fn hear(&mut self, deed: &Deed, _rows: &[Goroutine]) -> Result<(), AllocError> {
         if self.told.is_empty() {
             self.told.from = deed.number;

@@ -1,5 +1,5 @@
 -- Entries that differ in their replies alone.
-use Rattle.std.proofs.Common.{◌≡◌, List, All, subst, ap, sym}
+use Rattle.std.proofs.Common.{◌≡◌, List, All, subst}
 use Rattle.std.specs.List.{slice_index_or}
 use Rattle.gmp_seq.specs.declared.call.Entry.{Entry}
 use Rattle.gmp_seq.specs.declared.call.Limits.{Limits}

@@ -1,1 +1,3 @@
 pub mod Alike
+pub mod Spoken
+pub mod Texts

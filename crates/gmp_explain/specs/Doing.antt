@@ -1,5 +1,6 @@
 -- What a goroutine does, in words.
-use Rattle.std.specs.Prelude.{ℕ, Option, None, Some, List, [], ◌∷◌, ◌++◌, codes, decimal}
+use Rattle.std.specs.Prelude.{ℕ, Bool, Option, None, Some, List, [], ◌∷◌, ◌++◌, if◌then◌else◌, codes, decimal}
+use Rattle.gmp_base.specs.declared.number.GNo.{GNo}
 use Rattle.gmp_seq.specs.declared.status.Deal.{Deal}
 use Rattle.gmp_seq.specs.declared.status.Deal.TheVariants as deal
 use Rattle.gmp_seq.specs.declared.status.Kind.{Kind}
@@ -47,3 +48,17 @@ doing_text (status.Running m) = codes "runs on machine " ++ decimal m.0
 doing_text (status.Calling m) = codes "in a blocking call of machine " ++ decimal m.0
 doing_text (status.Waiting w) = wait_text w
 doing_text status.Dead = codes "ended"
+
+-- since which entry; None is before the first
+abbrev pub since_text : Status → Option ℕ → List ℕ
+since_text status.Dormant since = []
+since_text status.Dead (Some n) = codes " at entry " ++ decimal n
+since_text does (Some n) = codes ", since entry " ++ decimal n
+since_text does None = codes ", since before the first entry"
+
+-- it waits though the run is over
+abbrev pub leak_text : Bool → List ℕ
+leak_text leak = if leak then codes ", a leak" else []
+
+abbrev pub goroutine_text : GNo → Status → Option ℕ → Bool → List ℕ
+goroutine_text g does since leak = codes "goroutine " ++ (decimal g.0 ++ (codes ": " ++ (doing_text does ++ (since_text does since ++ leak_text leak))))

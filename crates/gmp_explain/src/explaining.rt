@@ -1,5 +1,7 @@
 //! The command `explain` as a function: it reads and checks a trace as `check` does, and tells its facts.
-ghost use Rattle.std.specs.Prelude.{◌≡◌, ◌≢◌, ◌↔◌, ◌⊎◌, true, IfSome};
+ghost use Rattle.std.specs.Prelude.{◌≡◌, ◌≢◌, ◌↔◌, ◌⊎◌, false, true, IfOk, IfSome, None, OnOk, string_bytes};
+ghost use Rattle.gmp_trace.specs.Text.{content};
+ghost use Rattle.gmp_explain.specs.Lines.{TellsState, TellsText, TellsTrace};
 ghost use Rattle.gmp_check_cli.specs.Check.{HasRightTrace, SaysOfTrace, said_of};
 ghost use Rattle.gmp_words.specs.Said.{is_of_check};
 ghost use Rattle.gmp_words.specs.declared.said.Said.TheVariants as said;
@@ -27,7 +29,9 @@ pub struct Explained {
 }
 
 /// The facts of a right trace, or why the first wrong line of another is wrong.
-fn tell<S: Sink>(alloc: Global, judgement: &Judgement, sink: &mut S) -> Result<(), OutOfMemory> {
+fn tell<S: Sink>(alloc: Global, judgement: &Judgement, sink: &mut S) -> Result<(), OutOfMemory>
+    ensures { OnOk result (judgement.now.wrong ≡ None → TellsState S.told (content judgement.now.trace) sink.old sink.new) }
+{
     let Ok(story) = story_of(alloc, judgement.trace.view(), &mut ()) else {
         return Err(OutOfMemory);
     };
@@ -42,7 +46,9 @@ fn tell<S: Sink>(alloc: Global, judgement: &Judgement, sink: &mut S) -> Result<(
 }
 
 /// Whether there are facts: of a right trace, and where an entry is no step or the end is not that of the run.
-fn has_facts(judgement: &Judgement) -> bool {
+fn has_facts(judgement: &Judgement) -> bool
+    ensures { judgement.now.wrong ≡ None → result ≡ true }
+{
     match judgement.wrong {
         None => true,
         Some(bad) => matches!(bad.why, Why::Step | Why::Outcome),
@@ -50,7 +56,9 @@ fn has_facts(judgement: &Judgement) -> bool {
 }
 
 /// The facts, as lines or as one JSON object.
-fn facts(alloc: Global, json: bool, judgement: &Judgement) -> Result<String, OutOfMemory> {
+fn facts(alloc: Global, json: bool, judgement: &Judgement) -> Result<String, OutOfMemory>
+    ensures { IfOk result (λ text. json ≡ false → judgement.now.wrong ≡ None → TellsTrace (content judgement.now.trace) (string_bytes text)) }
+{
     if !has_facts(judgement) {
         return Ok(String::new(alloc));
     }
@@ -68,6 +76,7 @@ fn facts(alloc: Global, json: bool, judgement: &Judgement) -> Result<String, Out
 fn explain_trace(alloc: Global, json: bool, judgement: &Judgement) -> Explained
     ensures said { (result.ended.said ≡ said_of judgement.now.wrong) ⊎ (result.ended.said ≡ said.OutOfMemory) }
     ensures status { result.ended.status ≡ 0 ↔ result.ended.said ≡ Nothing }
+    ensures told { result.ended.said ≡ Nothing → json ≡ false → TellsTrace (content judgement.now.trace) (string_bytes result.facts) }
 {
     let facts = facts(alloc, json, judgement);
     let ended = match (judgement.wrong, &facts) {
@@ -93,6 +102,8 @@ pub fn explain<R: Read, P: Progress>(
 ) -> Explained
     ensures passed { result.ended.said ≡ Nothing → IfSome (R.remaining reader.old) HasRightTrace }
     ensures status { result.ended.status ≡ 0 ↔ result.ended.said ≡ Nothing }
+    // Each goroutine has its line, by number, of what it does in the state to which the entries lead.
+    ensures told { result.ended.said ≡ Nothing → json ≡ false → IfSome (R.remaining reader.old) (λ all. TellsText all (string_bytes result.facts)) }
 
     // What is wrong is said by one of the program's own texts.
     ensures kinds { is_of_check result.ended.said ≡ true }

@@ -35,6 +35,18 @@ pub enum Unit {
 /// A call's place in the table of calls, and how often it was made.
 pub type Made = (usize, u64);
 
+/// What is told of a goroutine.
+#[derive(Clone, Copy)]
+pub struct Told<'a> {
+    pub g: GNo,
+    /// What it does.
+    pub status: &'a Status,
+    /// The entry since which it does that. None: since before the trace's first.
+    pub since: Option<u64>,
+    /// Whether it waits though the run is over.
+    pub leak: bool,
+}
+
 /// One fact.
 #[derive(Clone, Copy)]
 pub enum Fact<'a> {
@@ -44,13 +56,8 @@ pub enum Fact<'a> {
         entries: usize,
         first: Option<u64>,
     },
-    /// What a goroutine does, and since which entry (None: since before the trace's first). Whether it waits though the run is over.
-    Goroutine {
-        g: GNo,
-        status: &'a Status,
-        since: Option<u64>,
-        leak: bool,
-    },
+    /// What a goroutine does.
+    Goroutine(Told<'a>),
     /// A case of the select in which a goroutine waits.
     Case {
         g: GNo,
@@ -107,9 +114,17 @@ pub enum Fact<'a> {
     Leads(End),
 }
 
-/// Is told facts, one after another.
+/// Is told facts, one after another. Each says by a relation of its own what a fact makes of it.
 pub trait Sink {
-    fn tell(&mut self, fact: &Fact) -> Result<(), AllocError>;
+    ghost use Rattle.std.specs.Prelude.{OnOk};
+    ghost use Rattle.gmp_explain.specs.Fact.{spoken};
+    ghost use Rattle.gmp_explain.specs.Spoken.{Spoken};
+
+    /// From itself before, by what the fact says, to itself after.
+    ghost told: { Self → Spoken → Self → Type 0 };
+
+    fn tell(&mut self, fact: &Fact) -> Result<(), AllocError>
+        ensures { OnOk result (told self.old (spoken fact.now) self.new) };
 }
 
 /// How a run ended, in the words of a trace.

@@ -268,6 +268,9 @@ impl Heard {
 }
 
 impl Listener for Heard {
+    // What it keeps no clause says.
+    ghost hears = { λ before entry rows after. Unit {0} };
+
     fn hear(&mut self, deed: &Deed, _rows: &[Goroutine]) -> Result<(), AllocError> {
         self.count(deed.entry.m, deed.p, &deed.entry.call);
         if let Some(g) = deed.g {

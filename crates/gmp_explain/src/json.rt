@@ -185,12 +185,7 @@ fn word(alloc: Global, fact: &str, key: &str, word: &str) -> Result<Value, Alloc
 /// The object of a goroutine, a channel or a cycle.
 fn of_goroutine(alloc: Global, fact: &Fact) -> Result<Value, AllocError> {
     match *fact {
-        Fact::Goroutine {
-            g,
-            status,
-            since,
-            leak,
-        } => goroutine(alloc, g, status, since, leak),
+        Fact::Goroutine(told) => goroutine(alloc, told.g, told.status, told.since, told.leak),
         Fact::Case { g, offer } => case(alloc, g, offer),
         Fact::Lost { g, lost } => object(
             alloc,
@@ -357,6 +352,8 @@ impl Json {
 }
 
 impl Sink for Json {
+    ghost told = { λ _ _ _. Unit {0} };
+
     fn tell(&mut self, fact: &Fact) -> Result<(), AllocError> {
         let object = object_of(self.alloc, fact)?;
         self.facts.push(object)?;

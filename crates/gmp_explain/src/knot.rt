@@ -1,5 +1,7 @@
 //! Who waits for whom: cycles of goroutines each of which waits for what the next alone did in this trace.
 //! It is what was seen, and no proof of what could be: another schedule may have another sender.
+ghost use Rattle.std.specs.Prelude.{[], OnOk};
+ghost use Rattle.gmp_explain.specs.Spoken.{TellsOf};
 
 use crate::fact::{Fact, Help, Sink};
 use crate::heard::{Heard, Party, Readier};
@@ -116,7 +118,9 @@ fn tell_cycle<S: Sink>(
     helpers: &[Option<Helper>],
     first: GNo,
     sink: &mut S,
-) -> Result<(), AllocError> {
+) -> Result<(), AllocError>
+    ensures { OnOk result (TellsOf S.told [] sink.old sink.new) }
+{
     let mut here = first;
     for _ in 0..helpers.len() {
         let Some(helper) = next(helpers, here) else {
@@ -136,7 +140,9 @@ fn tell_cycle<S: Sink>(
 }
 
 /// Each cycle of goroutines that wait for one another.
-pub fn tell_cycles<S: Sink>(alloc: Global, story: &Story, sink: &mut S) -> Result<(), AllocError> {
+pub fn tell_cycles<S: Sink>(alloc: Global, story: &Story, sink: &mut S) -> Result<(), AllocError>
+    ensures { OnOk result (TellsOf S.told [] sink.old sink.new) }
+{
     let helpers = helpers(alloc, story)?;
     let mut marks = vec![in alloc; 0usize; helpers.len()]?;
     let mut found = false;

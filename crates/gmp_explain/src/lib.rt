@@ -2,9 +2,9 @@
 //! who else does and who ever dealt on it; who waits for whom in a circle; what each machine and processor did. Of an entry that is no step
 //! of the scheduler it says what was before it, and which replies are allowed there, or what is missing.
 //!
-//! **Invariant**: what is said of goroutines, channels and machines is read off the state to which the checker's own replay comes
-//! (`told`), and a reply is called allowed only where the checker takes it (`allowed`). What is said of the past (since when, who ever) is
-//! counted on the way, and no clause speaks of it.
+//! **Invariant**: what is told of what goroutines do is read off the state to which the checker's own replay comes (`story_of`): each one's
+//! once, in order (`tell_story`), and its line has that text (`explain`: `told`). A reply is called allowed only where the checker takes it
+//! (`allowed`). Of other facts, of leaks and of the past (since when, who ever) no clause speaks.
 //!
 //! One fact a line, of at most 120 columns, and none twice; or the same facts as one JSON object.
 //!

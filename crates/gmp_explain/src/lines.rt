@@ -1,8 +1,11 @@
 //! Facts as lines. A line has at most 120 columns: `Lines` tells a longer list on several.
+ghost use Rattle.std.specs.Prelude.{◌≡◌, [], None, OnOk, Some, string_bytes};
+ghost use Rattle.gmp_explain.specs.Lines.{AddsLine};
+ghost use Rattle.gmp_explain.specs.Spoken.{Does};
 
 use crate::doing::{Dealing, Doing};
 use crate::fact::{
-    Fact, Help, Made, Sink, Unit, call_words, end_words, mode_words, need_words, role_words,
+    Fact, Help, Made, Sink, Told, Unit, call_words, end_words, mode_words, need_words, role_words,
 };
 use gmp_base::GNo;
 use gmp_seq::Status;
@@ -26,6 +29,11 @@ const WIDTH: usize = 100;
 struct Since<'a>(&'a Status, Option<u64>);
 
 impl fmt::Display for Since<'_> {
+    ghost use Rattle.std.specs.Prelude.{Some};
+    ghost use Rattle.gmp_explain.specs.Doing.{since_text};
+
+    ghost output = { λ s. Some (since_text s.0.now s.1) };
+
     fn fmt<W: fmt::Write>(&self, f: &mut fmt::Formatter<W>) -> fmt::Result {
         match (self.0, self.1) {
             (Status::Dormant, _) => Ok(()),
@@ -33,6 +41,24 @@ impl fmt::Display for Since<'_> {
             (_, Some(n)) => write!(f, ", since entry {n}"),
             (_, None) => f.write_str(", since before the first entry"),
         }
+    }
+}
+
+impl fmt::Display for Told<'_> {
+    ghost use Rattle.std.specs.Prelude.{Some};
+    ghost use Rattle.gmp_explain.specs.Doing.{goroutine_text};
+
+    ghost output = { λ t. Some (goroutine_text t.g t.status.now t.since t.leak) };
+
+    fn fmt<W: fmt::Write>(&self, f: &mut fmt::Formatter<W>) -> fmt::Result {
+        let since = Since(self.status, self.since);
+        let leak = if self.leak { ", a leak" } else { "" };
+        write!(
+            f,
+            "goroutine {}: {}{since}{leak}",
+            self.g.0,
+            Doing(self.status)
+        )
     }
 }
 
@@ -140,16 +166,7 @@ impl Fact<'_> {
                     end_words(*end)
                 )
             }
-            Fact::Goroutine {
-                g,
-                status,
-                since,
-                leak,
-            } => {
-                let since = Since(status, *since);
-                write!(f, "goroutine {}: {}{since}", g.0, Doing(status))?;
-                f.write_str(if *leak { ", a leak" } else { "" })
-            }
+            Fact::Goroutine(told) => write!(f, "{told}"),
             Fact::Case { g, offer } => {
                 let would = Dealing(offer);
                 write!(f, "goroutine {}: case {} would {would}", g.0, offer.case)
@@ -258,20 +275,34 @@ pub struct Lines {
 
 impl Lines {
     /// No line yet.
-    pub fn new(alloc: Global) -> Self {
+    pub fn new(alloc: Global) -> Self
+        ensures { string_bytes result.text ≡ [] }
+    {
         Lines {
             text: String::new(alloc),
         }
     }
 
+    /// Adds the line of what a goroutine does.
+    fn put_told(&mut self, told: &Told) -> Result<(), AllocError>
+        ensures { OnOk result (AddsLine (string_bytes self.old.text) (Some (record { g = told.now.g; status = told.now.status.now })) (string_bytes self.new.text)) }
+    {
+        let line = format!(in *self.text.allocator(); "{told}\n")?;
+        self.text.push_str(line.as_str())
+    }
+
     /// Adds a line.
-    fn put(&mut self, fact: &Fact) -> Result<(), AllocError> {
+    fn put(&mut self, fact: &Fact) -> Result<(), AllocError>
+        ensures { OnOk result (AddsLine (string_bytes self.old.text) None (string_bytes self.new.text)) }
+    {
         let line = format!(in *self.text.allocator(); "{fact}\n")?;
         self.text.push_str(line.as_str())
     }
 
     /// Adds the words of an entry's line.
-    fn put_words(&mut self, line: &[u8]) -> Result<(), AllocError> {
+    fn put_words(&mut self, line: &[u8]) -> Result<(), AllocError>
+        ensures { OnOk result (AddsLine (string_bytes self.old.text) None (string_bytes self.new.text)) }
+    {
         let mut rest = line;
         for _ in 0..line.len() {
             let Some((words, more)) = split(rest) else {
@@ -282,10 +313,11 @@ impl Lines {
         }
         self.put(&Fact::NoStep(rest))
     }
-}
 
-impl Sink for Lines {
-    fn tell(&mut self, fact: &Fact) -> Result<(), AllocError> {
+    /// Adds the lines of a fact that says nothing of what a goroutine does.
+    fn put_other(&mut self, fact: &Fact) -> Result<(), AllocError>
+        ensures { OnOk result (AddsLine (string_bytes self.old.text) None (string_bytes self.new.text)) }
+    {
         match fact {
             Fact::Values(c, values) => {
                 for some in values.chunks(VALUES) {
@@ -307,6 +339,20 @@ impl Sink for Lines {
             }
             Fact::NoStep(line) => self.put_words(line),
             _ => self.put(fact),
+        }
+    }
+}
+
+impl Sink for Lines {
+    ghost use Rattle.std.specs.Prelude.{string_bytes};
+    ghost use Rattle.gmp_explain.specs.Lines.{AddsLine};
+
+    ghost told = { λ old said new. AddsLine (string_bytes old.text) said (string_bytes new.text) };
+
+    fn tell(&mut self, fact: &Fact) -> Result<(), AllocError> {
+        match fact {
+            Fact::Goroutine(told) => self.put_told(told),
+            other => self.put_other(other),
         }
     }
 }

@@ -1,7 +1,7 @@
 //! Why an entry is no step: the entry, its machine and goroutine before it, and the replies that are allowed, or what is missing.
 
 use crate::allowing::allowed;
-use crate::fact::{Fact, Sink};
+use crate::fact::{Fact, Sink, Told};
 use crate::replies::{at_machine, held_by};
 use crate::telling::tell_state;
 use crate::told::Story;
@@ -34,12 +34,12 @@ fn line_of(alloc: Global, number: u64, entry: &Entry) -> Result<Vec<u8>, AllocEr
 /// What a goroutine did before the entry.
 fn tell_goroutine<S: Sink>(story: &Story, g: GNo, sink: &mut S) -> Result<(), AllocError> {
     match story.does(g) {
-        Some(status) => sink.tell(&Fact::Goroutine {
+        Some(status) => sink.tell(&Fact::Goroutine(Told {
             g,
             status,
             since: story.since(g),
             leak: false,
-        }),
+        })),
         None => Ok(()),
     }
 }

@@ -1,7 +1,10 @@
 //! The facts of a story, in order: the end, each goroutine, each channel that somebody waits on or that holds values, cycles, machines,
 //! processors, and the longest way of a ticket.
+ghost use Rattle.std.specs.Prelude.{◌<◌, ◌^◌, [], OnOk, length};
+ghost use Rattle.gmp_start.specs.Start.{table_of};
+ghost use Rattle.gmp_explain.specs.Spoken.{TellsOf, doing_at, doing_from};
 
-use crate::fact::{Fact, Made, Role, Sink, Unit};
+use crate::fact::{Fact, Made, Role, Sink, Told, Unit};
 use crate::heard::{Counts, Heard, Party};
 use crate::knot::tell_cycles;
 use crate::told::Story;
@@ -30,7 +33,9 @@ fn is_waited(rows: &[Goroutine], c: CNo) -> bool {
 }
 
 /// The cases of the select in which a goroutine waits.
-fn tell_cases<S: Sink>(g: GNo, status: &Status, sink: &mut S) -> Result<(), AllocError> {
+fn tell_cases<S: Sink>(g: GNo, status: &Status, sink: &mut S) -> Result<(), AllocError>
+    ensures { OnOk result (TellsOf S.told [] sink.old sink.new) }
+{
     let Status::Waiting(wait) = status else {
         return Ok(());
     };
@@ -44,18 +49,20 @@ fn tell_cases<S: Sink>(g: GNo, status: &Status, sink: &mut S) -> Result<(), Allo
 }
 
 /// What a goroutine does, and the `ready` that it missed, where it waits for one.
-fn tell_goroutine<S: Sink>(g: GNo, story: &Story, sink: &mut S) -> Result<(), AllocError> {
+fn tell_goroutine<S: Sink>(g: GNo, story: &Story, sink: &mut S) -> Result<(), AllocError>
+    ensures { OnOk result (TellsOf S.told (doing_at (table_of story.now.last) g) sink.old sink.new) }
+{
     let Some(status) = story.does(g) else {
         return Ok(());
     };
     let leak = story.replay.outcome() == Some(Outcome::MainEnded)
         && matches!(status, Status::Waiting(_));
-    sink.tell(&Fact::Goroutine {
+    sink.tell(&Fact::Goroutine(Told {
         g,
         status,
         since: story.since(g),
         leak,
-    })?;
+    }))?;
     tell_cases(g, status, sink)?;
     if status.is_parked() {
         if let Some(Some(lost)) = story.heard.lost.get(usize::from(g.0)) {
@@ -88,7 +95,9 @@ fn tell_party<S: Sink>(
     c: CNo,
     party: Party,
     sink: &mut S,
-) -> Result<(), AllocError> {
+) -> Result<(), AllocError>
+    ensures { OnOk result (TellsOf S.told [] sink.old sink.new) }
+{
     let mut who = Vec::new(alloc);
     for g in 0..story.last.goroutines.len() {
         let g = goroutine_at(g);
@@ -110,7 +119,9 @@ fn tell_waiting<S: Sink>(
     story: &Story,
     c: CNo,
     sink: &mut S,
-) -> Result<(), AllocError> {
+) -> Result<(), AllocError>
+    ensures { OnOk result (TellsOf S.told [] sink.old sink.new) }
+{
     let rows = &story.last.goroutines;
     let sending = waiting(alloc, rows, c, Direction::Sending)?;
     let receiving = waiting(alloc, rows, c, Direction::Receiving)?;
@@ -129,7 +140,9 @@ pub(crate) fn tell_state<S: Sink>(
     c: CNo,
     channel: &StartChannel,
     sink: &mut S,
-) -> Result<(), AllocError> {
+) -> Result<(), AllocError>
+    ensures { OnOk result (TellsOf S.told [] sink.old sink.new) }
+{
     sink.tell(&Fact::Channel {
         c,
         closed: channel.closed,
@@ -145,7 +158,9 @@ fn tell_channel<S: Sink>(
     c: CNo,
     channel: &StartChannel,
     sink: &mut S,
-) -> Result<(), AllocError> {
+) -> Result<(), AllocError>
+    ensures { OnOk result (TellsOf S.told [] sink.old sink.new) }
+{
     let is_waited = is_waited(&story.last.goroutines, c);
     if !is_waited && channel.items.is_empty() {
         return Ok(());
@@ -169,7 +184,9 @@ fn tell_counts<S: Sink>(
     unit: Unit,
     counts: &Counts,
     sink: &mut S,
-) -> Result<(), AllocError> {
+) -> Result<(), AllocError>
+    ensures { OnOk result (TellsOf S.told [] sink.old sink.new) }
+{
     let mut made: Vec<Made> = Vec::new(alloc);
     let mut all = 0u64;
     for (call, n) in counts.iter().enumerate() {
@@ -186,7 +203,9 @@ fn tell_counts<S: Sink>(
 }
 
 /// Machines, processors, and the longest way of a ticket.
-fn tell_units<S: Sink>(alloc: Global, heard: &Heard, sink: &mut S) -> Result<(), AllocError> {
+fn tell_units<S: Sink>(alloc: Global, heard: &Heard, sink: &mut S) -> Result<(), AllocError>
+    ensures { OnOk result (TellsOf S.told [] sink.old sink.new) }
+{
     for (m, counts) in heard.machines.iter().enumerate() {
         tell_counts(alloc, Unit::Machine(machine_at(m)), counts, sink)?;
     }
@@ -199,19 +218,39 @@ fn tell_units<S: Sink>(alloc: Global, heard: &Heard, sink: &mut S) -> Result<(),
     }
 }
 
-/// All facts of the story.
-pub fn tell_story<S: Sink>(alloc: Global, story: &Story, sink: &mut S) -> Result<(), AllocError> {
+/// What each goroutine does.
+fn tell_goroutines<S: Sink>(story: &Story, sink: &mut S) -> Result<(), AllocError>
+    requires { length story.now.last.goroutines.items < 2 ^ 16 }
+    ensures { OnOk result (TellsOf S.told (doing_from 0 story.now.last.goroutines.items) sink.old sink.new) }
+{
+    for g in 0..story.last.goroutines.len() {
+        tell_goroutine(goroutine_at(g), story, sink)?;
+    }
+    Ok(())
+}
+
+/// Each channel that somebody waits on or that holds values.
+fn tell_channels<S: Sink>(alloc: Global, story: &Story, sink: &mut S) -> Result<(), AllocError>
+    ensures { OnOk result (TellsOf S.told [] sink.old sink.new) }
+{
+    for (c, channel) in story.last.channels.iter().enumerate() {
+        tell_channel(alloc, story, channel_at(c), channel, sink)?;
+    }
+    Ok(())
+}
+
+/// All facts of the story: what each goroutine does, by number, and nothing else of what one does.
+pub fn tell_story<S: Sink>(alloc: Global, story: &Story, sink: &mut S) -> Result<(), AllocError>
+    requires { length story.now.last.goroutines.items < 2 ^ 16 }
+    ensures { OnOk result (TellsOf S.told (doing_from 0 story.now.last.goroutines.items) sink.old sink.new) }
+{
     sink.tell(&Fact::End {
         end: End::of(story.replay.outcome()),
         entries: story.steps,
         first: story.first,
     })?;
-    for g in 0..story.last.goroutines.len() {
-        tell_goroutine(goroutine_at(g), story, sink)?;
-    }
-    for (c, channel) in story.last.channels.iter().enumerate() {
-        tell_channel(alloc, story, channel_at(c), channel, sink)?;
-    }
+    tell_goroutines(story, sink)?;
+    tell_channels(alloc, story, sink)?;
     tell_cycles(alloc, story, sink)?;
     tell_units(alloc, &story.heard, sink)
 }

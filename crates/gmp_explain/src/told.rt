@@ -1,5 +1,5 @@
 //! What is told of a trace: the state to which its entries lead, as the checker has it, and what was heard on the way.
-ghost use Rattle.std.specs.Prelude.{◌≡◌, ◌≢◌, IfErr, IfOk, option_copied};
+ghost use Rattle.std.specs.Prelude.{◌≡◌, ◌≢◌, ◌<◌, ◌^◌, IfErr, IfOk, length, option_copied};
 ghost use Rattle.gmp_seq.specs.Table.{status_at};
 ghost use Rattle.gmp_start.specs.Start.{table_of};
 ghost use Rattle.gmp_trace.specs.declared.bad.Why.TheVariants.{OutOfMemory};
@@ -66,6 +66,7 @@ fn first_of(beginning: BeginningView) -> Option<u64> {
 /// The watch is told at each 65,536th entry how many were played.
 pub fn story_of<W: Watch>(alloc: Global, trace: TraceView, watch: &mut W) -> Result<Story, Bad>
     ensures told { IfOk result (λ s. IsTold (content_of trace.entry) s.steps s.replay.state s.last) }
+    ensures few { IfOk result (λ s. length s.last.goroutines.items < 2 ^ 16) }
     ensures wrong { IfErr result (λ bad. bad.why ≢ OutOfMemory → IsFirstBad (content_of trace.entry) bad) }
 {
     let Ok(mut heard) = Heard::new(alloc, trace.limits, trace.bodies) else {

@@ -1,5 +1,6 @@
 -- Runs by a script's bodies, entry by entry: what the entries so far lead to is fixed, so where the next one leads nowhere no run goes on.
-use Rattle.std.proofs.Common.{◌≡◌, ℕ, zero, suc, Bool, true, false, Some, List, [], ◌∷◌, ◌++◌, refl, sym, ap, subst, ◌∙◌, inl}
+use Rattle.std.proofs.Common.{◌≡◌, ◌<◌, ℕ, zero, suc, Bool, true, false, None, Some, List, [], ◌∷◌, ◌++◌, get_or, length, refl, sym, ap, subst, ◌∙◌, inl, inr}
+use Rattle.std.proofs.lemmas.Option.{slice_get-get_or}
 use Rattle.std.specs.Bool.{IsTrue}
 use Rattle.std.specs.List.{slice_get, slice_set}
 use Rattle.gmp_base.specs.declared.ask.Ask.{Ask}
@@ -9,15 +10,21 @@ use Rattle.gmp_check.proofs.Keeping.{next_fixed, step_keeps}
 use Rattle.gmp_check.specs.Consistent.{IsConsistentUnder}
 use Rattle.gmp_check.specs.Decides.{Decides}
 use Rattle.gmp_follow.specs.Follows.{AsksCall}
-use Rattle.gmp_scene.specs.Scripted.{AsksFor, LeadsBodies, RunsScript, is_asked}
+use Rattle.gmp_scene.specs.Scripted.{AsksFor, Brings, LeadsBodies, RunsScript, is_asked}
 use Rattle.gmp_script.specs.declared.commands.Command.{Command}
 use Rattle.gmp_script.specs.Script.{AsksNext, Commands}
 use Rattle.gmp_seq.specs.declared.call.Call.{Call}
+use Rattle.gmp_seq.specs.declared.call.Call.TheVariants as call
 use Rattle.gmp_seq.specs.declared.call.Entry.{Entry}
 use Rattle.gmp_seq.specs.declared.call.Limits.{Limits}
 use Rattle.gmp_seq.specs.Run.{IsStep}
 use Rattle.gmp_seq.specs.State.{State}
-use Rattle.gmp_seq.specs.Table.{Table, IsRunning}
+use Rattle.gmp_seq.specs.Table.{Table, IsCalling, IsRunning}
+use Rattle.gmp_follow.specs.Follows.{AsksCall, brought}
+
+-- what a list has at a place
+pub found : {X : Type 0} (xs : List X) (i : ℕ) (x : X) → i < length xs → x ≡ get_or xs i x → slice_get xs i ≡ Some x
+found xs i x within is = slice_get-get_or xs i x within ∙ ap Some (sym is)
 
 -- the same of the same
 pub decides_at : {X : Type 0} (R : X → X → Type 0) {old now new after : X} {said yes : Bool} → old ≡ now → after ≡ new → said ≡ yes → Decides R old new yes → Decides R now after said
@@ -34,6 +41,9 @@ RunsOne t m = (g h : GNo) → IsRunning t g m → IsRunning t h m → g ≡ h
 
 pub runs_one : (limits : Limits) (s : State) (m : MNo) → IsConsistentUnder limits s → RunsOne s.table m
 runs_one limits s m is g h one two = is.together.one_goroutine m g h (inl one) (inl two)
+
+pub calls_one : (limits : Limits) (s : State) (m : MNo) → IsConsistentUnder limits s → (g h : GNo) → IsCalling s.table g m → IsCalling s.table h m → g ≡ h
+calls_one limits s m is g h one two = is.together.one_goroutine m g h (inr one) (inr two)
 
 commands_are : (a b : Commands) → a.commands ≡ b.commands → a.next ≡ b.next → a ≡ b
 commands_are a b one two =
@@ -62,12 +72,12 @@ same_body (b ∷ bodies) (suc g) before after has same = ap (λ l. b ∷ l) (sam
 -- what `LeadsBodies` says, by whether the call is asked
 abbrev pub LeadsBy : MNo → Call → Table → List Commands → List Commands → Bool → Type 0
 LeadsBy m what t bodies after true = AsksFor m what t bodies after
-LeadsBy m what t bodies after false = after ≡ bodies
+LeadsBy m what t bodies after false = (after ≡ bodies) × ((number : ℕ) → what ≡ call.Leave number → Brings m number t bodies)
 
 leads_by_fixed : (m : MNo) (what : Call) (t : Table) (bodies a b : List Commands) (asked : Bool) → RunsOne t m
     → LeadsBy m what t bodies a asked → LeadsBy m what t bodies b asked → a ≡ b
 leads_by_fixed m what t bodies a b true one x y = asks_fixed m what t bodies a b one x y
-leads_by_fixed m what t bodies a b false one x y = x ∙ sym y
+leads_by_fixed m what t bodies a b false one x y = x.0 ∙ sym y.0
 
 -- a call leads the bodies in one way
 pub leads_fixed : (m : MNo) (what : Call) (t : Table) (bodies a b : List Commands) → RunsOne t m → LeadsBodies m what t bodies a → LeadsBodies m what t bodies b → a ≡ b
@@ -97,6 +107,25 @@ leads_nowhere m what t bodies asked nobody = (refl, none) where
   none other leads =
       let x : AsksFor m what t bodies other = subst (LeadsBy m what t bodies other) asked leads in
       nobody x.g x.before x.runs x.has
+
+-- a call that ends a blocking one, by what is brought
+leave_of : (what : Call) (number : ℕ) → brought what ≡ Some number → what ≡ call.Leave number
+leave_of (call.Leave n) number is = let same : Some n ≡ Some number = is in cc
+leave_of _ number is = absurd (let no : None ≡ Some number = is in cc)
+
+pub leads_leave : (m : MNo) (what : Call) (number : ℕ) (t : Table) (bodies : List Commands) (yes : Bool) → is_asked what ≡ false → brought what ≡ Some number
+    → (yes ≡ true → Brings m number t bodies) → (yes ≡ false → Brings m number t bodies → ⊥) → Decides (LeadsBodies m what t) bodies bodies yes
+leads_leave m what number t bodies true asked is brings never =
+    let any : (n : ℕ) → what ≡ call.Leave n → Brings m n t bodies =
+    (λ n same. let e : number ≡ n = (let both : Some number ≡ Some n = sym is ∙ ap brought same in cc) in subst (λ (k : ℕ). Brings m k t bodies) e (brings refl)) in
+    subst (LeadsBy m what t bodies bodies) (sym asked) (refl, any)
+leads_leave m what number t bodies false asked is brings never = (refl, none) where
+  none : (other : List Commands) → LeadsBodies m what t bodies other → ⊥
+  none other leads = let x = subst (LeadsBy m what t bodies other) asked leads in never refl (x.1 number (leave_of what number is))
+
+-- a call that no body has to do with
+pub leads_own : (m : MNo) (what : Call) (t : Table) (bodies : List Commands) → is_asked what ≡ false → brought what ≡ None → Decides (LeadsBodies m what t) bodies bodies true
+leads_own m what t bodies asked none = subst (LeadsBy m what t bodies bodies) (sym asked) (refl, λ n same. absurd (let no : Some n ≡ None = sym (ap brought same) ∙ none in cc))
 
 -- Runs
 

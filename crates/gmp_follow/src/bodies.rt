@@ -1,13 +1,13 @@
 //! The bodies of a script, each with its place: `Reader` is one, `Bodies` the list by goroutine.
-ghost use Rattle.std.specs.Prelude.{◌≡◌, All, IfNone, IfOk, IfSome, Some};
+ghost use Rattle.std.specs.Prelude.{◌≡◌, All, IfNone, IfOk, IfSome, Some, false, true};
 ghost use Rattle.gmp_base.specs.declared.number.GNo.{GNo};
 ghost use Rattle.gmp_check.specs.Decides.{Decides};
 ghost use Rattle.gmp_follow.specs.Follows.{AsksCall};
-ghost use Rattle.gmp_scene.specs.Scripted.{LeadsBodies};
-ghost use Rattle.gmp_script.specs.Script.{place_of};
-ghost use Rattle.gmp_seq.specs.Table.{IsRunning};
+ghost use Rattle.gmp_scene.specs.Scripted.{Brings, LeadsBodies, is_asked};
+ghost use Rattle.gmp_script.specs.Script.{asked_last, place_of};
+ghost use Rattle.gmp_seq.specs.Table.{IsCalling, IsRunning};
 
-use crate::calls::{asks_for, is_asked};
+use crate::calls::{asks_for, brought, is_asked};
 use gmp_base::MNo;
 use gmp_check::Replay;
 use gmp_script::{Command, ScriptBody};
@@ -69,6 +69,19 @@ impl<'a> Reader<'a> {
             _ => false,
         }
     }
+
+    /// The number that its last command says, where that is a `block`, and else 0.
+    fn asked_last(&self) -> u64
+        ensures { result ≡ asked_last self.now }
+    {
+        let Some(place) = self.next.checked_sub(1) else {
+            return 0;
+        };
+        match self.commands.get(place) {
+            Some(Command::Block(number)) => *number,
+            _ => 0,
+        }
+    }
 }
 
 /// The bodies, by goroutine. A contract sees the list of them.
@@ -97,6 +110,17 @@ fn running(replay: &Replay, m: MNo) -> Option<usize>
         .position(|row| row.status.is_running_on(m))
 }
 
+/// Whose blocking call the machine makes: the first such goroutine, by a look at all.
+fn calling(replay: &Replay, m: MNo) -> Option<usize>
+    ensures some { IfSome result (λ g. IsCalling replay.now.state.table (record { 0 = g }) m) }
+    ensures none { IfNone result ((g : GNo) → IsCalling replay.now.state.table g m → ⊥) }
+{
+    replay
+        .goroutines()
+        .iter()
+        .position(|row| row.status.is_calling_on(m))
+}
+
 impl<'a> Bodies<'a> {
     /// The bodies of a script, which have asked nothing yet.
     pub(crate) fn of(alloc: Global, script: &'a [ScriptBody]) -> Result<Self, AllocError>
@@ -110,19 +134,48 @@ impl<'a> Bodies<'a> {
         Ok(Bodies { list })
     }
 
-    /// Whether m's call is one that no body asks for, or what the goroutine that m runs asks next. Where it is, that one's body goes on.
+    /// Whether m's call is what the goroutine that m runs asks next, or a `Leave` with the number that the body says whose blocking call m
+    /// makes, or one that no body asks for. Where it is asked for, that body goes on.
     pub(crate) fn lead(&mut self, replay: &Replay, m: MNo, call: &Call) -> bool
-        requires { (g h : GNo) → IsRunning replay.now.state.table g m → IsRunning replay.now.state.table h m → g ≡ h }
+        requires runs { (g h : GNo) → IsRunning replay.now.state.table g m → IsRunning replay.now.state.table h m → g ≡ h }
+        requires calls { (g h : GNo) → IsCalling replay.now.state.table g m → IsCalling replay.now.state.table h m → g ≡ h }
         ensures { Decides (LeadsBodies m call.now replay.now.state.table) self.old self.new result }
     {
-        if !is_asked(call) {
-            return true;
+        if is_asked(call) {
+            return self.ask(replay, m, call);
         }
+        match brought(call) {
+            Some(number) => self.brings(replay, m, number),
+            None => true,
+        }
+    }
+
+    /// Whether the goroutine that m runs asks for the call next. Where it does, its body goes on.
+    fn ask(&mut self, replay: &Replay, m: MNo, call: &Call) -> bool
+        requires asked { is_asked call.now ≡ true }
+        requires runs { (g h : GNo) → IsRunning replay.now.state.table g m → IsRunning replay.now.state.table h m → g ≡ h }
+        ensures { Decides (LeadsBodies m call.now replay.now.state.table) self.old self.new result }
+    {
         let Some(g) = running(replay, m) else {
             return false;
         };
         match self.list.get_mut(g) {
             Some(reader) => reader.goes_on(call),
+            None => false,
+        }
+    }
+
+    /// Whether the body whose blocking call m makes brings this number.
+    fn brings(&self, replay: &Replay, m: MNo, number: u64) -> bool
+        requires { (g h : GNo) → IsCalling replay.now.state.table g m → IsCalling replay.now.state.table h m → g ≡ h }
+        ensures yes { result ≡ true → Brings m number replay.now.state.table self.now }
+        ensures no { result ≡ false → Brings m number replay.now.state.table self.now → ⊥ }
+    {
+        let Some(g) = calling(replay, m) else {
+            return false;
+        };
+        match self.list.get(g) {
+            Some(reader) => reader.asked_last() == number,
             None => false,
         }
     }

@@ -1,6 +1,7 @@
-//! Which calls a body asks for, and whether a command asks for a call.
+//! Which calls a body asks for, what a blocking call brings, and whether a command asks for a call.
 ghost use Rattle.std.specs.Prelude.{◌≡◌, ◌↔◌, Some, IsTrue};
 ghost use Rattle.gmp_driver.specs.Table.{call_for};
+ghost use Rattle.gmp_follow.specs.Follows.{brought};
 ghost use Rattle.gmp_scene.specs.Scripted.{is_asked};
 ghost use Rattle.gmp_script.specs.Script.{ask_of};
 
@@ -31,6 +32,16 @@ pub(crate) fn is_asked(call: &Call) -> bool
             | Call::Ready(_)
             | Call::Enter
     )
+}
+
+/// The number that the call brings, where it is the end of a blocking call.
+pub(crate) fn brought(call: &Call) -> Option<u64>
+    ensures { result ≡ brought call.now }
+{
+    match call {
+        Call::Leave(number) => Some(*number),
+        _ => None,
+    }
 }
 
 /// The same cases, in the same order.

@@ -13,8 +13,8 @@ use gmp_script::ScriptBody;
 use gmp_seq::Limits;
 use std::alloc::Global;
 
-/// Whether the history is a legal run, from its opening on, in which each goroutine asks what its body says, in order. The script's bodies
-/// have asked nothing yet.
+/// Whether the history is a legal run, from its opening on, in which each goroutine asks what its body says, in order, and each blocking call
+/// brings what its body says. The script's bodies have asked nothing yet.
 ///
 /// Beside a `Replay` it takes memory for the bodies' places, and none for the entries. An entry takes time at most in proportion to the
 /// goroutines, machines and processors. Memory is wanted at the opening and by a make.

@@ -1,9 +1,10 @@
 //! A host's goroutines and channels, and their run.
-ghost use Rattle.std.specs.Prelude.{◌≡◌, ◌≢◌, ◌↔◌, ◌++◌, ◌∷◌, ◌<◌, ◌≤◌, ◌^◌, [], IfErr, IfOk, OnErr, OnOk, Some, length};
+ghost use Rattle.std.specs.Prelude.{◌≡◌, ◌≢◌, ◌↔◌, ◌++◌, ◌∷◌, ◌+◌, ◌<◌, ◌≤◌, ◌^◌, [], IfErr, IfOk, IsTrue, OnErr, OnOk, Some, length};
 ghost use Rattle.gmp_turn.specs.Whole.{IsWholeRun};
 ghost use Rattle.gmp_seq.specs.Fits.{AreLimits};
 ghost use Rattle.gmp_host.specs.Ends.{IsOfLegalRun, IsOfPieces, StopsPieces, TakesLeft};
 ghost use Rattle.gmp_host.specs.Openings.{limits_of};
+ghost use Rattle.gmp_host.specs.Played.{HasNoEndByAny, IsPlayedByAny};
 ghost use Rattle.gmp_run.specs.Counts.{all_calls};
 
 use crate::channel::Channel;
@@ -35,8 +36,8 @@ pub struct Host {
     pub capacities: Vec<u32>,
     /// The goroutines, by their numbers.
     pub bodies: Vec<Boxed>,
-    /// How many goroutines were boxed.
-    boxed: Note,
+    /// How many goroutines were boxed. Each is to be pushed.
+    pub boxed: u64,
     loss: Loss,
     shown: Note,
     /// Whether a goroutine reads the time.
@@ -71,14 +72,14 @@ fn hand_rest<S: Sink>(sink: &mut S, history: &mut History) -> Result<(), Stop>
 impl Host {
     /// A host with no goroutine and no channel.
     pub fn new(alloc: Global, settings: Settings) -> Result<Self, Short>
-        ensures { IfOk result (λ h. (h.settings ≡ settings) × (h.capacities.items ≡ []) × (h.bodies.items ≡ [])) }
+        ensures { IfOk result (λ h. (h.settings ≡ settings) × (h.capacities.items ≡ []) × (h.bodies.items ≡ []) × (h.boxed ≡ 0)) }
     {
         Ok(Host {
             alloc,
             settings,
             capacities: Vec::new(alloc),
             bodies: Vec::new(alloc),
-            boxed: Note::new(alloc)?,
+            boxed: 0,
             loss: Arc::new(alloc, Mutex::new(None))?,
             shown: Note::new(alloc)?,
             is_timed: false,
@@ -92,7 +93,7 @@ impl Host {
         ensures limits { (result ≡ Err Short.BadLimits) ↔ (65536 ≤ length self.old.capacities.items) }
         ensures memory { IfErr result (λ e. e ≢ Short.BadLimits → e ≡ Short.OutOfMemory) }
         ensures err { OnErr result (self.new.capacities.items ≡ self.old.capacities.items) }
-        ensures bodies { self.new.bodies ≡ self.old.bodies }
+        ensures bodies { (self.new.bodies ≡ self.old.bodies) × (self.new.boxed ≡ self.old.boxed) }
         ensures settings { self.new.settings ≡ self.old.settings }
     {
         let number = u16::try_from(self.capacities.len()).map_err(|_| Short::BadLimits)?;
@@ -108,7 +109,7 @@ impl Host {
     /// The time, for a goroutine that reads it.
     pub fn time(&mut self) -> Result<Time, Short>
         ensures capacities { self.new.capacities ≡ self.old.capacities }
-        ensures bodies { self.new.bodies ≡ self.old.bodies }
+        ensures bodies { (self.new.bodies ≡ self.old.bodies) × (self.new.boxed ≡ self.old.boxed) }
         ensures settings { self.new.settings ≡ self.old.settings }
     {
         self.is_timed = true;
@@ -135,12 +136,19 @@ impl Host {
     }
 
     /// Boxes a goroutine. What is boxed is pushed, in the same order.
-    pub fn boxed<B: Goroutine>(&self, goroutine: B) -> Result<Box<Go<B>>, Short> {
-        let number = self.boxed.get();
-        let number = GNo(u16::try_from(number).map_err(|_| Short::BadLimits)?);
+    pub fn boxed<B: Goroutine>(&mut self, goroutine: B) -> Result<Box<Go<B>>, Short>
+        ensures boxed { OnOk result (self.new.boxed ≡ self.old.boxed + 1) }
+        ensures limits { (result ≡ Err Short.BadLimits) ↔ (65536 ≤ self.old.boxed) }
+        ensures memory { IfErr result (λ e. e ≢ Short.BadLimits → e ≡ Short.OutOfMemory) }
+        ensures err { OnErr result (self.new.boxed ≡ self.old.boxed) }
+        ensures bodies { self.new.bodies ≡ self.old.bodies }
+        ensures capacities { self.new.capacities ≡ self.old.capacities }
+        ensures settings { self.new.settings ≡ self.old.settings }
+    {
+        let number = u16::try_from(self.boxed).map_err(|_| Short::BadLimits)?;
         let loss = Arc::try_clone(&self.loss)?;
-        let go = Box::new(self.alloc, Go::of(goroutine, number, loss))?;
-        self.boxed.add(1);
+        let go = Box::new(self.alloc, Go::of(goroutine, GNo(number), loss))?;
+        self.boxed = u64::from(number) + 1;
         Ok(go)
     }
 
@@ -151,6 +159,7 @@ impl Host {
         ensures limits { (result ≡ Err Short.BadLimits) ↔ (65536 ≤ length self.old.bodies.items) }
         ensures memory { IfErr result (λ e. e ≢ Short.BadLimits → e ≡ Short.OutOfMemory) }
         ensures err { OnErr result (self.new.bodies.items ≡ self.old.bodies.items) }
+        ensures boxed { self.new.boxed ≡ self.old.boxed }
         ensures capacities { self.new.capacities ≡ self.old.capacities }
         ensures settings { self.new.settings ≡ self.old.settings }
     {
@@ -160,18 +169,24 @@ impl Host {
     }
 
     /// Whether all that was boxed was pushed.
-    fn is_pushed(&self) -> bool {
-        u64::try_from(self.bodies.len()) == Ok(self.boxed.get())
+    fn is_pushed(&self) -> bool
+        ensures { IsTrue result ↔ (self.now.boxed ≡ length self.now.bodies.items) }
+    {
+        self.bodies.len() as u64 == self.boxed
     }
 
     /// Runs the goroutines by a core in this thread, the same every time. All entries have to be kept.
     pub fn step(self) -> Result<Ended, Short>
         ensures ended { IfOk result (IsOfLegalRun (limits_of self.settings) self.capacities.items (length self.bodies.items)) }
+        // Its machines act in turn, and each choice is the first.
+        ensures played { IfOk result (IsPlayedByAny (limits_of self.settings) self.capacities.items self.bodies.items) }
+        ensures endless { IfErr result (λ e. e ≡ Short.NoEnd → HasNoEndByAny (limits_of self.settings) self.capacities.items self.bodies.items) }
         ensures whole { OnOk result (self.settings.entries ≤ self.settings.room) }
         ensures limits { IfErr result (λ e. e ≡ Short.BadLimits
             → IsWholeRun (limits_of self.settings) (length self.bodies.items) self.capacities.items → ⊥) }
         ensures memory { IfErr result (λ e. e ≡ Short.OutOfMemory
             → IsWholeRun (limits_of self.settings) (length self.bodies.items) self.capacities.items) }
+        ensures pushed { (result ≡ Err Short.NotPushed) ↔ (self.boxed ≢ length self.bodies.items) }
         ensures kinds { IfErr result (λ e. (e ≢ Short.Mismatch) × (e ≢ Short.Stopped)) }
     {
         if !self.is_pushed() {
@@ -203,6 +218,7 @@ impl Host {
             → IsWholeRun (limits_of self.settings) (length self.bodies.items) self.capacities.items → ⊥) }
         ensures memory { IfErr result (λ e. e ≡ Short.OutOfMemory
             → IsWholeRun (limits_of self.settings) (length self.bodies.items) self.capacities.items) }
+        ensures pushed { (result ≡ Err Short.NotPushed) ↔ (self.boxed ≢ length self.bodies.items) }
         ensures kinds { IfErr result (λ e. (e ≢ Short.NoEnd) × (e ≢ Short.Stopped)) }
     {
         let clock = Since::now(rt);
@@ -222,6 +238,7 @@ impl Host {
             → IsWholeRun (limits_of self.settings) (length self.bodies.items) self.capacities.items → ⊥) }
         ensures memory { IfErr result (λ e. e ≡ Short.OutOfMemory
             → IsWholeRun (limits_of self.settings) (length self.bodies.items) self.capacities.items) }
+        ensures pushed { (result ≡ Err Short.NotPushed) ↔ (self.boxed ≢ length self.bodies.items) }
         ensures kinds { IfErr result (λ e. (e ≢ Short.NoEnd) × (e ≢ Short.Stopped)) }
     {
         if !self.is_pushed() {
@@ -267,6 +284,7 @@ impl Host {
             → AreLimits (limits_of self.settings) (length self.bodies.items) self.capacities.items → ⊥) }
         ensures memory { IfErr result.0 (λ e. e ≡ Short.OutOfMemory
             → AreLimits (limits_of self.settings) (length self.bodies.items) self.capacities.items) }
+        ensures pushed { (result.0 ≡ Err Short.NotPushed) ↔ (self.boxed ≢ length self.bodies.items) }
         ensures kinds { IfErr result.0 (λ e. (e ≢ Short.NoEnd) × (e ≢ Short.Mismatch)) }
         ensures unused { IfErr result.0 (λ e. e ≢ Short.Stopped → result.1 ≡ sink) }
         ensures stopped { IfErr result.0 (λ e. e ≡ Short.Stopped

@@ -2,6 +2,7 @@
 ghost use Rattle.std.specs.Prelude.{◌≡◌, ◌≢◌, IfErr, IfOk, IfSome, None, OnOk, length};
 ghost use Rattle.gmp_turn.specs.Whole.{IsWholeRun};
 ghost use Rattle.gmp_host.specs.Ends.{IsOfLegalRun};
+ghost use Rattle.gmp_host.specs.Played.{EndsSo, HasNoEnd, IsPlayedOut};
 
 use crate::ending::{Ended, Short};
 use crate::note::Note;
@@ -10,20 +11,38 @@ use gmp_rounds::{Outside, Player};
 use gmp_seq::Limits;
 use gmp_worker::{Boxed, block_boxed, resume_boxed};
 use std::alloc::Global;
+use std::marker::Model;
 
 /// The most acts, for each machine.
 const MOST_ACTS: u32 = 1_000_000;
 
-/// A body that a machine of a core has in hand. A run has it as a parameter, and no box: what a box's goroutine does, no contract here says.
+/// A body that a machine of a core has in hand. Each says by two relations of its own what it does. A run has it as a parameter, and no box:
+/// what a box's goroutine does, no contract here says.
 pub(crate) trait InHand: Drop {
+    ghost use Rattle.std.specs.Prelude.{ℕ};
+    ghost use Rattle.gmp_base.specs.declared.ask.Ask.{Ask};
+    ghost use Rattle.gmp_base.specs.declared.ask.Woke.{Woke};
+
+    /// From the body before, with this answer, to this ask and the body after.
+    ghost resumed: { Self → Woke → Ask → Self → Type 0 };
+
+    /// From the body before, by its blocking call, to this number and the body after.
+    ghost called: { Self → ℕ → Self → Type 0 };
+
     /// Goes on with this answer until it asks again.
-    fn goes_on(&mut self, woke: Woke) -> Ask;
+    fn goes_on(&mut self, woke: Woke) -> Ask
+        ensures { resumed self.old woke result self.new };
 
     /// Makes its blocking call.
-    fn calls(&mut self) -> u64;
+    fn calls(&mut self) -> u64
+        ensures { called self.old result self.new };
 }
 
 impl InHand for Boxed {
+    ghost resumed = { λ _ _ _ _. Unit {0} };
+
+    ghost called = { λ _ _ _. Unit {0} };
+
     fn goes_on(&mut self, woke: Woke) -> Ask {
         resume_boxed(self, woke)
     }
@@ -33,18 +52,30 @@ impl InHand for Boxed {
     }
 }
 
-/// What the clock shows: it stands still until a machine minds a deadline, and then shows that.
+/// What the clock shows: it stands still until a machine minds a deadline, and then shows that. A contract sees the moment that it shows.
 #[derive(Drop)]
 struct Shown {
+    moment: u64,
+    /// Where goroutines read it.
     note: Note,
 }
 
+impl Model for Shown {
+    ghost use Rattle.std.specs.Prelude.{ℕ};
+
+    ghost Value = { ℕ };
+
+    ghost view = { λ s. s.moment };
+}
+
 impl<T: InHand> Outside<T> for Shown {
-    ghost asks = { λ _ _ _ _ _ _. Unit {0} };
+    ghost use Rattle.gmp_host.specs.Played.{AnswersSo, AsksSo, ShowsSo};
 
-    ghost answers = { λ _ _ _ _ _. Unit {0} };
+    ghost asks = { AsksSo T.resumed };
 
-    ghost shows = { λ _ _ _ _. Unit {0} };
+    ghost answers = { AnswersSo T.called };
+
+    ghost shows = { ShowsSo };
 
     fn ask(&mut self, body: &mut T, woke: Woke) -> Ask {
         body.goes_on(woke)
@@ -55,15 +86,16 @@ impl<T: InHand> Outside<T> for Shown {
     }
 
     fn moment(&mut self, minded: Option<u64>) -> u64 {
-        let moment = self.note.get().max(minded.unwrap_or(0));
-        self.note.set(moment);
-        moment
+        self.moment = self.moment.max(minded.unwrap_or(0));
+        self.note.set(self.moment);
+        self.moment
     }
 }
 
 /// How the run ended, if it did.
 fn ended<T: InHand>(player: &Player<T, Shown>) -> Option<Ended>
     ensures some { let book = player.now.core.system.book in IfSome result (IsOfLegalRun book.limits book.capacities book.bodies) }
+    ensures so { let book = player.now.core.system.book in IfSome result (EndsSo book) }
     ensures none { result ≡ None → player.now.core.system.book.state.outcome ≡ None }
 {
     let outcome = player.outcome()?;
@@ -85,16 +117,22 @@ pub(crate) fn play_all<T: InHand>(
     shown: Note,
 ) -> Result<Ended, Short>
     ensures ended { IfOk result (IsOfLegalRun limits capacities.now (length bodies.items)) }
+    // The run is the one that these bodies, played in turn, make.
+    ensures played { IfOk result (IsPlayedOut T.resumed T.called limits capacities.now bodies.items) }
+    ensures endless { IfErr result (λ e. e ≡ Short.NoEnd → HasNoEnd T.resumed T.called limits capacities.now bodies.items) }
     ensures whole { OnOk result (limits.room ≡ limits.entries) }
     ensures limits { IfErr result (λ e. e ≡ Short.BadLimits → IsWholeRun limits (length bodies.items) capacities.now → ⊥) }
     ensures memory { IfErr result (λ e. e ≡ Short.OutOfMemory → IsWholeRun limits (length bodies.items) capacities.now) }
-    ensures kinds { IfErr result (λ e. (e ≢ Short.Mismatch) × (e ≢ Short.Stopped)) }
+    ensures kinds { IfErr result (λ e. (e ≢ Short.Mismatch) × (e ≢ Short.Stopped) × (e ≢ Short.NotPushed)) }
 {
     // Also what `Player::open` tests itself: where it has no memory it doesn't say that they are in range.
     if u64::from(limits.room) != limits.entries || !limits.allow(bodies.len(), capacities) {
         return Err(Short::BadLimits);
     }
-    let outside = Shown { note: shown };
+    let outside = Shown {
+        moment: 0,
+        note: shown,
+    };
     let mut player = Player::open(alloc, limits, capacities, bodies, outside)?;
     player.play(MOST_ACTS * u32::from(limits.machines), 0);
     let ended = ended(&player);

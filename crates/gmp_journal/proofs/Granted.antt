@@ -1,5 +1,5 @@
 -- Where no line refuses a call, and its values suit it, it is granted.
-use Rattle.gmp_journal.proofs.Common.{◌≡◌, ℕ, ◌+◌, ◌^◌, ◌<◌, ◌≤◌, Bool, true, false, Option, None, Some, [], ◌∷◌, ◌++◌, length, slice_get, refl, sym, ap, subst, inl, inr, ◌∙◌, arith, GNo, PNo, Pass, Call, Outcome, Reply, Goroutine, Mode, IsInOrder, IsAwake, IsParked, State, IsCalling, IsRunning, RunsNothing, is_running_on, some_status, status_at, Handed, Grants, Suits, goroutine_in, processor_in, Log, entries_made, IsAllowed, IsCurrent}
+use Rattle.gmp_journal.proofs.Common.{◌≡◌, ℕ, ◌+◌, ◌^◌, ◌<◌, ◌≤◌, Bool, true, false, Option, None, Some, List, [], ◌∷◌, ◌++◌, length, slice_get, refl, sym, ap, subst, inl, inr, ◌∙◌, arith, GNo, PNo, Pass, Call, Outcome, Reply, Goroutine, Mode, IsInOrder, IsAwake, IsParked, State, IsCalling, IsRunning, RunsNothing, is_running_on, some_status, status_at, Handed, Grants, Suits, goroutine_in, processor_in, Log, entries_made, IsAllowed, IsCurrent}
 use Rattle.std.proofs.Common.{◌⊎◌, sum, slice_index, slice_set, get_or}
 use Rattle.std.specs.Prelude.{IfNone}
 use Rattle.gmp_seq.specs.declared.call.Call.TheVariants as call
@@ -71,6 +71,8 @@ module _ (log : Log) (space lasting : ℕ) (pass : Pass) (kept : IsJournal log s
         few = omega (arith, free, longer);
         room = kept.room;
         lasts = kept.lasts;
+        begins = kept.begins;
+        ongoing = λ none not_closed. absurd (let empty = ap (λ (h : List Entry). length h) none in omega (arith, empty, longer));
       })
 
   -- a machine that is in no blocking call is awake or parked

@@ -1,5 +1,5 @@
 -- A call by a pass that may call, with values of the run, is granted exactly where its needs are met.
-use Rattle.gmp_journal.proofs.Common.{◌≡◌, ◌↔◌, ℕ, ◌<◌, ◌==◌, Bool, true, false, not, ◌||◌, ◌&&◌, is_some, Option, None, Some, ◌++◌, length, slice_get, refl, sym, ap, ◌∙◌, arith, eq-eqb, eqb-true, false≢true, or_parts, option_map_or, GNo, MNo, PNo, Readiness, Pass, Call, Goroutine, Mode, Status, Holds, IsAwake, State, Table, IsCalling, IsRunning, is_calling_on, is_running_on, status_at, Handed, Suits, goroutine_in, names_other, processor_in, Log, entries_made, IsCurrent, need_lines, turn_lines}
+use Rattle.gmp_journal.proofs.Common.{◌≡◌, ◌↔◌, ℕ, ◌<◌, ◌==◌, Bool, true, false, not, ◌||◌, ◌&&◌, Option, None, Some, ◌++◌, length, slice_get, refl, sym, ap, ◌∙◌, arith, eq-eqb, eqb-true, false≢true, or_parts, option_map_or, GNo, MNo, PNo, Readiness, Pass, Call, Goroutine, Mode, Status, Holds, IsAwake, State, Table, IsCalling, IsRunning, is_calling_on, is_running_on, status_at, Handed, Suits, goroutine_in, names_other, processor_in, Log, entries_made, IsCurrent, need_lines, turn_lines}
 use Rattle.std.proofs.Common.{nat_lt, nat_le}
 use Rattle.std.proofs.lemmas.Bool.Decides.{nat_tests}
 use Rattle.gmp_seq.specs.declared.call.Call.TheVariants as call

@@ -10,3 +10,4 @@ pub mod Done
 pub mod Laws
 pub mod Frequent
 pub mod Segments
+pub mod Begun

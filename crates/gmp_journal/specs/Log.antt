@@ -1,5 +1,5 @@
 -- The run that a journal keeps, and what an accepted call adds to it.
-use Rattle.std.specs.Prelude.{◌≡◌, ℕ, ◌+◌, ◌≤◌, Bool, false, ◌||◌, is_some, List, [], ◌∷◌, ◌++◌, length, slice_index, sum}
+use Rattle.std.specs.Prelude.{◌≡◌, ℕ, ◌+◌, ◌≤◌, Bool, false, ◌||◌, is_some, Option, Some, List, [], ◌∷◌, ◌++◌, length, slice_index, sum}
 use Rattle.gmp_base.specs.declared.number.GNo.{GNo}
 use Rattle.gmp_base.specs.declared.number.MNo.{MNo}
 use Rattle.gmp_base.specs.declared.pass.Pass.{Pass}
@@ -11,17 +11,19 @@ use Rattle.gmp_seq.specs.State.{State, main, opening}
 use Rattle.gmp_seq.specs.Step.{Step}
 use Rattle.gmp_goroutines.specs.Shelf.{Shelves}
 
--- the run's number, what it was opened with, its entries but for those that were handed out, the present state, who is on the shelf, in order,
--- and whether the run was stopped
+-- the run's number, what it was opened with, the state before its first entry, where that is kept, its entries but for those that were handed
+-- out, the present state, who is on the shelf, in order, whether the run was stopped, and whether entries were handed out since its outcome
 pub record Log : Type 0 where
   pub run : ℕ
   pub limits : Limits
   pub bodies : ℕ
   pub capacities : List ℕ
+  pub begun : Option State
   pub history : List Entry
   pub state : State
   pub shelf : List GNo
   pub stopped : Bool
+  pub closed : Bool
 
 -- a run that has made no call yet
 abbrev pub opening_log : ℕ → Limits → ℕ → List ℕ → Log
@@ -30,10 +32,12 @@ opening_log run limits bodies capacities = record {
   limits = limits;
   bodies = bodies;
   capacities = capacities;
+  begun = Some (opening limits bodies capacities);
   history = [];
   state = opening limits bodies capacities;
   shelf = main ∷ [];
   stopped = false;
+  closed = false;
 }
 
 -- it has come to its outcome, or was stopped

@@ -1,12 +1,12 @@
 //! The run so far, and the call that goes on with it.
 //! One function makes all calls (`Journal::call`): refusal, effect, count and entry are stated and proved once, and not 29 times.
-ghost use Rattle.std.specs.Prelude.{◌≡◌, ◌↔◌, ◌<◌, ◌≤◌, [], None, Some, true, false, length, slice_get, IfNone, IfOk, IsTrue, OnErr, OnOk};
+ghost use Rattle.std.specs.Prelude.{◌≡◌, ◌↔◌, ◌<◌, ◌≤◌, [], None, Some, true, false, length, slice_get, IfErr, IfNone, IfOk, IfSome, IsTrue, OnErr, OnOk};
 ghost use Rattle.gmp_seq.specs.Fits.{AreLimits};
 ghost use Rattle.gmp_seq.specs.Machines.{is_parked_mode};
 ghost use Rattle.gmp_seq.specs.Table.{is_outstanding, is_shelved};
 ghost use Rattle.gmp_start.specs.Start.{state_of};
 ghost use Rattle.gmp_table.specs.Kept.{IsListing};
-ghost use Rattle.std.specs.Option.{option_map_or};
+ghost use Rattle.std.specs.Option.{option_map, option_map_or};
 ghost use Rattle.gmp_seq.specs.Needs.{WantsMemory};
 ghost use Rattle.gmp_journal.specs.Frequent.{is_frequent};
 ghost use Rattle.gmp_journal.specs.Grants.{Chooses, Grants, NeedsMemory, Suits};
@@ -15,10 +15,11 @@ ghost use Rattle.gmp_journal.specs.Known.{known_by};
 ghost use Rattle.gmp_seq.specs.Laws.{IsInOrder};
 ghost use Rattle.gmp_journal.specs.Log.{Records, entries_made, is_over, opening_log};
 ghost use Rattle.gmp_journal.specs.Refusals.{IsAllowed, IsCurrent, Says, first_refusal, is_foreign, refusal_in, refusal_of, turn_lines};
-ghost use Rattle.gmp_journal.specs.Segments.{IsPart, MayGoOn};
+ghost use Rattle.gmp_journal.specs.Segments.{IsPart, IsSegment, MayGoOn, WhyNoSegment, begin_of, handed_out, lasting_state};
 
 use crate::handed::Handed;
 use crate::scheduler::Scheduler;
+use crate::segment::{Begun, Segment};
 use gmp_base::{MNo, Pass, Readiness, Refusal, Woke};
 use gmp_history::History;
 use gmp_seq::{Call, Limits, Outcome, Reply};
@@ -30,8 +31,8 @@ use std::mem;
 /// A run of the scheduler. A contract sees what it was opened with, its history, and its present state.
 ///
 /// The history is a run to the present state, whatever is called: from the opening, or from the state at which entries were last handed out.
-/// It holds so many at a time (`limits.room`); where it is full no call is accepted until they are handed out. Only the opening, a make and
-/// a start take memory.
+/// It holds so many at a time (`limits.room`); where it is full no call is accepted until they are handed out. Only the opening, a make, a
+/// start and a segment take memory.
 #[derive(Drop)]
 pub struct Journal {
     /// Which run this is. Values and passes name it, so that none of another run is taken.
@@ -46,6 +47,10 @@ pub struct Journal {
     entries: History,
     /// No call is accepted any more, whether or not the run has an outcome.
     stopped: bool,
+    /// Entries were handed out since the outcome: there will be no more.
+    is_closed: bool,
+    /// Where the entries begin.
+    begun: Begun,
 }
 
 impl Model for Journal {
@@ -61,8 +66,8 @@ impl Model for Journal {
 }
 
 impl Journal {
-    /// A run that has made no call yet. All memory is taken here, but that of channels that are made later and of starts; where it is
-    /// refused nothing is left behind.
+    /// A run that has made no call yet. All memory is taken here, but that of channels that are made later, of starts and of segments;
+    /// where it is refused nothing is left behind.
     pub fn open(
         alloc: Global,
         run: u64,
@@ -83,6 +88,8 @@ impl Journal {
             scheduler,
             entries,
             stopped: false,
+            is_closed: false,
+            begun: Begun::Opening,
         })
     }
 
@@ -288,16 +295,93 @@ impl Journal {
     }
 
     /// Hands out the entries since the last time, and takes the spare in their place. It takes no pass, makes no entry and takes no memory,
-    /// and may be called whenever one likes, after the outcome too. Emptied, what was handed out is a spare again.
+    /// and may be called whenever one likes, after the outcome too. Emptied, what was handed out is a spare again. The state at which the
+    /// next entries begin is not kept, so there is no `segment` of them.
     pub fn hand_out(&mut self, spare: &mut History)
         requires empty { spare.old.list ≡ [] }
         requires room { self.old.limits.room ≤ spare.old.room }
         requires lasting { self.old.limits.room ≤ spare.old.lasting }
         ensures out { spare.new.list ≡ self.old.history }
         ensures lasting { self.old.limits.room ≤ spare.new.lasting }
-        ensures rest { self.new ≡ record self.old { history = [] } }
+        ensures rest { self.new ≡ handed_out self.old }
+    {
+        self.begin_anew(spare, None);
+    }
+
+    /// The same; the next entries begin at this state, where it is kept.
+    fn begin_anew(&mut self, spare: &mut History, next: Option<Start>)
+        requires empty { spare.old.list ≡ [] }
+        requires room { self.old.limits.room ≤ spare.old.room }
+        requires lasting { self.old.limits.room ≤ spare.old.lasting }
+        requires next { IfSome next (λ s. state_of s ≡ self.old.state) }
+        ensures out { spare.new.list ≡ self.old.history }
+        ensures lasting { self.old.limits.room ≤ spare.new.lasting }
+        ensures rest { self.new ≡ record (handed_out self.old) { begun = option_map state_of next } }
     {
         mem::swap(&mut self.entries, spare);
+        self.begun = Begun::of(next);
+        self.is_closed = self.scheduler.outcome.is_some();
+    }
+
+    /// The state before the first entry once more, for the segment that begins there.
+    fn begin(&self, alloc: Global) -> Result<Start, Refusal>
+        requires { self.now.closed ≡ false }
+        ensures start { IfOk result (λ s. begin_of self.now ≡ Some (state_of s)) }
+        ensures why { IfErr result (WhyNoSegment self.now) }
+    {
+        let copied = match &self.begun {
+            Begun::Opening => Start::opening(alloc, self.limits, self.bodies, &self.capacities),
+            Begun::At(start) => start.copied(alloc),
+            // Without an entry it is the present state.
+            Begun::Unknown if self.entries.is_empty() => self.scheduler.copied(alloc),
+            Begun::Unknown => return Err(Refusal::Busy),
+        };
+        copied.map_err(|_| Refusal::OutOfMemory)
+    }
+
+    /// Where the next segment begins, while the run lasts.
+    fn next_start(&self, alloc: Global) -> Result<Option<Start>, AllocError>
+        ensures { IfOk result (λ next. option_map state_of next ≡ lasting_state self.now.state) }
+    {
+        if self.scheduler.outcome.is_some() {
+            return Ok(None);
+        }
+        Ok(Some(self.scheduler.copied(alloc)?))
+    }
+
+    /// What the next segment needs, where the run goes on: its start, and an empty history.
+    fn next_segment(&self, alloc: Global) -> Result<(Option<Start>, History), AllocError>
+        ensures next { IfOk result (λ r. option_map state_of r.0 ≡ lasting_state self.now.state) }
+        ensures empty { IfOk result (λ r. r.1 ≡ record { list = []; room = self.now.limits.room; lasting = self.now.limits.room }) }
+    {
+        let next = self.next_start(alloc)?;
+        Ok((next, History::with_room(alloc, self.limits.room)?))
+    }
+
+    /// Hands out the entries since the last time with the state before them, of which it keeps the next. It takes no pass and makes no
+    /// entry; refused, it has changed nothing. Behind the outcome one segment is given, the last. Of entries since a `hand_out` none is: the
+    /// state before them is not kept.
+    pub fn segment(&mut self, alloc: Global) -> Result<Segment, Refusal>
+        ensures taken { IfOk result (λ x. IsSegment self.old x self.new) }
+        ensures why { IfErr result (WhyNoSegment self.old) }
+        ensures err { OnErr result (self.new ≡ self.old) }
+    {
+        if self.is_closed {
+            return Err(Refusal::Over);
+        }
+        // Each of the three may want memory, and until all are there nothing is changed.
+        let start = self.begin(alloc)?;
+        let Ok((next, entries)) = self.next_segment(alloc) else {
+            return Err(Refusal::OutOfMemory);
+        };
+        let mut entries = entries;
+        let end = self.scheduler.outcome;
+        self.begin_anew(&mut entries, next);
+        Ok(Segment {
+            start,
+            entries,
+            end,
+        })
     }
 
     /// The present state, copied but for its outcome. A start takes memory for each of its lists.
@@ -325,6 +409,8 @@ impl Journal {
             scheduler: _,
             entries,
             stopped: _,
+            is_closed: _,
+            begun: _,
         } = self;
         (limits, capacities, entries)
     }

@@ -12,10 +12,11 @@
 //! call takes any.
 //!
 //! A history holds so many entries at a time (`Limits::room`). Whoever runs for longer hands them out (`Journal::hand_out`), with no copy:
-//! the history goes out, and an empty one comes in its place.
+//! the history goes out, and an empty one comes in its place. Or segments are taken (`Journal::segment`): each has the state before its
+//! entries besides, so the next one's is copied and kept.
 //!
 //! `journal` has the calls in order, `scheduler` what each does, `scheduler/refusing` what it needs, `counts` the calls made, `handed` what
-//! comes with a call, `laws` what holds of any journal.
+//! comes with a call, `segment` what is handed out with its state, `laws` what holds of any journal.
 #![tactic(auto)]
 
 mod counts;
@@ -23,6 +24,8 @@ mod handed;
 mod journal;
 pub mod laws;
 mod scheduler;
+mod segment;
 
 pub use handed::{Handed, memory_for};
 pub use journal::Journal;
+pub use segment::Segment;

@@ -19,6 +19,7 @@ use Rattle.gmp_seq.specs.State.{State, opening}
 use Rattle.gmp_seq.proofs.Counts.{legal_total, none_yet}
 use Rattle.gmp_seq.proofs.Runs.{run_join}
 use Rattle.gmp_journal.specs.Log.{Log, Records, calls_of, entries_made, is_over, opening_log}
+use Rattle.gmp_journal.specs.Segments.{handed_out}
 use Rattle.gmp_journal.specs.Refusals.{need_lines, refusal_of, room_lines, turn_lines}
 use Rattle.gmp_journal.specs.declared.handed.Handed.{Handed}
 use Rattle.gmp_journal.proofs.Lines.{none_holds}
@@ -191,10 +192,10 @@ module _ {S : Type 0} (run : ℕ) (first : S → Type 0) (takes refuses : S → 
       let same : sink ≡ desk.behind = subst (λ (b : Bool). IsLeftSo refuses b desk.behind spare.list sink) on desk.left_so in
       subst (TakesAll takes desk.began desk.pieces) (sym same) desk.taken
 
-  pub handed_out : (now : Log) (sink' : S) (spare' : HistoryContents) → now ≡ record old { history = [] } → takes sink old.history sink'
+  pub taken_by : (now : Log) (sink' : S) (spare' : HistoryContents) → now ≡ handed_out old → takes sink old.history sink'
       → IsFull old.limits old.history → entries_made old < old.limits.entries → old.stopped ≡ false → spare'.list ≡ [] → old.limits.room ≤ spare'.room → old.limits.room ≤ spare'.lasting
       → IsDesk run first takes refuses now total sink' spare'
-  handed_out now sink' spare' same took full goes on empty room lasting = subst (λ (l : Log). IsDesk run first takes refuses l total sink' spare') (sym same) (record {
+  taken_by now sink' spare' same took full goes on empty room lasting = subst (λ (l : Log). IsDesk run first takes refuses l total sink' spare') (sym same) (record {
     run_is = desk.run_is;
     counted = desk.counted;
     began = desk.began;
@@ -220,7 +221,7 @@ module _ {S : Type 0} (run : ℕ) (first : S → Type 0) (takes refuses : S → 
   })
 
   -- the sink refused it, and the run was stopped
-  pub stopped_by : (now : Log) (sink' : S) (spare' : HistoryContents) → now ≡ record old { history = []; stopped = true } → refuses sink old.history sink'
+  pub stopped_by : (now : Log) (sink' : S) (spare' : HistoryContents) → now ≡ record (handed_out old) { stopped = true } → refuses sink old.history sink'
       → IsFull old.limits old.history → entries_made old < old.limits.entries → is_over old ≡ false → spare'.list ≡ old.history → All Fits old.history
       → IsDesk run first takes refuses now total sink' spare'
   stopped_by now sink' spare' same refused full goes lasts left fit = subst (λ (l : Log). IsDesk run first takes refuses l total sink' spare') (sym same) (record {

@@ -8,6 +8,7 @@ use Rattle.gmp_seq.specs.Fits.{Fits}
 use Rattle.gmp_seq.specs.Run.{IsLegal}
 use Rattle.gmp_book.specs.Book.{BookContents}
 use Rattle.gmp_journal.specs.Log.{Log, entries_made}
+use Rattle.gmp_journal.specs.Segments.{handed_out}
 
 -- the sink took these pieces, one after another
 abbrev pub TakesAll : {S : Type 0} → (S → List Entry → S → Type 0) → S → List (List Entry) → S → Type 0
@@ -49,11 +50,11 @@ pub record DeskContents (T Q S : Type 0) : Type 0 where
 
 -- the book once its history was handed out
 abbrev pub with_none_left : {T Q : Type 0} → BookContents T Q → BookContents T Q
-with_none_left book = record book { log = record book.log { history = [] } }
+with_none_left book = record book { log = handed_out book.log }
 
 -- the same, and the run was stopped
 abbrev pub stopped_book : {T Q : Type 0} → BookContents T Q → BookContents T Q
-stopped_book book = record book { log = record book.log { history = []; stopped = true } }
+stopped_book book = record book { log = record (handed_out book.log) { stopped = true } }
 
 -- the sink refused the history, and the run was stopped
 abbrev pub Stops : {T Q S : Type 0} → (S → List Entry → S → Type 0) → DeskContents T Q S → DeskContents T Q S → Type 0

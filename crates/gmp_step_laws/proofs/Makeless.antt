@@ -61,7 +61,7 @@ asked_or m (call.Procs n) t x y h = inl h
 asked_or m call.Gopark t x y h = inl h
 asked_or m (call.Ready g) t x y h = inl h
 asked_or m call.Enter t x y h = inl h
-asked_or m _ t x y h = inr h
+asked_or m _ t x y h = inr h.0
 
 still_makeless : (m : MNo) (c : Call) (t : Table) (x y : List Commands) → LeadsBodies m c t x y → AreMakeless x → AreMakeless y
 still_makeless m c t x y leads h =

@@ -1,4 +1,4 @@
--- Where a machine stands before a call that its body asks for, and where it does not.
+-- Where a machine stands before a call that its body asks for, or one that ends its blocking call, and where it does not.
 use Rattle.std.proofs.Common.{◌≡◌, ◌⊎◌, inl, inr, ℕ, zero, suc, ◌+◌, ◌-◌, ◌==◌, Bool, true, false, if◌then◌else◌, nat_le, nat_lt, is_some, Option, None, Some, refl, sym}
 use Rattle.std.proofs.lemmas.Bool.{false≢true}
 use Rattle.gmp_base.specs.declared.ask.Ask.{Ask}
@@ -28,36 +28,38 @@ use Rattle.gmp_driver.specs.Hunt.{begun, hunted, more, skipped, steal_goal, vict
 use Rattle.gmp_driver.specs.Table.{act_at, after_ask, call_for, claim_call, next_place, put_call, raised, scanned}
 use Rattle.gmp_scene.specs.Scripted.{is_asked}
 
--- what its body asked, where its call is next
-abbrev pub asked_at : Place → Option Ask
-asked_at (place.Do asked) = Some asked
-asked_at here = None
+-- what its body asked, where its call is next; and what its blocking call answered, where that ends next
+abbrev pub due_at : Place → Option (Ask ⊎ ℕ)
+due_at (place.Do asked) = Some (inl asked)
+due_at (place.Leave number) = Some (inr number)
+due_at here = None
 
--- what is told is no ask
-abbrev pub IsNoAsk : Told → Type 0
-IsNoAsk (told.Asked asked) = ⊥
-IsNoAsk what = Unit {0}
+-- what is told comes of no body
+abbrev pub IsOfNone : Told → Type 0
+IsOfNone (told.Asked asked) = ⊥
+IsOfNone (told.Number number) = ⊥
+IsOfNone what = Unit {0}
 
 -- Where an act leads
 
-either : (b : Bool) (p q : Place) → asked_at p ≡ None → asked_at q ≡ None → asked_at (if b then p else q) ≡ None
+either : (b : Bool) (p q : Place) → due_at p ≡ None → due_at q ≡ None → due_at (if b then p else q) ≡ None
 either true p q hp hq = hp
 either false p q hp hq = hq
 
-mores : (v : PNo) (goal : ℕ) → asked_at (more v goal) ≡ None
+mores : (v : PNo) (goal : ℕ) → due_at (more v goal) ≡ None
 mores v zero = refl
 mores v (suc goal) = refl
 
-hunts : (s : Seen) (r : Round) (how : Tried) → asked_at (hunted s r how) ≡ None
+hunts : (s : Seen) (r : Round) (how : Tried) → due_at (hunted s r how) ≡ None
 hunts s r (tried.Got hint) = mores (victim_of s.procs r) (steal_goal hint - 1)
 hunts s r tried.Empty = either (nat_lt (skipped s r.word (r.number + 1)) s.procs) (place.Hunt (Some (record { word = r.word; number = skipped s r.word (r.number + 1) }))) place.Unspin refl refl
 hunts s r tried.Unsure = refl
 
-scans : (np : ℕ) (v : PNo) → asked_at (scanned np v) ≡ None
+scans : (np : ℕ) (v : PNo) → due_at (scanned np v) ≡ None
 scans np v = either (nat_lt (v.0 + 1) np) (place.Scan (record { 0 = v.0 + 1 })) place.Park refl refl
 
 -- after a call that its body asked for
-pub answered : (asked : Ask) (answer : Reply) → asked_at (after_ask asked answer) ≡ None
+pub answered : (asked : Ask) (answer : Reply) → due_at (after_ask asked answer) ≡ None
 answered asked reply.Waits = refl
 answered asked (reply.Shelved r) = refl
 answered asked reply.Dead = refl
@@ -67,10 +69,11 @@ answered asked (reply.Number before) = either (raised before asked) place.Poke p
 answered asked answer =
     either (is_some (ticket_in answer)) place.Store (if nat_lt 0 (closed_in answer) then place.Poke else place.Run) refl (either (nat_lt 0 (closed_in answer)) place.Poke place.Run refl refl)
 
--- after any other act, which tells no ask
-pub stays : (s : Seen) (here : Place) (what : Told) → asked_at here ≡ None → IsNoAsk what → asked_at (next_place s here what) ≡ None
+-- after any other act, which tells nothing of a body's
+pub stays : (s : Seen) (here : Place) (what : Told) → due_at here ≡ None → IsOfNone what → due_at (next_place s here what) ≡ None
 stays s here (told.Refused refusal.Over) h n = refl
-stays s (place.Do asked) what h n = absurd (let no : Some asked ≡ None = h in cc)
+stays s (place.Do asked) what h n = absurd (let no : Some (inl asked) ≡ None = h in cc)
+stays s (place.Leave number) what h n = absurd (let no : Some (inr number) ≡ None = h in cc)
 stays s place.Run (told.Asked asked) h n = absurd n
 stays s place.Start (told.Replied (reply.Proc p)) h n = refl
 stays s place.Start (told.Replied reply.Nothing) h n = refl
@@ -104,9 +107,7 @@ stays s place.Store told.PushRefused h n = refl
 stays s place.PutStore (told.Replied reply.Shelf) h n = refl
 stays s place.Poke (told.Replied (reply.Wakes m)) h n = refl
 stays s place.Poke (told.Replied reply.Nothing) h n = refl
-stays s place.Block (told.Number number) h n = refl
-stays s (place.Leave number) (told.Replied (reply.Runs p)) h n = refl
-stays s (place.Leave number) (told.Replied (reply.Shelved r)) h n = refl
+stays s place.Block (told.Number number) h n = absurd n
 stays s place.Drop (told.Replied (reply.Idle p)) h n = refl
 stays s place.Bare (told.Replied reply.Done) h n = refl
 stays s (place.Scan v) (told.Tried (tried.Got hint)) h n = refl
@@ -128,59 +129,79 @@ stays s place.Over told.Surrendered h n = refl
 stays s place.Over told.Nothing h n = refl
 stays s _ _ h n = refl
 
+-- after the end of a blocking call
+pub left : (s : Seen) (number : ℕ) (answer : Reply) (asked : Ask) → due_at (next_place s (place.Leave number) (told.Replied answer)) ≡ Some (inl asked) → ⊥
+left s number (reply.Runs p) asked h = let no : None ≡ Some (inl asked) = h in cc
+left s number (reply.Shelved r) asked h = let no : None ≡ Some (inl asked) = h in cc
+left s number answer asked h = let no : Some (inr number) ≡ Some (inl asked) = h in cc
+
 -- What an act says of the place
 
--- a call is what the body asked, or it stands elsewhere and no body asks for it; a body is resumed at Run; all else is elsewhere
+-- whether the call ends a blocking one
+abbrev pub is_leave : Call → Bool
+is_leave (call.Leave number) = true
+is_leave _ = false
+
+-- neither a body's call, nor one that ends a blocking call
+abbrev pub IsOwn : Call → Type 0
+IsOwn c = (is_asked c ≡ false) × (is_leave c ≡ false)
+
+-- a call is what the body asked, or ends a blocking one with what was answered, or it stands elsewhere and it is neither; a body is resumed
+-- at Run, and answers at Block; all else is elsewhere
 abbrev pub TellsPlace : Place → Act → Type 0
-TellsPlace here (act.Call c) = ((asked : Ask) × (here ≡ place.Do asked) × (c ≡ call_for asked)) ⊎ ((asked_at here ≡ None) × (is_asked c ≡ false))
+TellsPlace here (act.Call c) =
+    ((asked : Ask) × (here ≡ place.Do asked) × (c ≡ call_for asked))
+    ⊎ ((number : ℕ) × (here ≡ place.Leave number) × (c ≡ call.Leave number))
+    ⊎ ((due_at here ≡ None) × IsOwn c)
 TellsPlace here act.Resume = here ≡ place.Run
-TellsPlace here _ = asked_at here ≡ None
+TellsPlace here act.Block = here ≡ place.Block
+TellsPlace here _ = due_at here ≡ None
 
 looks : (b : Bool) → TellsPlace place.Look (if b then act.Clock None else act.Pop)
 looks true = refl
 looks false = refl
 
-puts : (here : Place) (o : Option Readiness) → asked_at here ≡ None → TellsPlace here (put_call o)
+puts : (here : Place) (o : Option Readiness) → due_at here ≡ None → TellsPlace here (put_call o)
 puts here None h = h
-puts here (Some r) h = inr (h, refl)
+puts here (Some r) h = inr (inr (h, (refl, refl)))
 
 claims : (b : Bool) (o : Option Readiness) → TellsPlace place.Claim (if b then act.Call call.Poke else claim_call o)
-claims true o = inr (refl, refl)
+claims true o = inr (inr (refl, (refl, refl)))
 claims false None = refl
-claims false (Some r) = inr (refl, refl)
+claims false (Some r) = inr (inr (refl, (refl, refl)))
 
 pub tells_place : (s : Seen) (here : Place) → TellsPlace here (act_at s here)
-tells_place s place.Start = inr (refl, refl)
+tells_place s place.Start = inr (inr (refl, (refl, refl)))
 tells_place s place.Look = looks (nat_le 16 s.turns)
-tells_place s (place.Ticking now) = inr (refl, refl)
-tells_place s place.Keep = inr (refl, refl)
+tells_place s (place.Ticking now) = inr (inr (refl, (refl, refl)))
+tells_place s place.Keep = inr (inr (refl, (refl, refl)))
 tells_place s place.Drain = refl
 tells_place s place.PutDrain = puts place.PutDrain s.to_store refl
-tells_place s place.Global = inr (refl, refl)
-tells_place s place.Spin = inr (refl, refl)
+tells_place s place.Global = inr (inr (refl, (refl, refl)))
+tells_place s place.Spin = inr (inr (refl, (refl, refl)))
 tells_place s (place.Hunt None) = refl
 tells_place s (place.Hunt (Some r)) = refl
 tells_place s (place.More v goal) = refl
 tells_place s (place.StoreMore v goal) = refl
 tells_place s (place.PutMore v goal) = puts (place.PutMore v goal) s.to_store refl
-tells_place s place.Unspin = inr (refl, refl)
+tells_place s place.Unspin = inr (inr (refl, (refl, refl)))
 tells_place s place.Claim = claims s.fresh s.to_claim
 tells_place s place.Run = refl
 tells_place s (place.Do asked) = inl (asked, refl, refl)
 tells_place s place.Store = refl
 tells_place s place.PutStore = puts place.PutStore s.to_store refl
-tells_place s place.Poke = inr (refl, refl)
+tells_place s place.Poke = inr (inr (refl, (refl, refl)))
 tells_place s place.Block = refl
-tells_place s (place.Leave number) = inr (refl, refl)
-tells_place s place.Drop = inr (refl, refl)
-tells_place s place.Bare = inr (refl, refl)
+tells_place s (place.Leave number) = inr (inl (number, refl, refl))
+tells_place s place.Drop = inr (inr (refl, (refl, refl)))
+tells_place s place.Bare = inr (inr (refl, (refl, refl)))
 tells_place s (place.Scan v) = refl
-tells_place s place.Have = inr (refl, refl)
+tells_place s place.Have = inr (inr (refl, (refl, refl)))
 tells_place s place.PutHave = puts place.PutHave s.to_claim refl
-tells_place s place.Park = inr (refl, refl)
-tells_place s place.Rest = inr (refl, refl)
+tells_place s place.Park = inr (inr (refl, (refl, refl)))
+tells_place s place.Rest = inr (inr (refl, (refl, refl)))
 tells_place s (place.Mind deadline) = refl
-tells_place s (place.MindTick now) = inr (refl, refl)
+tells_place s (place.MindTick now) = inr (inr (refl, (refl, refl)))
 tells_place s place.Over = refl
 tells_place s place.Done = refl
 

@@ -1,18 +1,20 @@
 -- Turns one after another.
-use Rattle.std.proofs.Common.{◌≡◌, false, List, [], ◌∷◌, ◌++◌, map, Option, None, Some, refl, ap, subst}
+use Rattle.std.proofs.Common.{◌≡◌, ℕ, true, false, List, [], ◌∷◌, ◌++◌, map, Option, None, Some, refl, sym, ap, subst, ◌∙◌}
 use Rattle.gmp_base.specs.declared.ask.Ask.{Ask}
 use Rattle.gmp_base.specs.declared.ask.Ask.TheVariants as ask
 use Rattle.gmp_base.specs.declared.number.MNo.{MNo}
 use Rattle.gmp_driver.specs.Table.{call_for}
 use Rattle.gmp_script.specs.Script.{Commands}
 use Rattle.gmp_seq.specs.declared.call.Call.{Call}
+use Rattle.gmp_seq.specs.declared.call.Call.TheVariants as call
 use Rattle.gmp_seq.specs.declared.call.Entry.{Entry}
 use Rattle.gmp_seq.specs.declared.call.Limits.{Limits}
 use Rattle.gmp_seq.specs.Run.{IsStep}
 use Rattle.gmp_seq.specs.State.{State}
 use Rattle.gmp_seq.specs.Table.{Table}
-use Rattle.gmp_scene.specs.Scripted.{AsksFor, LeadsBodies, RunsScript, is_asked}
+use Rattle.gmp_scene.specs.Scripted.{AsksFor, Brings, LeadsBodies, RunsScript}
 use Rattle.gmp_step_laws.specs.Refused.{PassesMake, RunsTurns, entries_of}
+use Rattle.gmp_step_laws.proofs.Places.{IsOwn, is_leave}
 
 module _ (limits : Limits) where
   turns_join : (a b c : State) (x y z : List Commands) (t u : List (Option Entry)) → RunsTurns limits a x t b y → RunsTurns limits b y u c z → RunsTurns limits a x (t ++ u) c z
@@ -46,5 +48,8 @@ leads_asked m ask.Yield t x y h = h
 leads_asked m ask.Exit t x y h = h
 leads_asked m _ t x y h = h
 
-pub leads_other : (m : MNo) (c : Call) (t : Table) (x : List Commands) → is_asked c ≡ false → LeadsBodies m c t x x
-leads_other m c t x e = rw e refl
+pub leads_leave : (m : MNo) (number : ℕ) (t : Table) (x : List Commands) → Brings m number t x → LeadsBodies m (call.Leave number) t x x
+leads_leave m number t x h = (refl, λ n same. let e : number ≡ n = (let is : call.Leave number ≡ call.Leave n = same in cc) in subst (λ (k : ℕ). Brings m k t x) e h)
+
+pub leads_own : (m : MNo) (c : Call) (t : Table) (x : List Commands) → IsOwn c → LeadsBodies m c t x x
+leads_own m c t x own = rw own.0 (refl, λ n same. absurd (let no : true ≡ false = sym (ap is_leave same) ∙ own.1 in cc))

@@ -4,8 +4,6 @@ use Rattle.std.proofs.lemmas.List.{set-get_or}
 use Rattle.std.proofs.lemmas.List.FromFn.{length-map-range_with_len, get_or-map-range_with_len}
 use Rattle.std.proofs.lemmas.Option.{get_or_from_slice_get}
 use Rattle.std.specs.List.{slice_get, slice_set}
-use Rattle.gmp_base.specs.declared.ask.Ask.{Ask}
-use Rattle.gmp_base.specs.declared.number.GNo.{GNo}
 use Rattle.gmp_base.specs.declared.number.MNo.{MNo}
 use Rattle.gmp_seq.specs.declared.call.Entry.{Entry}
 use Rattle.gmp_seq.specs.declared.call.Limits.{Limits}
@@ -29,19 +27,18 @@ use Rattle.gmp_step_laws.specs.Played.{MakesAll}
 use Rattle.gmp_step_laws.specs.Refused.{IsRunButMakes, RunsTurns}
 use Rattle.gmp_step_laws.specs.Scheduled.{ActsBy, IsUnmade, LeadsStock, NoneUnmade}
 use Rattle.gmp_step_laws.proofs.Follows.{Follows, act_follows, kept}
-use Rattle.gmp_step_laws.proofs.Places.{asked_at}
-use Rattle.gmp_step_laws.proofs.Ties.{IsAsking, ties_opening}
+use Rattle.gmp_step_laws.proofs.Places.{due_at}
+use Rattle.gmp_step_laws.proofs.Ties.{ties_opening}
 use Rattle.gmp_step_laws.proofs.Turns.{script_of}
 
 -- At the opening
 
-none_asks : (run : ℕ) (limits : Limits) (n : MNo) (g : GNo) (asked : Ask) (bodies : ℕ) (capacities : List ℕ) → n.0 < length (opening_system run limits bodies capacities).machines
-    → IsAsking (get_or (opening_system run limits bodies capacities).machines n.0 no_machine) g asked → ⊥
-none_asks run limits n g asked bodies capacities within asking =
+none_due : (run : ℕ) (limits : Limits) (n : MNo) (bodies : ℕ) (capacities : List ℕ) → n.0 < length (opening_system run limits bodies capacities).machines
+    → due_at (get_or (opening_system run limits bodies capacities).machines n.0 no_machine).place ≡ None
+none_due run limits n bodies capacities within =
     let count = length-map-range_with_len (machine_at_start run limits) 0 limits.machines in
     let at = get_or-map-range_with_len (machine_at_start run limits) 0 limits.machines n.0 n.0 no_machine (omega (arith, within, count)) (omega arith) in
-    let no : None ≡ Some asked = sym (ap (λ (x : PlainMachine). asked_at x.place) at) ∙ asking.0 in
-    cc
+    ap (λ (x : PlainMachine). due_at x.place) at
 
 opening_follows : (run : ℕ) (limits : Limits) (capacities : List ℕ) (script : List Commands) → AreLimits limits (length script) capacities
     → Follows limits capacities script (Unit {0}) (opening_system run limits (length script) capacities) (map Some script)
@@ -52,7 +49,7 @@ opening_follows run limits capacities script are = record {
   now = script;
   entries = refl;
   runs = (refl, refl);
-  ties = λ _. ties_opening (opening_system run limits (length script) capacities).machines script (λ n g asked. none_asks run limits n g asked (length script) capacities);
+  ties = λ _. ties_opening (opening_system run limits (length script) capacities).machines script (λ n within. none_due run limits n (length script) capacities within);
   whole = λ _. refl;
 }
 
@@ -105,9 +102,10 @@ stays_put stock i body after has stays =
     ap (λ (x : Option Commands). set stock i x) (ap Some stays ∙ sym (get_or_from_slice_get stock i (Some body) (Some body) has)) ∙ set-get_or stock i (Some body)
 
 leads_dealt : (w : Want) (k : Whole Commands) (clock : ClockState) (m : MNo) (choice : Choice) (stock' : List (Option Commands)) (clock' : ClockState)
-    → IsDealt AsksCommand AnswersCommand Reads w k clock m choice stock' clock' → LeadsStock w k.system m choice.ask k.stock stock'
+    → IsDealt AsksCommand AnswersCommand Reads w k clock m choice stock' clock' → LeadsStock w k.system m choice k.stock stock'
 leads_dealt want.Ask k clock m choice stock' clock' d = record { g = d.g; in_hand = d.in_hand; before = d.before; has = d.has; after = d.after; asks = d.asks_so.0; goes = d.stock }
-leads_dealt want.Number k clock m choice stock' clock' d = d.stock ∙ stays_put k.stock d.g.0 d.before d.after d.has d.answers_so.1
+leads_dealt want.Number k clock m choice stock' clock' d =
+    record { g = d.g; in_hand = d.in_hand; body = d.before; has = d.has; says = d.answers_so.0; stays = d.stock ∙ stays_put k.stock d.g.0 d.before d.after d.has d.answers_so.1 }
 leads_dealt (want.Moment minded) k clock m choice stock' clock' d = d.stock
 leads_dealt want.Nothing k clock m choice stock' clock' d = d.stock
 

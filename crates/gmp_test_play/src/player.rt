@@ -36,6 +36,8 @@ struct Player {
     word: u64,
     /// The entries of the run that the book has handed out.
     handed_out: History,
+    /// With which lines the last segment began.
+    began: String,
 }
 
 /// Plays a file: how many calls it made, or which line fell short and how.
@@ -50,6 +52,7 @@ pub fn played(alloc: Global, text: &str) -> Result<String, (usize, PlayError)> {
         tickets: 0,
         word: 0,
         handed_out: History::new(alloc),
+        began: String::new(alloc),
     };
     match player.file(text) {
         Ok(counts) => Ok(counts),
@@ -105,6 +108,8 @@ impl Player {
             }
             "other" => self.other(number(rest)?),
             "segment" => self.segment(book, line),
+            "begins" => self.begins(rest),
+            "hand_out" => self.hands_out(book, line),
             "state" => self.state(book, rest),
             "held" | "called" | "proc" | "pass" => self.forged(word, rest),
             _ => self.numbered(book, line),

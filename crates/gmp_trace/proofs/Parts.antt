@@ -11,7 +11,7 @@ use Rattle.gmp_trace.specs.Pieces.{end_text, entries_text, is_whole, limits_text
 use Rattle.gmp_trace.specs.Text.{Begins, Content, IsCounted, beginning_text, begins_text, first_number, header, start_version, suits, text, version_of}
 use Rattle.gmp_trace.specs.Text.Begins.{AtOpening, AtState}
 use Rattle.gmp_trace.specs.declared.trace.Version.{Version}
-use Rattle.gmp_trace.specs.declared.trace.Version.TheVariants.{One, Two, Three}
+use Rattle.gmp_trace.specs.declared.trace.Version.TheVariants.{One, Two, Four}
 use Rattle.gmp_trace.proofs.Lines.{same_rest}
 use Rattle.gmp_trace.specs.Reading.{AreEntries, HasLimits, IsBody, IsBodyFault, IsFault}
 
@@ -99,18 +99,18 @@ has_text x begun entries = record { beginning = begun; fits = entries.fits; numb
 pub one_version : (v w : Version) (a b : List ℕ) → header v ++ a ≡ header w ++ b → (v ≡ w) × (a ≡ b)
 one_version One One a b is = (refl, same_rest (header One ++ a) (header One) a b refl is)
 one_version Two Two a b is = (refl, same_rest (header Two ++ a) (header Two) a b refl is)
-one_version Three Three a b is = (refl, same_rest (header Three ++ a) (header Three) a b refl is)
+one_version Four Four a b is = (refl, same_rest (header Four ++ a) (header Four) a b refl is)
 one_version One Two a b is = absurd (let last : 49 ≡ 50 = ap (λ (t : List ℕ). slice_index t 10) is in omega (arith, last))
 one_version Two One a b is = absurd (let last : 50 ≡ 49 = ap (λ (t : List ℕ). slice_index t 10) is in omega (arith, last))
-one_version One Three a b is = absurd (let last : 49 ≡ 51 = ap (λ (t : List ℕ). slice_index t 10) is in omega (arith, last))
-one_version Three One a b is = absurd (let last : 51 ≡ 49 = ap (λ (t : List ℕ). slice_index t 10) is in omega (arith, last))
-one_version Two Three a b is = absurd (let last : 50 ≡ 51 = ap (λ (t : List ℕ). slice_index t 10) is in omega (arith, last))
-one_version Three Two a b is = absurd (let last : 51 ≡ 50 = ap (λ (t : List ℕ). slice_index t 10) is in omega (arith, last))
+one_version One Four a b is = absurd (let last : 49 ≡ 52 = ap (λ (t : List ℕ). slice_index t 10) is in omega (arith, last))
+one_version Four One a b is = absurd (let last : 52 ≡ 49 = ap (λ (t : List ℕ). slice_index t 10) is in omega (arith, last))
+one_version Two Four a b is = absurd (let last : 50 ≡ 52 = ap (λ (t : List ℕ). slice_index t 10) is in omega (arith, last))
+one_version Four Two a b is = absurd (let last : 52 ≡ 50 = ap (λ (t : List ℕ). slice_index t 10) is in omega (arith, last))
 
 -- ---- versions
 
 abbrev of_whole : Bool → Version
-of_whole whole = if whole then Two else Three
+of_whole whole = if whole then Two else Four
 
 -- version 1 begins at no state
 never_of_whole : (whole : Bool) → One ≡ of_whole whole → ⊥

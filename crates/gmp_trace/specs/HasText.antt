@@ -91,7 +91,7 @@ pub record Origin : Type 0 where
   pub lines : ℕ
   pub made : MNo → ℕ
 
--- lines 1 to 3 of version 1; of versions 2 and 3 lines 1 and 2, six of the machines, a line for each channel and goroutine, and `begin`
+-- lines 1 to 3 of version 1; of versions 2 and 4 lines 1 and 2, six of the machines, a line for each channel and goroutine, and `begin`
 abbrev pub lines_before : Begins → ℕ
 lines_before (AtOpening capacities) = 3
 lines_before (AtState s) = 9 + length s.channels + length s.table.goroutines

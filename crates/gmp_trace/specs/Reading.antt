@@ -130,7 +130,7 @@ pub record IsCapsFault (text : List ℕ) : Type 0 where
   pub lines : HasLimits text One limits bodies rest
   pub none : (capacities more : List ℕ) → AreLimits limits bodies capacities → rest ≢ capacities_text capacities ++ more
 
--- in versions 2 and 3 this is the first line of the start that is bad
+-- in versions 2 and 4 this is the first line of the start that is bad
 pub record IsBadStart (text : List ℕ) (line : ℕ) : Type 0 where
   pub limits : Limits
   pub bodies : ℕ

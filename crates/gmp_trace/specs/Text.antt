@@ -16,7 +16,7 @@ use Rattle.gmp_trace.specs.declared.trace.End.TheVariants as end_
 use Rattle.gmp_trace.specs.declared.trace.Trace.{Trace}
 use Rattle.gmp_trace.specs.declared.trace.TraceView.{TraceView}
 use Rattle.gmp_trace.specs.declared.trace.Version.{Version}
-use Rattle.gmp_trace.specs.declared.trace.Version.TheVariants.{One, Two, Three}
+use Rattle.gmp_trace.specs.declared.trace.Version.TheVariants.{One, Two, Four}
 use Rattle.gmp_trace.specs.Pieces.{capacities_text, end_text, entries_text, is_whole, limits_text}
 use Rattle.gmp_trace.specs.StartText.{start_text}
 
@@ -54,25 +54,25 @@ content x = record { limits = x.limits; bodies = x.bodies; begins = begins_at x.
 abbrev pub content_of : TraceView → Content
 content_of x = record { limits = x.limits; bodies = x.bodies; begins = begins_of x.beginning; entries = x.entries.now.list; end = x.end }
 
--- of what begins at a state: version 2 where the history is kept whole, and else version 3
+-- of what begins at a state: version 2 where the history is kept whole, and else version 4
 abbrev pub start_version : Limits → Version
-start_version limits = if is_whole limits then Two else Three
+start_version limits = if is_whole limits then Two else Four
 
--- version 1 begins at the opening, and versions 2 and 3 at a state
+-- version 1 begins at the opening, and versions 2 and 4 at a state
 abbrev pub version_of : Limits → Begins → Version
 version_of limits (AtOpening capacities) = One
 version_of limits (AtState s) = start_version limits
 
 -- a text of the version may have these limits
 abbrev pub suits : Version → Limits → Bool
-suits Three limits = not (is_whole limits)
+suits Four limits = not (is_whole limits)
 suits _ limits = is_whole limits
 
 -- line 1
 abbrev pub header : Version → List ℕ
 header One = codes "gmp-trace 1\n"
 header Two = codes "gmp-trace 2\n"
-header Three = codes "gmp-trace 3\n"
+header Four = codes "gmp-trace 4\n"
 
 -- the lines behind that of the limits, up to the entries
 abbrev pub begins_text : Begins → List ℕ

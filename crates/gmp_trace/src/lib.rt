@@ -1,7 +1,7 @@
 //! The trace: a run of the scheduler as a text, one line an entry, to be kept, compared and judged.
 //!
-//! Line 1 is `gmp-trace 1`, `gmp-trace 2` or `gmp-trace 3`, and line 2 has the limits. In version 1 line 3 has the capacities of the channels
-//! at the opening; in versions 2 and 3 lines 3 to that with `begin` have the state at which the run goes on. Version 3 is of a run whose
+//! Line 1 is `gmp-trace 1`, `gmp-trace 2` or `gmp-trace 4`, and line 2 has the limits. In version 1 line 3 has the capacities of the channels
+//! at the opening; in versions 2 and 4 lines 3 to that with `begin` have the state at which the run goes on. Version 4 is of a run whose
 //! history is handed out in segments: its limits have the room of the history. Then each entry has a line,
 //! `N M.K CALL -> REPLY`: its number in the run, from 0, its machine, how many entries that machine made before, the call, and the reply.
 //! The last line says how the run ended.

@@ -73,7 +73,7 @@ fn start_header(limits: &Limits) -> &'static [u8]
     if is_whole(limits) {
         b"gmp-trace 2\n"
     } else {
-        b"gmp-trace 3\n"
+        b"gmp-trace 4\n"
     }
 }
 

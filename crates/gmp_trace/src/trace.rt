@@ -42,7 +42,7 @@ pub enum Version {
     /// It begins at a state.
     Two,
     /// So it does, and it is of a run whose history is handed out in segments.
-    Three,
+    Four,
 }
 
 /// Whether the history has room for all entries, and so is kept whole.
@@ -59,7 +59,7 @@ impl Version {
     {
         match self {
             Version::One | Version::Two => is_whole(limits),
-            Version::Three => !is_whole(limits),
+            Version::Four => !is_whole(limits),
         }
     }
 }

@@ -277,8 +277,8 @@ fn version_at(text: &[u8]) -> Option<(Version, &[u8])>
     if let Some(rest) = behind(text, b"gmp-trace 2\n") {
         return Some((Version::Two, rest));
     }
-    match behind(text, b"gmp-trace 3\n") {
-        Some(rest) => Some((Version::Three, rest)),
+    match behind(text, b"gmp-trace 4\n") {
+        Some(rest) => Some((Version::Four, rest)),
         None => None,
     }
 }
@@ -356,7 +356,7 @@ fn made_by(counts: &[u64]) -> [u64; 64]
     made
 }
 
-/// The start whose lines versions 2 and 3 have, and where the entries begin behind them.
+/// The start whose lines versions 2 and 4 have, and where the entries begin behind them.
 fn started<'a>(
     alloc: Global,
     limits: Limits,
@@ -414,7 +414,7 @@ fn begun<'a>(
             let (capacities, first, rest) = opened(alloc, limits, bodies, text, words, line)?;
             Ok((Beginning::Opening(capacities), first, rest))
         }
-        Version::Two | Version::Three => {
+        Version::Two | Version::Four => {
             let (start, first, rest) = started(alloc, limits, bodies, text)?;
             Ok((Beginning::Start(start), first, rest))
         }

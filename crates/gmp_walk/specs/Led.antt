@@ -1,7 +1,8 @@
--- How far a walk comes.
-use Rattle.std.specs.Prelude.{◌≡◌, ◌⊎◌, ◌≤◌, ℕ, Some, List, length, slice_get, take}
+-- How far a walk comes, and what its listener hears.
+use Rattle.std.specs.Prelude.{◌≡◌, ◌⊎◌, ℕ, Some, List, [], ◌∷◌, length, slice_get, take}
 use Rattle.gmp_seq.specs.declared.call.Entry.{Entry}
 use Rattle.gmp_seq.specs.declared.call.Limits.{Limits}
+use Rattle.gmp_seq.specs.declared.status.Goroutine.{Goroutine}
 use Rattle.gmp_seq.specs.Run.{IsStep, Run}
 use Rattle.gmp_seq.specs.State.{State}
 use Rattle.gmp_trace.specs.Text.{Content}
@@ -21,3 +22,10 @@ pub record IsLed (limits : Limits) (start : State) (h : List Entry) (n : ℕ) (s
 -- the same of the entries of a trace
 abbrev pub IsWalked : Content → ℕ → State → Type 0
 IsWalked x n s = IsLed x.limits (start_of x) x.entries n s
+
+module _ {L : Type 0} (hears : L → Entry → List Goroutine → L → Type 0) (limits : Limits) where
+  -- Entries that lead from one state to another. The listener hears of each, with what each goroutine does after it, and so becomes another.
+  abbrev pub RunsHeard : State → List Entry → State → L → L → Type 0
+  RunsHeard old [] new l l' = (new ≡ old) × (l' ≡ l)
+  RunsHeard old (e ∷ h) new l l' =
+      (mid : State) × (between : L) × IsStep limits e old mid × hears l e mid.table.goroutines between × RunsHeard mid h new between l'

@@ -20,10 +20,18 @@ pub struct Deed<'a> {
     pub readied: &'a [GNo],
 }
 
-/// Is told of the entries of a run, one after another.
+/// Is told of the entries of a run, one after another. Each says by a relation of its own what an entry makes of it; a walk rests on none.
 pub trait Listener {
+    ghost use Rattle.std.specs.Prelude.{List, OnOk};
+    ghost use Rattle.gmp_seq.specs.declared.call.Entry.{Entry};
+    ghost use Rattle.gmp_seq.specs.declared.status.Goroutine.{Goroutine};
+
+    /// From itself before, by this entry and what each goroutine does after it, to itself after.
+    ghost hears: { Self → Entry → List Goroutine → Self → Type 0 };
+
     /// An entry was a step. The rows are what each goroutine does after it.
-    fn hear(&mut self, deed: &Deed, rows: &[Goroutine]) -> Result<(), AllocError>;
+    fn hear(&mut self, deed: &Deed, rows: &[Goroutine]) -> Result<(), AllocError>
+        ensures { OnOk result (hears self.old deed.now.entry.now rows.now self.new) };
 }
 
 /// The communication that an entry records: what was offered, and what became of it. A select's is that of the case it took.

@@ -1,5 +1,6 @@
 //! Who is where: what a trace leaves to its reader. `Posts` has the goroutine and the processor of each machine, and each goroutine's last
 //! epoch.
+ghost use Rattle.std.specs.Prelude.{◌≡◌, IfOk};
 
 use crate::deed::Deed;
 use crate::places::{goroutine_at, processor_at};
@@ -98,7 +99,9 @@ impl Posts {
         number: u64,
         entry: &'a Entry,
         rows: &[Goroutine],
-    ) -> Result<Deed<'a>, AllocError> {
+    ) -> Result<Deed<'a>, AllocError>
+        ensures { IfOk result (λ d. d.entry.now ≡ entry.now) }
+    {
         let before = self.machines[usize::from(entry.m.0)];
         let g = claimed(&entry.call).or(before.g);
         self.note_ready(entry, rows)?;

@@ -1,8 +1,8 @@
 //! The walk: the entries one after another, and the place where the first is that is no step.
-ghost use Rattle.std.specs.Prelude.{◌≡◌, IfErr, IfOk};
+ghost use Rattle.std.specs.Prelude.{◌≡◌, IfErr, IfOk, take};
 ghost use Rattle.gmp_trace.specs.Text.{content_of};
-ghost use Rattle.gmp_check.specs.Checked.{IsFirstBad};
-ghost use Rattle.gmp_walk.specs.Led.{IsLed, IsWalked};
+ghost use Rattle.gmp_check.specs.Checked.{IsFirstBad, start_of};
+ghost use Rattle.gmp_walk.specs.Led.{IsLed, IsWalked, RunsHeard};
 
 use crate::deed::Listener;
 use crate::post::Posts;
@@ -37,6 +37,7 @@ fn follow<L: Listener, W: Watch>(
 ) -> Result<Walked, OutOfMemory>
     ensures limits { IfOk result (λ w. w.replay.limits ≡ replay.limits) }
     ensures led { IfOk result (λ w. IsLed replay.limits replay.state entries.now.list w.steps w.replay.state) }
+    ensures heard { IfOk result (λ w. RunsHeard L.hears replay.limits replay.state (take w.steps entries.now.list) w.replay.state listener.old listener.new) }
 {
     for (i, entry) in entries.iter().enumerate() {
         tell(watch, Work::Checking, i as u64);
@@ -84,6 +85,8 @@ pub fn walk<L: Listener, W: Watch>(
     watch: &mut W,
 ) -> Result<Walked, Bad>
     ensures walked { IfOk result (λ w. IsWalked (content_of trace.entry) w.steps w.replay.state) }
+    // The listener hears of each of these entries once, in order, and of nothing else.
+    ensures heard { IfOk result (λ w. RunsHeard L.hears trace.entry.limits (start_of (content_of trace.entry)) (take w.steps trace.entry.entries.now.list) w.replay.state listener.old listener.new) }
     ensures limits { IfOk result (λ w. w.replay.limits ≡ trace.entry.limits) }
     ensures wrong { IfErr result (IsFirstBad (content_of trace.entry)) }
 {

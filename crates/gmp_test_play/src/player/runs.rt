@@ -155,6 +155,7 @@ impl Player {
         self.tickets = self.run;
         self.word = 0;
         self.handed_out = History::new(self.alloc);
+        self.began = String::new(self.alloc);
         Ok(())
     }
 

@@ -3,7 +3,7 @@ use Rattle.gmp_check.proofs.Keeping.{opening_consistent}
 use Rattle.gmp_check.specs.Consistent.{IsConsistentUnder}
 use Rattle.gmp_check.specs.Decides.{Decides}
 use Rattle.gmp_check.specs.Replayed.{Replayed}
-use Rattle.gmp_follow.proofs.Following.{Follows, is_no, runs_next, runs_one, stops}
+use Rattle.gmp_follow.proofs.Following.{Follows, calls_one, is_no, runs_next, runs_one, stops}
 use Rattle.gmp_scene.specs.Scripted.{LeadsBodies}
 use Rattle.gmp_seq.specs.declared.call.Entry.{Entry}
 use Rattle.gmp_seq.specs.declared.call.Limits.{Limits}
@@ -15,7 +15,10 @@ pub lead-requires : goal.lead-requires
 lead-requires c =
     let r = c.replay-in-loop-entry in
     let is = subst (λ (x : Replayed). IsConsistentUnder x.limits x.state) r.view_is r.invariant in
-    runs_one c.loop-entry.replay.limits c.loop-entry.replay.state c.in-Some.entry.m is
+    record {
+      runs = runs_one c.loop-entry.replay.limits c.loop-entry.replay.state c.in-Some.entry.m is;
+      calls = calls_one c.loop-entry.replay.limits c.loop-entry.replay.state c.in-Some.entry.m is;
+    }
 
 pub returns-then-not-lead-clause-exact : goal.returns-then-not-lead-clause-exact
 returns-then-not-lead-clause-exact c =

@@ -10,6 +10,8 @@ invariant_of-result c =
         few = omega arith;
         room = omega arith;
         lasts = omega arith;
+        begins = search rules;
+        ongoing = search rules;
       },
       search rules,
     )

@@ -2,7 +2,7 @@ use Rattle.std.proofs.Common.{◌≡◌, ◌<◌, ◌∙◌, true, false, List, 
 use Rattle.gmp_history.specs.Brief.{HistoryContents}
 use Rattle.gmp_seq.specs.declared.call.Entry.{Entry}
 use Rattle.gmp_journal.specs.Log.{Log, entries_made, is_over}
-use Rattle.gmp_run.proofs.Desks.{handed_out, not_over, stopped_by}
+use Rattle.gmp_run.proofs.Desks.{not_over, stopped_by, taken_by}
 use Rattle.gmp_run.proofs.desk.Desk.hand_out.Goals as goal
 
 -- the sink took the entries
@@ -15,7 +15,7 @@ invariant_of-self g c =
     let full : length log.history ≡ log.limits.room = search (rules, tests) in
     let goes : entries_made log < log.limits.entries = search (rules, tests) in
     let lasts : is_over log ≡ false = search (rules, tests) in
-    handed_out g.L.RunLedger.run g.L.SinkLedger.first g.S.Sink.takes g.S.Sink.refuses log old.tally.total old.sink old.spare c.self.invariant c.hand_out.new.self.log c.take.new.self c.take.new.history out.rest
+    taken_by g.L.RunLedger.run g.L.SinkLedger.first g.S.Sink.takes g.S.Sink.refuses log old.tally.total old.sink old.spare c.self.invariant c.hand_out.new.self.log c.take.new.self c.take.new.history out.rest
     (subst (λ (h : List Entry). g.S.Sink.takes old.sink h c.take.new.self) out.out took.takes) full goes (not_over log lasts).1 took.empty
     (let lasts = out.lasting in let room = took.room in omega (arith, lasts, room)) (let lasts = out.lasting in let lasting = took.lasting in omega (arith, lasts, lasting))
 

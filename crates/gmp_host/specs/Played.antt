@@ -1,0 +1,56 @@
+-- A host's run by a core: its machines act in turn, time passes where one waits for a deadline, and nothing is left open but what bodies do.
+use Rattle.std.specs.Prelude.{◌≡◌, ℕ, ◌*◌, max, List, Option, None, Some, length}
+use Rattle.std.specs.Option.{unwrap_or}
+use Rattle.gmp_base.specs.declared.ask.Ask.{Ask}
+use Rattle.gmp_base.specs.declared.ask.Woke.{Woke}
+use Rattle.gmp_seq.specs.declared.call.Limits.{Limits}
+use Rattle.gmp_acts.specs.System.{BookRun}
+use Rattle.gmp_rounds.specs.Plays.{IsPlayed}
+use Rattle.gmp_rounds.specs.Stage.{Stage, opening_stage}
+use Rattle.gmp_host.specs.declared.ending.Ended.{Ended}
+
+-- the clock shows the moment that it showed, or the deadline that is minded, whichever is later
+abbrev pub ShowsSo : ℕ → Option ℕ → ℕ → ℕ → Type 0
+ShowsSo shown minded moment shown' = (moment ≡ max shown (unwrap_or minded 0)) × (shown' ≡ moment)
+
+-- the most acts of all machines
+abbrev pub most_acts : Limits → ℕ
+most_acts limits = 1000000 * limits.machines
+
+-- the run has this outcome, and as many entries
+pub record EndsSo (book : BookRun) (ended : Ended) : Type 0 where
+  pub outcome : book.state.outcome ≡ Some ended.outcome
+  pub entries : length book.history ≡ ended.entries
+
+-- a body asks as it does when it is resumed, and the clock stands
+abbrev pub AsksSo : {T : Type 0} → (T → Woke → Ask → T → Type 0) → ℕ → T → Woke → Ask → ℕ → T → Type 0
+AsksSo resumed shown before told asked shown' after = resumed before told asked after × (shown' ≡ shown)
+
+-- and answers as it does by its blocking call
+abbrev pub AnswersSo : {T : Type 0} → (T → ℕ → T → Type 0) → ℕ → T → ℕ → ℕ → T → Type 0
+AnswersSo called shown before number shown' after = called before number after × (shown' ≡ shown)
+
+-- By what bodies ask when they are resumed, and answer by their blocking calls.
+module _ {T : Type 0} (resumed : T → Woke → Ask → T → Type 0) (called : T → ℕ → T → Type 0) where
+  -- the bodies were played so far
+  abbrev pub IsPlayedTo : Limits → List ℕ → List T → Stage T ℕ → Type 0
+  IsPlayedTo limits capacities bodies last = IsPlayed (AsksSo resumed) (AnswersSo called) ShowsSo (most_acts limits) 0 (opening_stage limits capacities bodies 0) last
+
+  -- the bodies were played, each choice the first, and the run ended so
+  pub record IsPlayedOut (limits : Limits) (capacities : List ℕ) (bodies : List T) (ended : Ended) : Type 0 where
+    pub last : Stage T ℕ
+    pub played : IsPlayedTo limits capacities bodies last
+    pub ends : EndsSo last.core.system.book ended
+
+  -- the bodies were played, and the run came to no outcome
+  pub record HasNoEnd (limits : Limits) (capacities : List ℕ) (bodies : List T) : Type 0 where
+    pub last : Stage T ℕ
+    pub played : IsPlayedTo limits capacities bodies last
+    pub none : last.core.system.book.state.outcome ≡ None
+
+-- the same, whatever the bodies do
+abbrev pub IsPlayedByAny : {T : Type 0} → Limits → List ℕ → List T → Ended → Type 0
+IsPlayedByAny limits capacities bodies ended = IsPlayedOut (λ before told asked after. Unit {0}) (λ before number after. Unit {0}) limits capacities bodies ended
+
+abbrev pub HasNoEndByAny : {T : Type 0} → Limits → List ℕ → List T → Type 0
+HasNoEndByAny limits capacities bodies = HasNoEnd (λ before told asked after. Unit {0}) (λ before number after. Unit {0}) limits capacities bodies
