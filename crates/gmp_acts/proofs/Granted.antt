@@ -24,6 +24,7 @@ use Rattle.gmp_seq.specs.Needs.{CallsForSome, IsOutstanding, Needs, RunsSome}
 use Rattle.gmp_seq.specs.State.{State}
 use Rattle.gmp_seq.specs.Table.{Table, IsRunning, RunsNothing, is_out, is_running_on}
 use Rattle.gmp_driver.specs.declared.act.Act.TheVariants as act
+use Rattle.gmp_driver.specs.declared.place.Aside.{Aside}
 use Rattle.gmp_driver.specs.declared.place.Place.{Place}
 use Rattle.gmp_driver.specs.declared.place.Place.TheVariants as place
 use Rattle.gmp_driver.specs.declared.registers.CalledParts.{CalledParts}
@@ -53,12 +54,14 @@ CallState call.Park what spinning = (what ≡ Some mode.Awake) × (spinning ≡ 
 CallState (call.Leave number) what spinning = Unit {0}
 CallState c what spinning = what ≡ Some mode.Awake
 
-module _ (procs : ℕ) (fresh : Bool) (turns : ℕ) (hand : PlainHand) (what : Option Mode) where
-  call_state : (here : Place) (c : Call) → act_at (seen_of procs fresh turns hand) here ≡ act.Call c → ModeAt here what → HasFewAt here → CallState c what (spins_at here)
+module _ (procs : ℕ) (fresh : Bool) (turns : ℕ) (aside : Option Aside) (hand : PlainHand) (what : Option Mode) where
+  call_state : (here : Place) (c : Call) → act_at (seen_of procs fresh turns aside hand) here ≡ act.Call c → ModeAt here what → HasFewAt here → CallState c what (spins_at here)
   call_state place.Start c is d few = subst (λ (q : Call). CallState q what (spins_at place.Start)) (call_is call.Acquire c is) d
   call_state place.Look c is d few = absurd (look_calls (nat_le 16 turns) c is)
   call_state (place.Ticking now) c is d few = subst (λ (q : Call). CallState q what (spins_at (place.Ticking now))) (call_is (call.Tick now) c is) d
   call_state place.Keep c is d few = subst (λ (q : Call). CallState q what (spins_at place.Keep)) (call_is call.Keep c is) d
+  call_state place.Glance c is d few = subst (λ (q : Call). CallState q what (spins_at place.Glance)) (call_is call.Take c is) d
+  call_state (place.Peek v) c is d few = absurd (let no : ⊥ = cc in no)
   call_state place.Drain c is d few = absurd (let no : ⊥ = cc in no)
   call_state place.PutDrain c is d few = (let w = put_calls hand.to_store c is in subst (λ (q : Call). CallState q what (spins_at place.PutDrain)) w.2 d)
   call_state place.Global c is d few = subst (λ (q : Call). CallState q what (spins_at place.Global)) (call_is call.Take c is) d
@@ -209,7 +212,7 @@ granted k m c inside s acts goes =
     let sees : Sees k.book.state m (machine_at k m) = mine.sees goes in
     let state : CallState c (slice_get k.book.state.machines.modes m.0) (spins k.book.state.machines m) =
     subst (CallState c (slice_get k.book.state.machines.modes m.0)) (sym sees.spinning)
-    (call_state (machine_at k m).procs (machine_at k m).fresh (machine_at k m).turns (machine_at k m).hand (slice_get k.book.state.machines.modes m.0) (machine_at k m).place c acts sees.does mine.few) in
+    (call_state (machine_at k m).procs (machine_at k m).fresh (machine_at k m).turns (machine_at k m).aside (machine_at k m).hand (slice_get k.book.state.machines.modes m.0) (machine_at k m).place c acts sees.does mine.few) in
     record {
       may = record { pass = mine.pass; has_pass = mine.has_pass; run = mine.run.1; its = mine.its; turn = mine.turn; seen = mine.seen };
       needs = needs k.book.state m (machine_at k m) sees (λ r some. ticket_is_out k m r s inside some) c (uses (machine_at k m) c acts (mine.driver.fits (ap is_some mine.has_pass))) state;

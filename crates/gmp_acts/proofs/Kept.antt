@@ -1,5 +1,5 @@
 -- A call that is accepted keeps what is sound.
-use Rattle.std.proofs.Common.{◌≡◌, ◌≢◌, ◌↔◌, ◌⊎◌, inl, inr, ℕ, ◌+◌, ◌<◌, ◌≤◌, true, false, List, [], ◌∷◌, ◌++◌, map, length, get_or, set, refl, sym, ap, ◌∙◌, subst, arith, Option, Some, None, is_some, sum, sum_by, slice_index, get_or-set_same, get_or-set_other}
+use Rattle.std.proofs.Common.{◌≡◌, ◌≢◌, ◌↔◌, ◌⊎◌, inl, inr, ℕ, ◌+◌, ◌<◌, ◌≤◌, true, false, List, [], ◌∷◌, ◌++◌, map, length, get_or, set, refl, sym, ap, ◌∙◌, subst, arith, Option, Some, None, is_some, sum, sum_by, slice_index, get_or-set_same, get_or-set_other, Bool, if◌then◌else◌}
 use Rattle.std.proofs.lemmas.Bool.{cases_eq, false≢true}
 use Rattle.std.proofs.lemmas.List.{length-set, map-append}
 use Rattle.std.proofs.lemmas.List.Sums.{sum_by-set}
@@ -172,8 +172,15 @@ hands_set k m x r inside = sum_by-set (λ (y : PlainMachine). in_hand r y.hand) 
 
 pub turns_few : (s : Seen) (here : Place) (what : Told) → s.turns ≤ 16 → next_turns s here what ≤ 16
 turns_few s (place.Ticking now) (told.Replied (reply.Woke n)) h = omega arith
+turns_few s place.Keep (told.Replied (reply.Answer false)) h = late (is_some s.aside) where
+  late : (b : Bool) → (if b then 16 else s.turns) ≤ 16
+  late true = omega arith
+  late false = h
 turns_few s place.Claim (told.Replied reply.Held) h = omega arith
-turns_few s (place.MindTick now) (told.Replied (reply.Woke n)) h = omega arith
+turns_few s (place.MindTick now) (told.Replied (reply.Woke n)) h = minded (is_some s.aside) where
+  minded : (b : Bool) → (if b then s.turns else 0) ≤ 16
+  minded true = h
+  minded false = omega arith
 turns_few s _ _ h = h
 
 -- whoever is woken was at Rest
@@ -237,7 +244,7 @@ module _ (k : System) (m : MNo) (c : Call) (answer : Reply) (inside : m.0 < leng
   now_at behind = after (record (machine_at k m) { pass = Some behind; hand = hand_after k.book.state.table c answer (machine_at k m).hand }) (told.Replied answer)
 
   there : Lands (machine_at k m).procs (machine_at k m).place c answer (now_at mine.pass).place (hand_after k.book.state.table c answer (machine_at k m).hand) (slice_get k.book.state.machines.modes m.0)
-  there = lands (machine_at k m).procs (machine_at k m).fresh (machine_at k m).turns k.book.state.table (machine_at k m).hand (slice_get k.book.state.machines.modes m.0) (machine_at k m).place c answer acts fits sees.does
+  there = lands (machine_at k m).procs (machine_at k m).fresh (machine_at k m).turns (machine_at k m).aside k.book.state.table (machine_at k m).hand (slice_get k.book.state.machines.modes m.0) (machine_at k m).place c answer acts fits sees.does
       (replies k.book.limits m c answer k.book.state s' step.1) (awoke k.book.limits m c answer k.book.state s' step.1)
 
   sees_after : (behind : Pass) → Sees s' m (now_at behind)
@@ -266,7 +273,7 @@ module _ (k : System) (m : MNo) (c : Call) (answer : Reply) (inside : m.0 < leng
         driver = record {
           some_procs = mine.driver.some_procs;
           few_procs = mine.driver.few_procs;
-          few_turns = turns_few (seen_of (machine_at k m).procs (machine_at k m).fresh (machine_at k m).turns (hand_after k.book.state.table c answer (machine_at k m).hand)) (machine_at k m).place (told.Replied answer) mine.driver.few_turns;
+          few_turns = turns_few (seen_of (machine_at k m).procs (machine_at k m).fresh (machine_at k m).turns (machine_at k m).aside (hand_after k.book.state.table c answer (machine_at k m).hand)) (machine_at k m).place (told.Replied answer) mine.driver.few_turns;
           pass = passes ∙ mine.run.1 ∙ sym mine.run.0;
           fits = λ _. there.fits;
         };

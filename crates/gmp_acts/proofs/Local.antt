@@ -23,7 +23,7 @@ use Rattle.gmp_driver.specs.Fits.{SuitsPlace}
 use Rattle.gmp_driver.specs.Hunt.{begun, hunted, more}
 use Rattle.gmp_driver.specs.Local.{MayCome, come_back, filled, filled_with_stolen}
 use Rattle.gmp_driver.specs.Registers.{joined, unused, used}
-use Rattle.gmp_driver.specs.Table.{act_at, after, call_for, claim_call, next_act, next_place, put_call}
+use Rattle.gmp_driver.specs.Table.{act_at, after, call_for, claim_call, next_act, next_place, put_call, is_late}
 use Rattle.gmp_acts.specs.Acts.{HasFewCases, with_ticket}
 use Rattle.gmp_acts.specs.Hands.{PlainHand, PlainMachine}
 use Rattle.gmp_acts.specs.Sound.{HasFewAt, IsEnd, ModeAt, spins_at}
@@ -86,8 +86,16 @@ module _ (what : Option Mode) where
   scans_on v w true = record { does = λ d. d; spinning = refl; few = tt; ended = λ e. e }
   scans_on v w false = record { does = λ d. d; spinning = refl; few = tt; ended = λ e. e }
 
+  peeks : (s : Seen) (v : PNo) (how : Tried) → Leads (place.Peek v) (next_place s (place.Peek v) (told.Tried how)) what
+  peeks s v (tried.Got hint) = record { does = λ d. d; spinning = refl; few = tt; ended = λ e. e }
+  peeks s v tried.Empty = record { does = λ d. d; spinning = refl; few = tt; ended = λ e. e }
+  peeks s v tried.Unsure = record { does = λ d. d; spinning = refl; few = tt; ended = λ e. e }
+
   scans : (s : Seen) (v : PNo) (how : Tried) → Leads (place.Scan v) (next_place s (place.Scan v) (told.Tried how)) what
-  scans s v (tried.Got hint) = record { does = λ d. d; spinning = refl; few = tt; ended = λ e. e }
+  scans s v (tried.Got hint) = found (is_late s) where
+    found : (b : Bool) → Leads (place.Scan v) (if b then place.PutHave else place.Have) what
+    found true = record { does = λ d. d; spinning = refl; few = tt; ended = λ e. e }
+    found false = record { does = λ d. d; spinning = refl; few = tt; ended = λ e. e }
   scans s v tried.Empty = scans_on v _ _
   scans s v tried.Unsure = record { does = λ d. d; spinning = refl; few = tt; ended = λ e. e }
 
@@ -119,6 +127,8 @@ module _ (what : Option Mode) where
   leads s t place.Block _ m f = absurd m
   leads s t (place.Scan v) (told.Tried how) m f = scans t v how
   leads s t (place.Scan v) _ m f = absurd m
+  leads s t (place.Peek v) (told.Tried how) m f = peeks t v how
+  leads s t (place.Peek v) _ m f = absurd m
   leads s t place.PutHave how m f = absurd (no_put s.to_claim how m)
   leads s t (place.Mind deadline) (told.Moment now) m f = record { does = λ d. d; spinning = refl; few = tt; ended = λ e. e }
   leads s t (place.Mind deadline) _ m f = absurd m
@@ -210,6 +220,7 @@ module _ (s : Seen) (hand : PlainHand) where
   finds (place.Do asked) f = asks asked
   finds place.Store f = (f.has_processor, f.has_to_store)
   finds place.PutStore f = puts place.PutStore s.to_store
+  finds (place.Peek v) f = none_of hand.to_store f.has_to_store
   finds (place.Scan v) f = none_of hand.to_store f.has_to_store
   finds place.PutHave f = puts place.PutHave s.to_claim
   finds place.Over f = (refl, refl)

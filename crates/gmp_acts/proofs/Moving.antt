@@ -87,13 +87,13 @@ same_values hand = record { processor = refl; held = refl; called = refl }
 -- a machine that is told something, and holds the same but for tickets, still agrees with the book
 agrees_told : (log : BookRun) (m : MNo) (x : PlainMachine) (what : Told) (hand : PlainHand) → Agrees log m x → SameValues x.hand hand
     → SuitsPlace (after (record x { hand = hand }) what).place hand
-    → Leads x.place (next_place (seen_of x.procs x.fresh x.turns hand) x.place what) (slice_get log.state.machines.modes m.0)
+    → Leads x.place (next_place (seen_of x.procs x.fresh x.turns x.aside hand) x.place what) (slice_get log.state.machines.modes m.0)
     → Agrees log m (after (record x { hand = hand }) what)
 agrees_told log m x what hand h same fits leads = record {
   driver = record {
     some_procs = h.driver.some_procs;
     few_procs = h.driver.few_procs;
-    few_turns = turns_few (seen_of x.procs x.fresh x.turns hand) x.place what h.driver.few_turns;
+    few_turns = turns_few (seen_of x.procs x.fresh x.turns x.aside hand) x.place what h.driver.few_turns;
     pass = h.driver.pass;
     fits = λ _. fits;
   };
@@ -187,13 +187,13 @@ nothing_left (Some p) None None None None e = absurd (let no : Some value.Proc �
 
 -- once the run is over
 ended_agrees : (log : BookRun) (m : MNo) (x : PlainMachine) (what : Told) (hand : PlainHand) → log.state.outcome ≢ None → Agrees log m x → SuitsPlace (after (record x { hand = hand }) what).place hand
-    → (next_place (seen_of x.procs x.fresh x.turns hand) x.place what ≡ place.Over) ⊎ (next_place (seen_of x.procs x.fresh x.turns hand) x.place what ≡ place.Done) → Has log.state m hand
+    → (next_place (seen_of x.procs x.fresh x.turns x.aside hand) x.place what ≡ place.Over) ⊎ (next_place (seen_of x.procs x.fresh x.turns x.aside hand) x.place what ≡ place.Done) → Has log.state m hand
     → Agrees log m (after (record x { hand = hand }) what)
 ended_agrees log m x what hand over h fits at has = record {
   driver = record {
     some_procs = h.driver.some_procs;
     few_procs = h.driver.few_procs;
-    few_turns = turns_few (seen_of x.procs x.fresh x.turns hand) x.place what h.driver.few_turns;
+    few_turns = turns_few (seen_of x.procs x.fresh x.turns x.aside hand) x.place what h.driver.few_turns;
     pass = h.driver.pass;
     fits = λ _. fits;
   };
@@ -233,14 +233,14 @@ module _ (k : System) (m : MNo) (inside : m.0 < length k.machines) (s : IsSound 
   found a e = subst (Finds (seen X) X.place X.hand) e (finds (seen X) X.hand X.place fits)
 
   leads_to : (a : Act) (what : Told) (hand : PlainHand) → next_act (machine_at k m) ≡ a → MayCome a what → FewTold what
-      → Leads (machine_at k m).place (next_place (seen_of (machine_at k m).procs (machine_at k m).fresh (machine_at k m).turns hand) (machine_at k m).place what) (slice_get k.book.state.machines.modes m.0)
+      → Leads (machine_at k m).place (next_place (seen_of (machine_at k m).procs (machine_at k m).fresh (machine_at k m).turns (machine_at k m).aside hand) (machine_at k m).place what) (slice_get k.book.state.machines.modes m.0)
   leads_to a what hand e may few =
-      leads (slice_get k.book.state.machines.modes m.0) (seen X) (seen_of X.procs X.fresh X.turns hand) X.place what (subst (λ (b : Act). MayCome b what) (sym e) may) few
+      leads (slice_get k.book.state.machines.modes m.0) (seen X) (seen_of X.procs X.fresh X.turns X.aside hand) X.place what (subst (λ (b : Act). MayCome b what) (sym e) may) few
 
   -- told something, with the same tickets
   told_moves : (what : Told) (hand : PlainHand) → SameValues (machine_at k m).hand hand → ((r : Readiness) → in_hand r hand ≡ in_hand r (machine_at k m).hand)
       → SuitsPlace (after (record (machine_at k m) { hand = hand }) what).place hand
-      → Leads (machine_at k m).place (next_place (seen_of (machine_at k m).procs (machine_at k m).fresh (machine_at k m).turns hand) (machine_at k m).place what) (slice_get k.book.state.machines.modes m.0)
+      → Leads (machine_at k m).place (next_place (seen_of (machine_at k m).procs (machine_at k m).fresh (machine_at k m).turns (machine_at k m).aside hand) (machine_at k m).place what) (slice_get k.book.state.machines.modes m.0)
       → Moves k m k.queues (after (record (machine_at k m) { hand = hand }) what)
   told_moves what hand same count there leads = record {
     agrees = agrees_told k.book m (machine_at k m) what hand mine same there leads;
@@ -354,7 +354,7 @@ module _ (k : System) (m : MNo) (inside : m.0 < length k.machines) (s : IsSound 
   surrenders None e =
       let at = found (act.Surrender None) e in
       let over : k.book.state.outcome ≢ None = mine.ended (subst IsEnd (sym at.0) tt) in
-      let done : next_place (seen_of X.procs X.fresh X.turns X.hand) X.place told.Nothing ≡ place.Done = ap (λ (p : Place). next_place (seen_of X.procs X.fresh X.turns X.hand) p told.Nothing) at.0 in
+      let done : next_place (seen_of X.procs X.fresh X.turns X.aside X.hand) X.place told.Nothing ≡ place.Done = ap (λ (p : Place). next_place (seen_of X.procs X.fresh X.turns X.aside X.hand) p told.Nothing) at.0 in
       moved_sound k m k.queues (after X told.Nothing) inside s (record {
         agrees = ended_agrees k.book m X told.Nothing X.hand over mine (subst (λ (p : Place). SuitsPlace p X.hand) (sym done) (nothing_left X.hand.processor X.hand.held X.hand.called X.hand.to_claim X.hand.to_store at.1)) (inr done) mine.has;
         long = refl;
@@ -365,7 +365,7 @@ module _ (k : System) (m : MNo) (inside : m.0 < length k.machines) (s : IsSound 
       let at = found (act.Surrender (Some which)) e in
       let over : k.book.state.outcome ≢ None = mine.ended (subst IsEnd (sym at.0) tt) in
       let hand : PlainHand = but (Some which) X.hand in
-      let still : next_place (seen_of X.procs X.fresh X.turns hand) X.place told.Surrendered ≡ place.Over = ap (λ (p : Place). next_place (seen_of X.procs X.fresh X.turns hand) p told.Surrendered) at.0 in
+      let still : next_place (seen_of X.procs X.fresh X.turns X.aside hand) X.place told.Surrendered ≡ place.Over = ap (λ (p : Place). next_place (seen_of X.procs X.fresh X.turns X.aside hand) p told.Surrendered) at.0 in
       moved_sound k m k.queues (after (record X { hand = hand }) told.Surrendered) inside s (record {
         agrees = ended_agrees k.book m X told.Surrendered hand over mine (subst (λ (p : Place). SuitsPlace p hand) (sym still) tt) (inl still) (record {
           holds = λ p q. mine.has.holds p (but_processor which X.hand p q);
@@ -382,7 +382,7 @@ module _ (k : System) (m : MNo) (inside : m.0 < length k.machines) (s : IsSound 
   stops over =
       moved_sound k m k.queues (after X (told.Refused Over)) inside s (record {
         agrees = ended_agrees k.book m X (told.Refused Over) X.hand over mine
-            (subst (λ (p : Place). SuitsPlace p X.hand) (sym (over_from (seen_of X.procs X.fresh X.turns X.hand) X.place)) tt) (inl (over_from (seen_of X.procs X.fresh X.turns X.hand) X.place)) mine.has;
+            (subst (λ (p : Place). SuitsPlace p X.hand) (sym (over_from (seen_of X.procs X.fresh X.turns X.aside X.hand) X.place)) tt) (inl (over_from (seen_of X.procs X.fresh X.turns X.aside X.hand) X.place)) mine.has;
         long = refl;
         at_most = λ r. omega arith;
         same = λ goes r. refl;
@@ -393,7 +393,7 @@ module _ (k : System) (m : MNo) (inside : m.0 < length k.machines) (s : IsSound 
       → IsSound (record k { machines = set k.machines m.0 (after (record (machine_at k m) { hand = hand_unmade (machine_at k m).hand }) (told.Refused OutOfMemory)) })
   wants capacity e =
       let at : X.place ≡ place.Do (ask.Make capacity) = found (act.Call (call.Make capacity)) e in
-      let goes : next_place (seen_of X.procs X.fresh X.turns (hand_unmade X.hand)) X.place (told.Refused OutOfMemory) ≡ place.Run = ap (λ (p : Place). next_place (seen_of X.procs X.fresh X.turns (hand_unmade X.hand)) p (told.Refused OutOfMemory)) at in
+      let goes : next_place (seen_of X.procs X.fresh X.turns X.aside (hand_unmade X.hand)) X.place (told.Refused OutOfMemory) ≡ place.Run = ap (λ (p : Place). next_place (seen_of X.procs X.fresh X.turns X.aside (hand_unmade X.hand)) p (told.Refused OutOfMemory)) at in
       let was : Runs X.hand = subst (λ (p : Place). SuitsPlace p X.hand) at fits in
       moved_sound k m k.queues _ inside s (told_moves (told.Refused OutOfMemory) (hand_unmade X.hand)
       (record { processor = refl; held = retold_number woke.NoMemory X.hand.held; called = refl }) (λ r. refl)

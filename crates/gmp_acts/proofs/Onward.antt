@@ -1,5 +1,5 @@
 -- Each act leads somewhere, and what was told at the opening stays.
-use Rattle.std.proofs.Common.{◌≡◌, ◌≢◌, ◌⊎◌, inl, inr, ℕ, suc, ◌+◌, ◌<◌, List, [], ◌∷◌, ◌++◌, length, set, refl, sym, ap, ◌∙◌, subst, arith, sum, Option, Some, None}
+use Rattle.std.proofs.Common.{◌≡◌, ◌≢◌, ◌⊎◌, inl, inr, ℕ, suc, ◌+◌, ◌<◌, List, [], ◌∷◌, ◌++◌, length, set, refl, sym, ap, ◌∙◌, subst, arith, sum, Option, Some, None, Bool}
 use Rattle.std.specs.Prelude.{All}
 use Rattle.std.proofs.lemmas.Bool.{cases_lt}
 use Rattle.gmp_base.specs.declared.number.MNo.{MNo}
@@ -157,11 +157,11 @@ all_opened (move ∷ moves) k k' all =
     let rest = all_opened moves all.0 k' all.2 in
     record { run = rest.run ∙ one.run; limits = rest.limits ∙ one.limits; bodies = rest.bodies ∙ one.bodies; capacities = rest.capacities ∙ one.capacities }
 
-pub headline_after : (run : ℕ) (limits : Limits) (bodies : ℕ) (capacities : List ℕ) (moves : List (MNo × Choice)) (end : System) → AreLimits limits bodies capacities
-    → ActsAll (opening_system run limits bodies capacities) moves end → Headline run limits bodies capacities end
-headline_after run limits bodies capacities moves end are all =
-    let same = all_opened moves (opening_system run limits bodies capacities) end all in
-    let head : Headline end.book.run end.book.limits end.book.bodies end.book.capacities end = headline_of end (all_sound moves (opening_system run limits bodies capacities) end all (opening_sound run limits bodies capacities are)) in
+pub headline_after : (is_fair : Bool) (run : ℕ) (limits : Limits) (bodies : ℕ) (capacities : List ℕ) (moves : List (MNo × Choice)) (end : System) → AreLimits limits bodies capacities
+    → ActsAll (opening_system is_fair run limits bodies capacities) moves end → Headline run limits bodies capacities end
+headline_after is_fair run limits bodies capacities moves end are all =
+    let same = all_opened moves (opening_system is_fair run limits bodies capacities) end all in
+    let head : Headline end.book.run end.book.limits end.book.bodies end.book.capacities end = headline_of end (all_sound moves (opening_system is_fair run limits bodies capacities) end all (opening_sound is_fair run limits bodies capacities are)) in
     subst (λ (n : ℕ). Headline n limits bodies capacities end) same.run
     (subst (λ (l : Limits). Headline end.book.run l bodies capacities end) same.limits
     (subst (λ (n : ℕ). Headline end.book.run end.book.limits n capacities end) same.bodies (subst (λ (c : List ℕ). Headline end.book.run end.book.limits end.book.bodies c end) same.capacities head)))

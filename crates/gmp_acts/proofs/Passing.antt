@@ -18,13 +18,15 @@ use Rattle.gmp_driver.specs.declared.act.Told.{Told}
 use Rattle.gmp_driver.specs.declared.act.Told.TheVariants as told
 use Rattle.gmp_driver.specs.declared.act.Tried.{Tried}
 use Rattle.gmp_driver.specs.declared.act.Tried.TheVariants as tried
+use Rattle.gmp_driver.specs.declared.place.Aside.{Aside}
+use Rattle.gmp_driver.specs.declared.place.Aside.TheVariants as aside
 use Rattle.gmp_driver.specs.declared.place.Place.{Place}
 use Rattle.gmp_driver.specs.declared.place.Place.TheVariants as place
 use Rattle.gmp_driver.specs.declared.place.Round.{Round}
 use Rattle.gmp_driver.specs.declared.seen.Seen.{Seen}
 use Rattle.gmp_driver.specs.Hunt.{begun, hunted, more}
 use Rattle.gmp_driver.specs.Local.{MayCome}
-use Rattle.gmp_driver.specs.Table.{act_at, after_ask, call_for, next_place, raised}
+use Rattle.gmp_driver.specs.Table.{act_at, after_ask, call_for, next_place, raised, aside_at, is_late}
 use Rattle.gmp_acts.specs.Lookouts.{has_passed}
 use Rattle.gmp_acts.specs.Sound.{ModeAt}
 use Rattle.gmp_acts.proofs.Local.{no_claim, no_put}
@@ -70,6 +72,11 @@ goes_up asked reply.Default k = record { awake = λ w d. d; ahead = λ q. refl }
 goes_up asked (reply.Fault f) k = record { awake = λ w d. d; ahead = λ q. refl }
 goes_up asked _ k = absurd k
 
+up_aside : (a : Option Aside) → IsUp (aside_at a)
+up_aside None = record { awake = λ w d. d; ahead = λ q. refl }
+up_aside (Some (aside.Shelf v)) = record { awake = λ w d. d; ahead = λ q. refl }
+up_aside (Some (aside.Queue v)) = record { awake = λ w d. d; ahead = λ q. refl }
+
 module _ (s t : Seen) where
   abbrev To : Place → Reply → Call → Type 0
   To here answer c = CanReply c answer → Leaves here c answer (next_place t here (told.Replied answer))
@@ -81,15 +88,20 @@ module _ (s t : Seen) where
 
   at_ticking : (now : ℕ) (answer : Reply) → To (place.Ticking now) answer (call.Tick now)
   at_ticking now (reply.Woke n) k = inl (by_procs (t.procs == 1)) where
-    by_procs : (b : Bool) → IsUp (if b then place.Look else place.Keep)
-    by_procs true = record { awake = λ w d. d; ahead = λ q. refl }
+    by_procs : (b : Bool) → IsUp (if b then aside_at t.aside else place.Keep)
+    by_procs true = up_aside t.aside
     by_procs false = record { awake = λ w d. d; ahead = λ q. refl }
   at_ticking now _ k = absurd k
 
   at_keep : (answer : Reply) → To place.Keep answer call.Keep
-  at_keep (reply.Answer true) k = inl (record { awake = λ w d. d; ahead = λ q. refl })
+  at_keep (reply.Answer true) k = inl (up_aside t.aside)
   at_keep (reply.Answer false) k = inl (record { awake = λ w d. d; ahead = λ q. refl })
   at_keep _ k = absurd k
+
+  at_glance : (answer : Reply) → To place.Glance answer call.Take
+  at_glance (reply.Ticket r) k = inl (record { awake = λ w d. d; ahead = λ q. refl })
+  at_glance reply.Nothing k = inl (record { awake = λ w d. d; ahead = λ q. refl })
+  at_glance _ k = absurd k
 
   at_put_drain : (r : Readiness) (answer : Reply) → To place.PutDrain answer (call.Put r)
   at_put_drain r reply.Shelf k = inl (record { awake = λ w d. d; ahead = λ q. refl })
@@ -172,7 +184,10 @@ module _ (s t : Seen) where
   at_have _ k = absurd k
 
   at_put_have : (r : Readiness) (answer : Reply) → To place.PutHave answer (call.Put r)
-  at_put_have r reply.Shelf k = inl (record { awake = λ w d. d; ahead = λ q. refl })
+  at_put_have r reply.Shelf k = inl (by_late (is_late t)) where
+    by_late : (b : Bool) → IsUp (if b then place.Start else place.Bare)
+    by_late true = record { awake = λ w d. d; ahead = λ q. refl }
+    by_late false = record { awake = λ w d. d; ahead = λ q. refl }
   at_put_have r _ k = absurd k
 
   at_park : (answer : Reply) → To place.Park answer call.Park
@@ -198,6 +213,8 @@ module _ (s t : Seen) where
   after_call place.Look c answer is k = absurd (look_calls (nat_le 16 s.turns) c is)
   after_call (place.Ticking now) c answer is k = subst (To (place.Ticking now) answer) (call_is (call.Tick now) c is) (at_ticking now answer) k
   after_call place.Keep c answer is k = subst (To place.Keep answer) (call_is call.Keep c is) (at_keep answer) k
+  after_call place.Glance c answer is k = subst (To place.Glance answer) (call_is call.Take c is) (at_glance answer) k
+  after_call (place.Peek v) c answer is k = absurd (let no : ⊥ = cc in no)
   after_call place.Drain c answer is k = absurd (let no : ⊥ = cc in no)
   after_call place.PutDrain c answer is k = (let w = put_calls s.to_store c is in subst (To place.PutDrain answer) w.2 (at_put_drain w.0 answer) k)
   after_call place.Global c answer is k = subst (To place.Global answer) (call_is call.Take c is) (at_global answer) k
@@ -285,9 +302,17 @@ module _ (s t : Seen) (q : PNo) where
       ]
 
   scans : (v : PNo) (how : Tried) → has_passed (next_place t (place.Scan v) (told.Tried how)) q ≡ true → Passes (place.Scan v) (told.Tried how)
-  scans v (tried.Got hint) e = absurd (false≢true e)
+  scans v (tried.Got hint) e = absurd (found_not (is_late t) e) where
+    found_not : (b : Bool) → has_passed (if b then place.PutHave else place.Have) q ≡ true → ⊥
+    found_not true h = false≢true h
+    found_not false h = false≢true h
   scans v tried.Empty e = scanned_by v (nat_lt (v.0 + 1) t.procs) refl e
   scans v tried.Unsure e = inl e
+
+  peeked_not : (v : PNo) (how : Tried) → has_passed (next_place t (place.Peek v) (told.Tried how)) q ≡ true → ⊥
+  peeked_not v (tried.Got hint) e = false≢true e
+  peeked_not v tried.Empty e = false≢true e
+  peeked_not v tried.Unsure e = false≢true e
 
   pub passes : (here : Place) (how : Told) → MayCome (act_at s here) how → has_passed (next_place t here how) q ≡ true → Passes here how
   passes place.Look how m e = absurd (looked_not (nat_le 16 s.turns) how m e)
@@ -316,6 +341,8 @@ module _ (s t : Seen) (q : PNo) where
   passes place.Block _ m e = absurd m
   passes (place.Scan v) (told.Tried how) m e = scans v how e
   passes (place.Scan v) _ m e = absurd m
+  passes (place.Peek v) (told.Tried how) m e = absurd (peeked_not v how e)
+  passes (place.Peek v) _ m e = absurd m
   passes place.PutHave how m e = absurd (no_put s.to_claim how m)
   passes (place.Mind deadline) (told.Moment now) m e = absurd (false≢true e)
   passes (place.Mind deadline) _ m e = absurd m

@@ -3,6 +3,7 @@ use Rattle.std.proofs.Common.{◌≡◌, ℕ, Bool, is_some, Option, None, Some,
 use Rattle.std.specs.Option.{option_map}
 use Rattle.gmp_base.specs.declared.number.Readiness.{Readiness}
 use Rattle.gmp_driver.specs.declared.act.Told.{Told}
+use Rattle.gmp_driver.specs.declared.place.Aside.{Aside}
 use Rattle.gmp_driver.specs.declared.place.Place.{Place}
 use Rattle.gmp_driver.specs.declared.place.Place.TheVariants as place
 use Rattle.gmp_driver.specs.declared.registers.CalledParts.{CalledParts}
@@ -33,12 +34,12 @@ first_plain p None None None (Some x) = refl
 first_plain (Some x) None None None None = refl
 first_plain None None None None None = refl
 
-pub seen_plain : {T Q : Type 0} (procs : ℕ) (fresh : Bool) (turns : ℕ) (hand : Registers T Q) → seen_of procs fresh turns (plain hand) ≡ seen_of procs fresh turns hand
-seen_plain procs fresh turns hand = rw (number_plain hand.processor, first_plain hand.processor hand.held hand.called hand.to_claim hand.to_store) refl
+pub seen_plain : {T Q : Type 0} (procs : ℕ) (fresh : Bool) (turns : ℕ) (aside : Option Aside) (hand : Registers T Q) → seen_of procs fresh turns aside (plain hand) ≡ seen_of procs fresh turns aside hand
+seen_plain procs fresh turns aside hand = rw (number_plain hand.processor, first_plain hand.processor hand.held hand.called hand.to_claim hand.to_store) refl
 
 -- told something in plain parts
 pub after_plain : {T Q : Type 0} (x : Machine T Q) (what : Told) → plain_machine (after x what) ≡ after (plain_machine x) what
-after_plain x what = rw (seen_plain x.procs x.fresh x.turns x.hand) refl
+after_plain x what = rw (seen_plain x.procs x.fresh x.turns x.aside x.hand) refl
 
 module _ {T Q : Type 0} (hand : Registers T Q) where
   to_plain : {p h c t s : Bool} → IsFilled p h c t s hand → IsFilled p h c t s (plain hand)

@@ -135,7 +135,7 @@ module _ (k : System) (m : MNo) (c : Call) (x : PlainMachine) (book : BookRun) (
 
   there : Leaves (machine_at k m).place c done.answer x.place
   there = subst (Leaves (machine_at k m).place c done.answer) (sym (ap (λ (y : PlainMachine). y.place) done.machine))
-      (after_call (seen (machine_at k m)) (seen_of (machine_at k m).procs (machine_at k m).fresh (machine_at k m).turns (hand_after k.book.state.table c done.answer (machine_at k m).hand)) (machine_at k m).place c done.answer acts
+      (after_call (seen (machine_at k m)) (seen_of (machine_at k m).procs (machine_at k m).fresh (machine_at k m).turns (machine_at k m).aside (hand_after k.book.state.table c done.answer (machine_at k m).hand)) (machine_at k m).place c done.answer acts
       (replies k.book.limits m c done.answer k.book.state book.state done.step.1))
 
   up_awake : book.state.outcome ≡ None → IsUp x.place → IsAwake book.state.machines m
@@ -315,7 +315,7 @@ module _ (k : System) (m : MNo) (inside : m.0 < length k.machines) (s : IsSound 
       → ((v : PNo) → (machine_at k m).place ≡ place.Scan v → what ≡ told.Tried tried.Empty → queue_at k v ≡ [])
       → has_passed (after (record (machine_at k m) { hand = hand }) what).place q ≡ true → has_passed (machine_at k m).place q ≡ true
   passes_none a what hand q e may some empty passed =
-      by_passes (passes (seen X) (seen_of X.procs X.fresh X.turns hand) q X.place what (subst (λ (b : Act). MayCome b what) (sym e) may) passed)
+      by_passes (passes (seen X) (seen_of X.procs X.fresh X.turns X.aside hand) q X.place what (subst (λ (b : Act). MayCome b what) (sym e) may) passed)
     where
       by_passes : (has_passed X.place q ≡ true) ⊎ IsPassing X.procs q X.place what → has_passed X.place q ≡ true
       by_passes (inl before) = before
@@ -385,7 +385,7 @@ module _ (k : System) (m : MNo) (inside : m.0 < length k.machines) (s : IsSound 
       → IsWatchful (with_local k m (after (record (machine_at k m) { hand = hand }) told.Pushed, queues))
   push_watchful queues hand e sound =
       let y : PlainMachine = after (record X { hand = hand }) told.Pushed in
-      let up : IsUp y.place = up_after_push (seen X) (seen_of X.procs X.fresh X.turns hand) X.place (subst (λ (b : Act). MayCome b told.Pushed) (sym e) tt) in
+      let up : IsUp y.place = up_after_push (seen X) (seen_of X.procs X.fresh X.turns X.aside hand) X.place (subst (λ (b : Act). MayCome b told.Pushed) (sym e) tt) in
       let long = length-set k.machines m.0 y in
       moved_watchful k m inside w queues y (λ goes q some.
       let now = (sound.each m (omega (arith, inside, long))).sees goes in
@@ -414,7 +414,7 @@ module _ (k : System) (m : MNo) (inside : m.0 < length k.machines) (s : IsSound 
   wants capacity e =
       let at : X.place ≡ place.Do (ask.Make capacity) = found k m inside s (act.Call (call.Make capacity)) e in
       let y : PlainMachine = after (record X { hand = hand_unmade X.hand }) (told.Refused OutOfMemory) in
-      let goes_on : y.place ≡ place.Run = ap (λ (p : Place). next_place (seen_of X.procs X.fresh X.turns (hand_unmade X.hand)) p (told.Refused OutOfMemory)) at in
+      let goes_on : y.place ≡ place.Run = ap (λ (p : Place). next_place (seen_of X.procs X.fresh X.turns X.aside (hand_unmade X.hand)) p (told.Refused OutOfMemory)) at in
       moved_watchful k m inside w k.queues y (λ goes q some.
       inl (some, λ passed. absurd (let no : has_passed y.place q ≡ false = ap (λ (p : Place). has_passed p q) goes_on in false≢true (sym no ∙ passed))))
 
@@ -458,8 +458,8 @@ all_watchful [] k k' all s w = subst IsWatchful (sym all) w
 all_watchful (move ∷ moves) k k' all s w = all_watchful moves all.0 k' all.2 (act_sound k move.0 move.1 all.0 all.1 s) (act_watchful k move.0 move.1 all.0 all.1 s w)
 
 -- The opening: all queues are empty, and all machines awake
-pub opening_watchful : (run : ℕ) (limits : Limits) (bodies : ℕ) (capacities : List ℕ) → AreLimits limits bodies capacities → IsWatchful (opening_system run limits bodies capacities)
-opening_watchful run limits bodies capacities are = record {
+pub opening_watchful : (is_fair : Bool) (run : ℕ) (limits : Limits) (bodies : ℕ) (capacities : List ℕ) → AreLimits limits bodies capacities → IsWatchful (opening_system is_fair run limits bodies capacities)
+opening_watchful is_fair run limits bodies capacities are = record {
   watched = λ goes q some. absurd (some (no_queue q));
   awake = λ goes nobody m parked. absurd (
       let row = row_there limits.machines 0 mode.Awake (let a = are.procs.0 in let b = are.machines.0 in omega (arith, a, b)) in
@@ -468,13 +468,13 @@ opening_watchful run limits bodies capacities are = record {
   none : List Readiness
   none = []
 
-  no_queue : (q : PNo) → queue_at (opening_system run limits bodies capacities) q ≡ []
+  no_queue : (q : PNo) → queue_at (opening_system is_fair run limits bodies capacities) q ≡ []
   no_queue q = elim (cases_lt q.0 limits.procs) [
     | inl inside ↦ get_or-replicate limits.procs q.0 none none inside
     | inr past ↦ get_or_past (replicate limits.procs none) q.0 none (let l = length-replicate limits.procs none in omega (arith, l, past))
   ]
 
-pub awake_after : (run : ℕ) (limits : Limits) (bodies : ℕ) (capacities : List ℕ) (moves : List (MNo × Choice)) (end : System) → AreLimits limits bodies capacities
-    → ActsAll (opening_system run limits bodies capacities) moves end → NoWorkIsAsleep end
-awake_after run limits bodies capacities moves end are all =
-    (all_watchful moves (opening_system run limits bodies capacities) end all (opening_sound run limits bodies capacities are) (opening_watchful run limits bodies capacities are)).awake
+pub awake_after : (is_fair : Bool) (run : ℕ) (limits : Limits) (bodies : ℕ) (capacities : List ℕ) (moves : List (MNo × Choice)) (end : System) → AreLimits limits bodies capacities
+    → ActsAll (opening_system is_fair run limits bodies capacities) moves end → NoWorkIsAsleep end
+awake_after is_fair run limits bodies capacities moves end are all =
+    (all_watchful moves (opening_system is_fair run limits bodies capacities) end all (opening_sound is_fair run limits bodies capacities are) (opening_watchful is_fair run limits bodies capacities are)).awake

@@ -127,7 +127,7 @@ opening_status : (n i : ℕ) (x : Goroutine) → slice_get (first_goroutine ∷ 
 opening_status n zero x at = inl (let same : x ≡ first_goroutine = cc in same)
 opening_status n (suc i) x at = inr (sym (same_row n i dormant x at))
 
-module _ (run : ℕ) (limits : Limits) (bodies : ℕ) (capacities : List ℕ) (are : AreLimits limits bodies capacities) where
+module _ (is_fair : Bool) (run : ℕ) (limits : Limits) (bodies : ℕ) (capacities : List ℕ) (are : AreLimits limits bodies capacities) where
   abbrev start : State
   start = opening limits bodies capacities
 
@@ -158,7 +158,7 @@ module _ (run : ℕ) (limits : Limits) (bodies : ℕ) (capacities : List ℕ) (a
               (λ calls. let e : Some status.Dormant ≡ Some (status.Calling m) = ap (λ (y : Goroutine). Some y.status) (sym is) ∙ calls in cc) (status_is x.status h)
         ]
 
-  starts : (m : MNo) → m.0 < limits.machines → Agrees (opening_run run limits bodies capacities) m (machine_at_start run limits m.0)
+  starts : (m : MNo) → m.0 < limits.machines → Agrees (opening_run run limits bodies capacities) m (machine_at_start is_fair run limits m.0)
   starts m inside = record {
     driver = record {
       some_procs = are.procs.0;
@@ -190,20 +190,20 @@ module _ (run : ℕ) (limits : Limits) (bodies : ℕ) (capacities : List ℕ) (a
     };
   }
 
-  at_start : (m : MNo) → m.0 < limits.machines → machine_at (opening_system run limits bodies capacities) m ≡ machine_at_start run limits m.0
-  at_start m inside = get_or-map-range_with_len (machine_at_start run limits) 0 limits.machines m.0 m.0 no_machine inside (omega arith)
+  at_start : (m : MNo) → m.0 < limits.machines → machine_at (opening_system is_fair run limits bodies capacities) m ≡ machine_at_start is_fair run limits m.0
+  at_start m inside = get_or-map-range_with_len (machine_at_start is_fair run limits) 0 limits.machines m.0 m.0 no_machine inside (omega arith)
 
-  none_elsewhere : (r : Readiness) → elsewhere r (opening_system run limits bodies capacities) ≡ 0
+  none_elsewhere : (r : Readiness) → elsewhere r (opening_system is_fair run limits bodies capacities) ≡ 0
   none_elsewhere r =
       let queues : sum_by (in_queue r) (replicate limits.procs []) ≡ 0 = sum_by-replicate (in_queue r) limits.procs [] ∙ omega arith in
-      let hands : sum_by (λ (x : PlainMachine). in_hand r x.hand) (opening_system run limits bodies capacities).machines ≡ 0 =
-      sum_zero (λ (x : PlainMachine). in_hand r x.hand) (opening_system run limits bodies capacities).machines no_machine
-      (λ i l. ap (λ (x : PlainMachine). in_hand r x.hand) (at_start (record { 0 = i }) (let n = length-map-range_with_len (machine_at_start run limits) 0 limits.machines in omega (arith, l, n)))) in
+      let hands : sum_by (λ (x : PlainMachine). in_hand r x.hand) (opening_system is_fair run limits bodies capacities).machines ≡ 0 =
+      sum_zero (λ (x : PlainMachine). in_hand r x.hand) (opening_system is_fair run limits bodies capacities).machines no_machine
+      (λ i l. ap (λ (x : PlainMachine). in_hand r x.hand) (at_start (record { 0 = i }) (let n = length-map-range_with_len (machine_at_start is_fair run limits) 0 limits.machines in omega (arith, l, n)))) in
       omega (arith, queues, hands)
 
-  pub opening_sound : IsSound (opening_system run limits bodies capacities)
+  pub opening_sound : IsSound (opening_system is_fair run limits bodies capacities)
   opening_sound =
-      let count = length-map-range_with_len (machine_at_start run limits) 0 limits.machines in
+      let count = length-map-range_with_len (machine_at_start is_fair run limits) 0 limits.machines in
       record {
         within = are;
         legal = refl;

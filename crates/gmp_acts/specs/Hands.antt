@@ -43,7 +43,7 @@ plain hand = record {
 }
 
 abbrev pub plain_machine : {T Q : Type 0} → Machine T Q → PlainMachine
-plain_machine x = record { run = x.run; procs = x.procs; place = x.place; fresh = x.fresh; turns = x.turns; pass = x.pass; hand = plain x.hand }
+plain_machine x = record { run = x.run; procs = x.procs; place = x.place; fresh = x.fresh; turns = x.turns; aside = x.aside; pass = x.pass; hand = plain x.hand }
 
 -- Goroutines in hand
 

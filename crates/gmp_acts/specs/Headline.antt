@@ -1,5 +1,6 @@
 -- What holds after every list of acts.
-use Rattle.std.specs.Prelude.{◌≡◌, ◌⊎◌, ◌↔◌, ℕ, ◌<◌, ◌≤◌, List, [], ◌∷◌, ◌++◌, map, None, Some, false, length, replicate, count_by}
+use Rattle.std.specs.Prelude.{◌≡◌, ◌⊎◌, ◌↔◌, ℕ, ◌<◌, ◌≤◌, List, [], ◌∷◌, ◌++◌, map, None, Some, false, length, replicate, count_by, Bool}
+use Rattle.gmp_driver.specs.Table.{first_aside}
 use Rattle.std.specs.List.{range_with_len}
 use Rattle.gmp_base.specs.declared.number.GNo.{GNo}
 use Rattle.gmp_base.specs.declared.number.MNo.{MNo}
@@ -80,23 +81,24 @@ NoClaimIsRefused k m k' = m.0 < length k.machines → (machine_at k m).place ≡
 
 -- The opening
 
--- machine m at its start, with nothing in hand, its pass unused
-abbrev pub machine_at_start : ℕ → Limits → ℕ → PlainMachine
-machine_at_start run limits m = record {
+-- machine m at its start, with nothing in hand, its pass unused; fair or not
+abbrev pub machine_at_start : Bool → ℕ → Limits → ℕ → PlainMachine
+machine_at_start is_fair run limits m = record {
   run = run;
   procs = limits.procs;
   place = place.Start;
   fresh = false;
   turns = 0;
+  aside = first_aside is_fair;
   pass = Some (record { run = run; m = record { 0 = m }; calls = 0; seen = 0 });
   hand = nothing;
 }
 
 -- no call, empty queues, and each machine at its start
-abbrev pub opening_system : ℕ → Limits → ℕ → List ℕ → System
-opening_system run limits bodies capacities = record {
+abbrev pub opening_system : Bool → ℕ → Limits → ℕ → List ℕ → System
+opening_system is_fair run limits bodies capacities = record {
   book = opening_run run limits bodies capacities;
   queues = replicate limits.procs [];
-  machines = map (machine_at_start run limits) (range_with_len 0 limits.machines);
+  machines = map (machine_at_start is_fair run limits) (range_with_len 0 limits.machines);
   own = [];
 }

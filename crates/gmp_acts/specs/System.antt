@@ -48,7 +48,7 @@ pub record System : Type 0 where
 
 -- what `machine_at` answers for a number that no machine has
 abbrev pub no_machine : PlainMachine
-no_machine = record { run = 0; procs = 1; place = Start; fresh = false; turns = 0; pass = None; hand = nothing }
+no_machine = record { run = 0; procs = 1; place = Start; fresh = false; turns = 0; aside = None; pass = None; hand = nothing }
 
 abbrev pub machine_at : System → MNo → PlainMachine
 machine_at k m = slice_index_or k.machines m.0 no_machine

@@ -2,5 +2,6 @@ pub mod Local
 pub mod Onward
 pub mod OwnQueue
 pub mod Parts
+pub mod Unfair
 pub mod Uses
 mod OfRun

@@ -14,6 +14,7 @@ use Rattle.gmp_driver.specs.declared.act.Told.{Told}
 use Rattle.gmp_driver.specs.declared.act.Told.TheVariants as told
 use Rattle.gmp_driver.specs.declared.act.Tried.{Tried}
 use Rattle.gmp_driver.specs.declared.act.Tried.TheVariants as tried
+use Rattle.gmp_driver.specs.declared.place.Aside.{Aside}
 use Rattle.gmp_driver.specs.declared.place.Place.{Place}
 use Rattle.gmp_driver.specs.declared.place.Place.TheVariants as place
 use Rattle.gmp_driver.specs.declared.place.Round.{Round}
@@ -105,9 +106,9 @@ module _ {T Q : Type 0} where
     to_store = one c.to_store l.to_store came.to_store left.to_store (ap (λ (y : Filled). y.to_store) e) (ap (λ (y : Filled). y.to_store) d) (ap (λ (y : Filled). y.to_store) m);
   }
 
-module _ {T Q : Type 0} (procs : ℕ) (fresh : Bool) (turns : ℕ) (hand : Registers T Q) where
+module _ {T Q : Type 0} (procs : ℕ) (fresh : Bool) (turns : ℕ) (aside : Option Aside) (hand : Registers T Q) where
   abbrev FitsAt : Place → Told → Registers T Q → Type 0
-  FitsAt here what hand' = SuitsPlace (next_place (seen_of procs fresh turns hand') here what) hand'
+  FitsAt here what hand' = SuitsPlace (next_place (seen_of procs fresh turns aside hand') here what) hand'
 
   -- which registers are filled then
   abbrev behind : Told → Filled
@@ -183,18 +184,27 @@ module _ {T Q : Type 0} (procs : ℕ) (fresh : Bool) (turns : ℕ) (hand : Regis
     by tried.Empty = at (act.Steal w) (place.More v goal) (told.Tried tried.Empty) _ was refl refl refl refl (λ h is. unspun true h (is_filled h _ is))
     by tried.Unsure = at (act.Steal w) (place.More v goal) (told.Tried tried.Unsure) _ was refl refl refl refl (λ h is. unspun true h (is_filled h _ is))
 
+  scan_found : (b : Bool) (hand' : Registers T Q) → IsFilled false false false true false hand' → SuitsPlace (if b then place.PutHave else place.Have) hand'
+  scan_found true hand' f = f
+  scan_found false hand' f = f
+
+  at_peek : (v w : PNo) (how : Tried) → SuitsPlace (place.Peek v) hand → Can (act.Steal w) (place.Peek v) (told.Tried how)
+  at_peek v w (tried.Got hint) f = at (act.Steal w) (place.Peek v) (told.Tried (tried.Got hint)) _ (with_proc f) refl refl refl refl (λ h is. is_filled h _ is)
+  at_peek v w tried.Empty f = at (act.Steal w) (place.Peek v) (told.Tried tried.Empty) _ (with_proc f) refl refl refl refl (λ h is. is_filled h _ is)
+  at_peek v w tried.Unsure f = at (act.Steal w) (place.Peek v) (told.Tried tried.Unsure) _ (with_proc f) refl refl refl refl (λ h is. is_filled h _ is)
+
   at_scan : (v w : PNo) (how : Tried) → SuitsPlace (place.Scan v) hand → Can (act.Steal w) (place.Scan v) (told.Tried how)
   at_scan v w how f = by how where
     was : filled hand ≡ none
     was = shape hand false false false false false f
 
     by : (how : Tried) → Can (act.Steal w) (place.Scan v) (told.Tried how)
-    by (tried.Got hint) = at (act.Steal w) (place.Scan v) (told.Tried (tried.Got hint)) _ was refl refl refl refl (λ h is. is_filled h _ is)
+    by (tried.Got hint) = at (act.Steal w) (place.Scan v) (told.Tried (tried.Got hint)) _ was refl refl refl refl (λ h is. scan_found _ h (is_filled h _ is))
     by tried.Empty = at (act.Steal w) (place.Scan v) (told.Tried tried.Empty) _ was refl refl refl refl (λ h is. scans_on _ _ h (is_filled h _ is))
     by tried.Unsure = at (act.Steal w) (place.Scan v) (told.Tried tried.Unsure) _ was refl refl refl refl (λ h is. is_filled h _ is)
 
-  pub at_place : (here : Place) (what : Told) → SuitsPlace here hand → MayCome (act_at (seen_of procs fresh turns hand) here) what
-      → Can (act_at (seen_of procs fresh turns hand) here) here what
+  pub at_place : (here : Place) (what : Told) → SuitsPlace here hand → MayCome (act_at (seen_of procs fresh turns aside hand) here) what
+      → Can (act_at (seen_of procs fresh turns aside hand) here) here what
   at_place place.Look what f m = at_look (nat_le 16 turns) what f m
   at_place place.Drain told.Drained f m = at act.Drain place.Drain told.Drained _ (with_proc f) refl refl refl refl (λ h is. is_filled h _ is)
   at_place place.Drain told.Empty f m = at act.Drain place.Drain told.Empty _ (with_proc f) refl refl refl refl (λ h is. is_filled h _ is)
@@ -221,6 +231,8 @@ module _ {T Q : Type 0} (procs : ℕ) (fresh : Bool) (turns : ℕ) (hand : Regis
   at_place place.Block _ f m = absurd m
   at_place (place.Scan v) (told.Tried how) f m = at_scan v v how f
   at_place (place.Scan v) _ f m = absurd m
+  at_place (place.Peek v) (told.Tried how) f m = at_peek v v how f
+  at_place (place.Peek v) _ f m = absurd m
   at_place place.PutHave what f m = absurd (no_put hand.to_claim what m)
   at_place (place.Mind deadline) (told.Moment now) f m = at (act.Clock (Some deadline)) (place.Mind deadline) (told.Moment now) _ (shape hand false false false false false f) refl refl refl refl (λ h is. is_filled h _ is)
   at_place (place.Mind deadline) _ f m = absurd m
@@ -251,11 +263,11 @@ loaded run pass hand =
 -- what came of such an act can be told where the machine holds this, and the next place suits it
 pub suits_then : {T Q : Type 0} (x : Machine T Q) (what : Told) (hand : Registers T Q) → SuitsPlace x.place x.hand → MayCome (next_act x) what
     → filled hand ≡ come_back what (is_some x.hand.to_claim) (filled x.hand) → SuitsPlace (after (record x { hand = hand }) what).place hand
-suits_then x what hand f m e = (at_place x.procs x.fresh x.turns x.hand x.place what f m).0 hand e
+suits_then x what hand f m e = (at_place x.procs x.fresh x.turns x.aside x.hand x.place what f m).0 hand e
 
 pub can_be_told : {T Q : Type 0} (x : Machine T Q) (what : Told) (came : Registers T Q) → SuitsPlace x.place x.hand → MayCome (next_act x) what
     → filled came ≡ come_back what (is_some x.hand.to_claim) (filled (used (next_act x) x.hand))
     → AreFilledOnce (unused (next_act x) x.hand) came × SuitsPlace (after (record x { hand = joined came (unused (next_act x) x.hand) }) what).place (joined came (unused (next_act x) x.hand))
 can_be_told x what came f m e =
-    let w = (at_place x.procs x.fresh x.turns x.hand x.place what f m).1 came e in
+    let w = (at_place x.procs x.fresh x.turns x.aside x.hand x.place what f m).1 came e in
     (w.0, suits_then x what (joined came (unused (next_act x) x.hand)) f m w.1)

@@ -15,7 +15,7 @@ use Rattle.gmp_driver.specs.Local.{told_of}
 use Rattle.gmp_driver.specs.Machine.{Machine}
 use Rattle.gmp_driver.specs.Registers.{joined}
 use Rattle.gmp_driver.specs.Seen.{seen}
-use Rattle.gmp_driver.specs.Table.{after, next_fresh, next_place, next_turns}
+use Rattle.gmp_driver.specs.Table.{after, next_aside, next_fresh, next_place, next_turns}
 
 pub told_is : {T Q : Type 0} (now x y : Machine T Q) (what : Told) (given : Pass) (came hand : Registers T Q) (pass : Option Pass)
     → x ≡ now → hand ≡ joined came x.hand → y ≡ after (record x { hand = hand }) what → pass ≡ Some given
@@ -49,9 +49,15 @@ same_fresh x here what k = refl
 
 same_turns : (x : Seen) (here : Place) (what : Told) → IsNoReply what → next_turns x here what ≡ x.turns
 same_turns x (place.Ticking now) (told.Replied answer) k = absurd k
+same_turns x place.Keep (told.Replied answer) k = absurd k
 same_turns x place.Claim (told.Replied answer) k = absurd k
 same_turns x (place.MindTick now) (told.Replied answer) k = absurd k
 same_turns x here what k = refl
+
+same_aside : (x : Seen) (here : Place) (what : Told) → IsNoReply what → next_aside x here what ≡ x.aside
+same_aside x (place.Ticking now) (told.Replied answer) k = absurd k
+same_aside x place.Keep (told.Replied answer) k = absurd k
+same_aside x here what k = refl
 
 -- what is held changed so, and then the machine was told
 pub holding_is : {T Q : Type 0} (to : Registers T Q → Registers T Q) (now x : Machine T Q) (what : QueueTold) (hand : Registers T Q) (sees : Seen) (here : Place)
@@ -60,8 +66,9 @@ pub holding_is : {T Q : Type 0} (to : Registers T Q → Registers T Q) (now x : 
 holding_is to now x what hand sees here is held so place_is =
     let fresh : next_fresh (seen (record x { hand = hand })) x.place (told_of what) ≡ x.fresh = same_fresh (seen (record x { hand = hand })) x.place (told_of what) (no_reply what) in
     let turns : next_turns (seen (record x { hand = hand })) x.place (told_of what) ≡ x.turns = same_turns (seen (record x { hand = hand })) x.place (told_of what) (no_reply what) in
+    let aside : next_aside (seen (record x { hand = hand })) x.place (told_of what) ≡ x.aside = same_aside (seen (record x { hand = hand })) x.place (told_of what) (no_reply what) in
     subst (λ (z : Machine _ _). record x { place = here; hand = hand } ≡ after (record z { hand = to z.hand }) (told_of what)) is
-    (rw (place_is, so, ← held, fresh, turns) refl)
+    (rw (place_is, so, ← held, fresh, turns, aside) refl)
 
 -- The body asked: at Run its call comes, and what is held suits that as well.
 
@@ -70,8 +77,9 @@ pub asked_is : {T Q : Type 0} (now x : Machine T Q) (asked : Ask) (here : Place)
 asked_is now x asked here is place_is =
     let fresh : next_fresh (seen x) x.place (told.Asked asked) ≡ x.fresh = same_fresh (seen x) x.place (told.Asked asked) tt in
     let turns : next_turns (seen x) x.place (told.Asked asked) ≡ x.turns = same_turns (seen x) x.place (told.Asked asked) tt in
+    let aside : next_aside (seen x) x.place (told.Asked asked) ≡ x.aside = same_aside (seen x) x.place (told.Asked asked) tt in
     subst (λ (z : Machine _ _). record x { place = here } ≡ after z (told.Asked asked)) is
-    (rw (place_is, fresh, turns) refl)
+    (rw (place_is, fresh, turns, aside) refl)
 
 pub asked_fits : {T Q : Type 0} (x : Seen) (here : Place) (asked : Ask) (hand : Registers T Q) → SuitsPlace here hand → SuitsPlace (next_place x here (told.Asked asked)) hand
 asked_fits x place.Run asked hand h = h

@@ -7,6 +7,7 @@ use Rattle.gmp_base.specs.declared.number.Readiness.{Readiness}
 use Rattle.gmp_seq.specs.declared.call.Call.{Call}
 use Rattle.gmp_seq.specs.declared.call.Call.TheVariants as call
 use Rattle.gmp_driver.specs.declared.act.Act.TheVariants as act
+use Rattle.gmp_driver.specs.declared.place.Aside.{Aside}
 use Rattle.gmp_driver.specs.declared.place.Place.{Place}
 use Rattle.gmp_driver.specs.declared.place.Place.TheVariants as place
 use Rattle.gmp_driver.specs.declared.registers.Registers.{Registers}
@@ -38,7 +39,7 @@ claim_calls true o c e = inl (call_is call.Poke c e)
 claim_calls false None c e = absurd cc
 claim_calls false (Some r) c e = inr (r, refl, call_is (call.Claim r) c e)
 
-module _ {T Q : Type 0} (procs : ℕ) (fresh : Bool) (turns : ℕ) (hand : Registers T Q) where
+module _ {T Q : Type 0} (procs : ℕ) (fresh : Bool) (turns : ℕ) (aside : Option Aside) (hand : Registers T Q) where
   -- the call is this one
   is_the : (d c : Call) → act.Call d ≡ act.Call c → Uses d hand → Uses c hand
   is_the d c is by = subst (λ (q : Call). Uses q hand) (call_is d c is) by
@@ -69,11 +70,13 @@ module _ {T Q : Type 0} (procs : ℕ) (fresh : Bool) (turns : ℕ) (hand : Regis
   stored None at is = absurd (false≢true is)
   stored (Some r) at is = rw (← at) refl
 
-  pub uses_at : (here : Place) (c : Call) → act_at (seen_of procs fresh turns hand) here ≡ act.Call c → SuitsPlace here hand → Uses c hand
+  pub uses_at : (here : Place) (c : Call) → act_at (seen_of procs fresh turns aside hand) here ≡ act.Call c → SuitsPlace here hand → Uses c hand
   uses_at place.Start c is f = is_the call.Acquire c is (none_of hand.processor f.has_processor)
   uses_at place.Look c is f = absurd (look_calls (nat_le 16 turns) c is)
   uses_at (place.Ticking now) c is f = is_the (call.Tick now) c is tt
   uses_at place.Keep c is f = is_the call.Keep c is f.has_processor
+  uses_at place.Glance c is f = is_the call.Take c is (none_of hand.to_claim f.has_to_claim)
+  uses_at (place.Peek v) c is f = absurd (let no : ⊥ = cc in no)
   uses_at place.Drain c is f = absurd (let no : ⊥ = cc in no)
   uses_at place.PutDrain c is f = puts hand.to_store c is (stored hand.to_store refl f.has_to_store)
   uses_at place.Global c is f = is_the call.Take c is (none_of hand.to_claim f.has_to_claim)
@@ -105,4 +108,4 @@ module _ {T Q : Type 0} (procs : ℕ) (fresh : Bool) (turns : ℕ) (hand : Regis
   uses_at place.Done c is f = absurd (let no : ⊥ = cc in no)
 
 pub uses : {T Q : Type 0} (x : Machine T Q) (c : Call) → next_act x ≡ act.Call c → SuitsPlace x.place x.hand → Uses c x.hand
-uses x c is f = uses_at x.procs x.fresh x.turns x.hand x.place c is f
+uses x c is f = uses_at x.procs x.fresh x.turns x.aside x.hand x.place c is f

@@ -4,6 +4,7 @@ pub mod Loads
 pub mod Seen
 pub mod Hunt
 pub mod Table
+pub mod Unfair
 pub mod Frequent
 pub mod Fits
 pub mod Uses

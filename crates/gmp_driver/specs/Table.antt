@@ -1,5 +1,5 @@
 -- The table of a machine's program: which act there is at each place, and where what came of it leads. One row is one act.
-use Rattle.std.specs.Prelude.{ℕ, ◌+◌, ◌-◌, ◌==◌, min, nat_le, nat_lt, Bool, true, false, Option, Some, None, is_some, if◌then◌else◌}
+use Rattle.std.specs.Prelude.{ℕ, ◌+◌, ◌-◌, ◌==◌, ◌&&◌, min, nat_le, nat_lt, Bool, true, false, Option, Some, None, is_some, if◌then◌else◌}
 use Rattle.gmp_base.specs.declared.ask.Ask.{Ask}
 use Rattle.gmp_base.specs.declared.ask.Ask.TheVariants as ask
 use Rattle.gmp_base.specs.declared.number.PNo.{PNo}
@@ -15,6 +15,8 @@ use Rattle.gmp_driver.specs.declared.act.Act.TheVariants as act
 use Rattle.gmp_driver.specs.declared.act.Told.{Told}
 use Rattle.gmp_driver.specs.declared.act.Told.TheVariants as told
 use Rattle.gmp_driver.specs.declared.act.Tried.TheVariants as tried
+use Rattle.gmp_driver.specs.declared.place.Aside.{Aside}
+use Rattle.gmp_driver.specs.declared.place.Aside.TheVariants as aside
 use Rattle.gmp_driver.specs.declared.place.Place.{Place}
 use Rattle.gmp_driver.specs.declared.place.Place.TheVariants as place
 use Rattle.gmp_driver.specs.declared.seen.Seen.{Seen}
@@ -59,6 +61,8 @@ act_at x place.Start = act.Call call.Acquire
 act_at x place.Look = if nat_le 16 x.turns then act.Clock None else act.Pop
 act_at x (place.Ticking now) = act.Call (call.Tick now)
 act_at x place.Keep = act.Call call.Keep
+act_at x place.Glance = act.Call call.Take
+act_at x (place.Peek v) = act.Steal v
 act_at x place.Drain = act.Drain
 act_at x place.PutDrain = put_call x.to_store
 act_at x place.Global = act.Call call.Take
@@ -114,6 +118,33 @@ after_ask asked answer = if is_some (ticket_in answer) then place.Store else if 
 abbrev pub scanned : ℕ → PNo → Place
 scanned np v = if nat_lt (v.0 + 1) np then place.Scan (record { 0 = v.0 + 1 }) else place.Park
 
+-- Looks aside
+
+-- a fair machine made 16 claims, and is to look aside before it claims again
+abbrev pub is_late : Seen → Bool
+is_late x = is_some x.aside && nat_le 16 x.turns
+
+-- where it looks then: at the shelf, or at a queue; one that is not fair at its own queue alone
+abbrev pub aside_at : Option Aside → Place
+aside_at None = place.Look
+aside_at (Some (aside.Shelf v)) = place.Glance
+aside_at (Some (aside.Queue v)) = place.Peek v
+
+-- the queue before this one, and before the first the last
+abbrev pub queue_before : ℕ → PNo → PNo
+queue_before procs v = record { 0 = if v.0 == 0 then procs - 1 else v.0 - 1 }
+
+-- where a machine looks aside first
+abbrev pub first_aside : Bool → Option Aside
+first_aside true = Some (aside.Shelf (record { 0 = 0 }))
+first_aside false = None
+
+-- where it looks the next time: in turn at the shelf and at a queue, and at one queue after another
+abbrev pub turned : ℕ → Option Aside → Option Aside
+turned procs None = None
+turned procs (Some (aside.Shelf v)) = Some (aside.Queue v)
+turned procs (Some (aside.Queue v)) = Some (aside.Shelf (queue_before procs v))
+
 -- Where the machine stands after what came of its act. What it holds then is in its registers. No other outcome comes: then the place stays,
 -- and at Do the goroutine goes on.
 abbrev pub next_place : Seen → Place → Told → Place
@@ -122,9 +153,14 @@ next_place x here (told.Refused refusal.Over) = place.Over
 next_place x place.Start (told.Replied (reply.Proc p)) = place.Look
 next_place x place.Start (told.Replied reply.Nothing) = place.Bare
 next_place x place.Look (told.Moment now) = place.Ticking now
-next_place x (place.Ticking now) (told.Replied (reply.Woke n)) = if x.procs == 1 then place.Look else place.Keep
-next_place x place.Keep (told.Replied (reply.Answer true)) = place.Look
+next_place x (place.Ticking now) (told.Replied (reply.Woke n)) = if x.procs == 1 then aside_at x.aside else place.Keep
+next_place x place.Keep (told.Replied (reply.Answer true)) = aside_at x.aside
 next_place x place.Keep (told.Replied (reply.Answer false)) = place.Drain
+next_place x place.Glance (told.Replied (reply.Ticket r)) = place.Claim
+next_place x place.Glance (told.Replied reply.Nothing) = place.Look
+next_place x (place.Peek v) (told.Tried (tried.Got hint)) = place.Claim
+next_place x (place.Peek v) (told.Tried tried.Empty) = place.Look
+next_place x (place.Peek v) (told.Tried tried.Unsure) = place.Peek v
 next_place x place.Drain told.Drained = place.PutDrain
 next_place x place.Drain told.Empty = place.Drop
 next_place x place.PutDrain (told.Replied reply.Shelf) = place.Drain
@@ -160,12 +196,12 @@ next_place x (place.Leave number) (told.Replied (reply.Runs p)) = place.Run
 next_place x (place.Leave number) (told.Replied (reply.Shelved r)) = place.Bare
 next_place x place.Drop (told.Replied (reply.Idle p)) = place.Scan (record { 0 = 0 })
 next_place x place.Bare (told.Replied reply.Done) = place.Scan (record { 0 = 0 })
-next_place x (place.Scan v) (told.Tried (tried.Got hint)) = place.Have
+next_place x (place.Scan v) (told.Tried (tried.Got hint)) = if is_late x then place.PutHave else place.Have
 next_place x (place.Scan v) (told.Tried tried.Empty) = scanned x.procs v
 next_place x (place.Scan v) (told.Tried tried.Unsure) = place.Scan v
 next_place x place.Have (told.Replied (reply.Proc p)) = place.Claim
 next_place x place.Have (told.Replied reply.Nothing) = place.PutHave
-next_place x place.PutHave (told.Replied reply.Shelf) = place.Bare
+next_place x place.PutHave (told.Replied reply.Shelf) = if is_late x then place.Start else place.Bare
 next_place x place.Park (told.Replied reply.Parked) = place.Rest
 next_place x place.Park (told.Replied reply.Work) = place.Start
 next_place x place.Park (told.Replied (reply.Mind deadline)) = place.Mind deadline
@@ -191,13 +227,20 @@ next_fresh x place.Rest (told.Replied (reply.Answer true)) = true
 next_fresh x (place.MindTick now) (told.Replied (reply.Woke n)) = true
 next_fresh x here what = x.fresh
 
--- claims since the last tick, up to 16
+-- claims since the last tick, up to 16; a fair machine that may not keep its processor is late still, since it did not look aside
 abbrev pub next_turns : Seen → Place → Told → ℕ
 next_turns x (place.Ticking now) (told.Replied (reply.Woke n)) = 0
+next_turns x place.Keep (told.Replied (reply.Answer false)) = if is_some x.aside then 16 else x.turns
 next_turns x place.Claim (told.Replied reply.Held) = min (x.turns + 1) 16
-next_turns x (place.MindTick now) (told.Replied (reply.Woke n)) = 0
+next_turns x (place.MindTick now) (told.Replied (reply.Woke n)) = if is_some x.aside then x.turns else 0
 next_turns x here what = x.turns
+
+-- where it looks aside next: it turns as it goes there
+abbrev pub next_aside : Seen → Place → Told → Option Aside
+next_aside x (place.Ticking now) (told.Replied (reply.Woke n)) = if x.procs == 1 then turned x.procs x.aside else x.aside
+next_aside x place.Keep (told.Replied (reply.Answer true)) = turned x.procs x.aside
+next_aside x here what = x.aside
 
 -- the machine, which holds this now, once it was told what came of its act
 abbrev pub after : {T Q : Type 0} → Machine T Q → Told → Machine T Q
-after x what = record x { place = next_place (seen x) x.place what; fresh = next_fresh (seen x) x.place what; turns = next_turns (seen x) x.place what }
+after x what = record x { place = next_place (seen x) x.place what; fresh = next_fresh (seen x) x.place what; turns = next_turns (seen x) x.place what; aside = next_aside (seen x) x.place what }

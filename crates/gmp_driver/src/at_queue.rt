@@ -9,7 +9,7 @@ use crate::act::{QueueTold, Tried};
 use crate::hunt::more;
 use crate::place::{Place, Round};
 use crate::seen::Seen;
-use crate::table::scanned;
+use crate::table::{is_late, scanned};
 use gmp_base::PNo;
 
 // Not inlined, here and below: each makes a whole place, and whoever is told of a pop or a push pays for none.
@@ -72,7 +72,12 @@ pub(crate) fn go_on_at_queue(here: &mut Place, seen: Seen, told: QueueTold)
         }
         (Place::Store, QueueTold::Pushed) => *here = Place::Poke,
         (Place::Store, QueueTold::PushRefused) => *here = Place::PutStore,
-        // The last look, without a processor.
+        // A look aside. A race that is lost is tried again.
+        (Place::Peek(_), QueueTold::Stole(None, Tried::Got(_))) => *here = Place::Claim,
+        (Place::Peek(_), QueueTold::Stole(None, Tried::Empty)) => *here = Place::Look,
+        // The last look, without a processor. Who is late gives what it found to the shelf.
+        (Place::Scan(_), QueueTold::Stole(None, Tried::Got(_))) if is_late(seen) => *here =
+            Place::PutHave,
         (Place::Scan(_), QueueTold::Stole(None, Tried::Got(_))) => *here = Place::Have,
         (Place::Scan(v), QueueTold::Stole(None, Tried::Empty)) => {
             let v = *v;

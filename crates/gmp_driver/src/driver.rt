@@ -10,7 +10,7 @@ mod own_queue;
 use crate::act::{Act, Frequent, Told};
 use crate::hunt::victim_of;
 use crate::load::Load;
-use crate::place::Place;
+use crate::place::{Aside, Place};
 use crate::registers::{HeldParts, Registers, fill, fill_if};
 use crate::seen::Seen;
 use crate::table::{
@@ -33,6 +33,8 @@ pub struct Driver<T, Q> {
     fresh: bool,
     /// Claims since the last tick, up to 16.
     turns: u8,
+    /// Where it looks aside next, if it is fair.
+    aside: Option<Aside>,
     /// None while an act has it.
     pass: Option<Pass>,
     hand: Registers<T, Q>,
@@ -44,11 +46,11 @@ impl<T, Q> Model for Driver<T, Q> {
 
     ghost Value = { Machine T Q };
 
-    ghost view = { λ d. record { run = d.run; procs = d.procs; place = d.place; fresh = d.fresh; turns = d.turns; pass = d.pass; hand = d.hand } };
+    ghost view = { λ d. record { run = d.run; procs = d.procs; place = d.place; fresh = d.fresh; turns = d.turns; aside = d.aside; pass = d.pass; hand = d.hand } };
 
     // There are 1 to 32 processors and 16 turns at most, the pass is of the run, and while the pass is in, exactly what the place needs is
     // in hand.
-    ghost invariant = { λ d. IsDriver (record { run = d.run; procs = d.procs; place = d.place; fresh = d.fresh; turns = d.turns; pass = d.pass; hand = d.hand }) };
+    ghost invariant = { λ d. IsDriver (record { run = d.run; procs = d.procs; place = d.place; fresh = d.fresh; turns = d.turns; aside = d.aside; pass = d.pass; hand = d.hand }) };
 }
 
 impl<T, Q> Driver<T, Q> {
@@ -58,16 +60,25 @@ impl<T, Q> Driver<T, Q> {
     ghost use Rattle.gmp_driver.specs.Frequent.{act_of, frequent_of};
     ghost use Rattle.gmp_driver.specs.Hunt.{begun, victim_of};
     ghost use Rattle.gmp_driver.specs.Loads.{IsOfRun, held_of, load_of, parts_of, with_claimed, with_held, with_to_claim};
-    ghost use Rattle.gmp_driver.specs.Machine.{held_at, is_done};
+    ghost use Rattle.gmp_driver.specs.Machine.{held_at, is_done, is_peek};
     ghost use Rattle.gmp_driver.specs.Registers.{AreFilledOnce, but, joined, nothing, put_value, unused, used};
     ghost use Rattle.gmp_driver.specs.Seen.{seen};
-    ghost use Rattle.gmp_driver.specs.Table.{after, next_act};
+    ghost use Rattle.gmp_driver.specs.Table.{after, first_aside, next_act};
 
-    /// The program at its start, with nothing in hand. There are so many processors.
+    /// The program at its start, with nothing in hand, of a machine that is not fair. There are so many processors.
     pub fn new(pass: Pass, procs: u8) -> Self
         requires some { 1 ≤ procs }
         requires few { procs ≤ 32 }
-        ensures { result ≡ record { run = pass.run; procs = procs; place = Place.Start; fresh = false; turns = 0; pass = Some pass; hand = nothing } }
+        ensures { result ≡ record { run = pass.run; procs = procs; place = Place.Start; fresh = false; turns = 0; aside = None; pass = Some pass; hand = nothing } }
+    {
+        Driver::new_fair(pass, procs, false)
+    }
+
+    /// The same of a machine that is fair, or is not. A fair one looks aside first at the shelf.
+    pub fn new_fair(pass: Pass, procs: u8, is_fair: bool) -> Self
+        requires some { 1 ≤ procs }
+        requires few { procs ≤ 32 }
+        ensures { result ≡ record { run = pass.run; procs = procs; place = Place.Start; fresh = false; turns = 0; aside = first_aside is_fair; pass = Some pass; hand = nothing } }
     {
         Driver {
             run: pass.run,
@@ -75,6 +86,11 @@ impl<T, Q> Driver<T, Q> {
             place: Place::Start,
             fresh: false,
             turns: 0,
+            aside: if is_fair {
+                Some(Aside::Shelf(PNo(0)))
+            } else {
+                None
+            },
             pass: Some(pass),
             hand: Registers::empty(),
         }
@@ -143,12 +159,19 @@ impl<T, Q> Driver<T, Q> {
         matches!(self.place, Place::Done)
     }
 
+    /// Whether it looks aside at a queue: it steals there what its owner may be about to run.
+    pub fn peeks(&self) -> bool
+        ensures { result ≡ is_peek self.now.place }
+    {
+        matches!(self.place, Place::Peek(_))
+    }
+
     /// What the table looks at beside the place.
     #[inline(always)]
     fn seen(&self) -> Seen
         ensures { result ≡ seen self.now }
     {
-        Seen::of(self.procs, self.fresh, self.turns, &self.hand)
+        Seen::of(self.procs, self.fresh, self.turns, self.aside, &self.hand)
     }
 
     /// Is told what came of an act, and goes on to the next place, where it must hold what that place says.
@@ -160,7 +183,7 @@ impl<T, Q> Driver<T, Q> {
         let seen = self.seen();
         self.fresh = next_fresh(&self.place, seen, &told);
         self.turns = next_turns(&self.place, seen, &told);
-        go_on(&mut self.place, seen, told);
+        go_on(&mut self.place, &mut self.aside, seen, told);
     }
 
     /// Is told what the body asks, and goes on to the call that stands for it. At another place than Run nothing changes.
@@ -251,7 +274,7 @@ impl<T, Q> Driver<T, Q> {
         let seen = self.seen();
         self.fresh = fresh_by(&self.place, seen, reply);
         self.turns = turns_by(&self.place, seen, reply);
-        go_on_by(&mut self.place, seen, reply);
+        go_on_by(&mut self.place, &mut self.aside, seen, reply);
         fill(&mut self.pass, pass);
     }
 
@@ -311,6 +334,7 @@ impl<T: Drop, Q: Drop> Driver<T, Q> {
             place: _,
             fresh: _,
             turns: _,
+            aside: _,
             pass,
             hand: _,
         } = self;

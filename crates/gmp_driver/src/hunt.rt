@@ -1,5 +1,5 @@
 //! From whom a machine steals, and how many tickets (Scalable Go Scheduler Design Doc, Scheduling: a random victim, and half of what it
-//! has). A steal takes one ticket; the goal says how many follow.
+//! has; a fair machine takes one). A steal takes one ticket; the goal says how many follow.
 ghost use Rattle.std.specs.Prelude.{◌≡◌, ◌≤◌, ◌<◌};
 ghost use Rattle.gmp_driver.specs.Hunt as hunt;
 
@@ -8,8 +8,8 @@ use crate::place::{Place, Round};
 use crate::seen::Seen;
 use gmp_base::PNo;
 
-/// How many tickets are stolen from a queue that is said to have so many: half of them, rounded up, at least one, and 16 at most. The hint
-/// may be old, so the goal is a wish; the bound of 16 is the project's own.
+/// How many tickets a machine that is not fair steals from a queue that is said to have so many: half of them, rounded up, at least one, and
+/// 16 at most. The hint may be old, so the goal is a wish; the bound of 16 is the project's own.
 pub fn steal_goal(hint: u32) -> u8
     ensures goal { result ≡ hunt.steal_goal hint }
     ensures some { 1 ≤ result }
@@ -86,14 +86,26 @@ impl Seen {
         }
     }
 
-    /// Where a try of a hunt leads: with a ticket to more of the same victim, with none to the next one. A race that was lost is tried
-    /// again, since it says nothing of whether the queue is empty; it was lost to one who has the ticket.
+    /// How many tickets a hunt takes from a queue that is said to have so many. A fair machine takes one: so no ticket goes from queue to
+    /// queue, where each time others might stand before it.
+    fn hunt_goal(self, hint: u32) -> u8
+        ensures goal { result ≡ hunt.hunt_goal self.aside hint }
+        ensures some { 1 ≤ result }
+    {
+        match self.aside {
+            None => steal_goal(hint),
+            Some(_) => 1,
+        }
+    }
+
+    /// Where a try of a hunt leads: with a ticket to more of the same victim, where the goal is more, with none to the next one. A race that
+    /// was lost is tried again, since it says nothing of whether the queue is empty; it was lost to one who has the ticket.
     pub(crate) fn hunted(self, round: Round, tried: Tried) -> Place
         requires { 1 ≤ self.procs }
         ensures { result ≡ hunt.hunted self round tried }
     {
         match tried {
-            Tried::Got(hint) => more(victim_of(self.procs, round), steal_goal(hint) - 1),
+            Tried::Got(hint) => more(victim_of(self.procs, round), self.hunt_goal(hint) - 1),
             Tried::Empty if round.number < self.procs => self.hunt_on(round.word, round.number + 1),
             Tried::Empty => Place::Unspin,
             Tried::Unsure => Place::Hunt(Some(round)),

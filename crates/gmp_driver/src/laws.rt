@@ -1,15 +1,19 @@
 //! Laws of the table. Each is the contract of a function that does nothing.
-ghost use Rattle.std.specs.Prelude.{◌≡◌, is_some};
+ghost use Rattle.std.specs.Prelude.{◌≡◌, Option, None, false, is_some};
 ghost use Rattle.gmp_seq.specs.declared.call.Call.{Call};
 ghost use Rattle.gmp_driver.specs.declared.act.Act.{Act};
 ghost use Rattle.gmp_driver.specs.declared.act.Act.TheVariants as Act;
 ghost use Rattle.gmp_driver.specs.declared.act.Told.{Told};
+ghost use Rattle.gmp_driver.specs.declared.place.Aside.{Aside};
+ghost use Rattle.gmp_driver.specs.declared.place.Place.{Place};
 ghost use Rattle.gmp_driver.specs.declared.registers.Registers.{Registers};
+ghost use Rattle.gmp_driver.specs.declared.seen.Seen.{Seen};
 ghost use Rattle.gmp_driver.specs.Fits.{SuitsPlace};
 ghost use Rattle.gmp_driver.specs.Local.{MayCome, come_back, filled};
 ghost use Rattle.gmp_driver.specs.Machine.{Machine};
 ghost use Rattle.gmp_driver.specs.Registers.{AreFilledOnce, joined, unused, used};
-ghost use Rattle.gmp_driver.specs.Table.{after, next_act};
+ghost use Rattle.gmp_driver.specs.Table.{act_at, after, next_act, next_aside, next_fresh, next_place, next_turns};
+ghost use Rattle.gmp_driver.specs.Unfair.{is_aside, unfair_place, unfair_turns};
 ghost use Rattle.gmp_driver.specs.Uses.{Uses};
 
 /// A call that a machine is to make finds the registers that it uses filled, and those that its reply fills free. So no call is refused for
@@ -36,4 +40,15 @@ pub fn acts_lead_on<T, Q>()
         → SuitsPlace (after (record x { hand = joined came (unused (next_act x) x.hand) }) what).place (joined came (unused (next_act x) x.hand)) }
     ensures holds { (x : Machine T Q) (what : Told) (hand : Registers T Q) → SuitsPlace x.place x.hand → MayCome (next_act x) what
         → filled hand ≡ come_back what (is_some x.hand.to_claim) (filled x.hand) → SuitsPlace (after (record x { hand = hand }) what).place hand }
+{}
+
+/// A machine is fair for good, or never. One that is not never looks aside, and follows a table that knows nothing of looks aside: its act,
+/// `fresh` and the rows that `Unfair` doesn't name are the same, fair or not.
+pub fn unfair_is_as_before()
+    ensures stays { (s : Seen) (here : Place) (what : Told) → is_some (next_aside s here what) ≡ is_some s.aside }
+    ensures never { (s : Seen) (here : Place) (what : Told) → s.aside ≡ None → is_aside here ≡ false → is_aside (next_place s here what) ≡ false }
+    ensures place { (s : Seen) (looks : Option Aside) (here : Place) (what : Told) → s.aside ≡ None → next_place s here what ≡ unfair_place (record s { aside = looks }) here what }
+    ensures turns { (s : Seen) (looks : Option Aside) (here : Place) (what : Told) → s.aside ≡ None → next_turns s here what ≡ unfair_turns (record s { aside = looks }) here what }
+    ensures fresh { (s : Seen) (looks : Option Aside) (here : Place) (what : Told) → next_fresh s here what ≡ next_fresh (record s { aside = looks }) here what }
+    ensures act { (s : Seen) (looks : Option Aside) (here : Place) → act_at s here ≡ act_at (record s { aside = looks }) here }
 {}

@@ -5,8 +5,8 @@
 //! with `wakep`, Drop and Scan `releasep`, `pidleput` and `checkRunqsNoP`, Park and Rest `stopm` with `mPark`, Store `runqput`.
 //!
 //! What differs: tickets are stolen one at a time; the clock is read after 16 claims, and not at each look; the shelf is looked into only
-//! where the own queue is empty, where Go does so at each 61st look as well; a queue that refuses gives one ticket to the shelf, where
-//! `runqputslow` gives half.
+//! where the own queue is empty, where Go does so at each 61st look as well, and a fair machine at each 32nd claim; a queue that refuses
+//! gives one ticket to the shelf, where `runqputslow` gives half.
 
 use gmp_base::{Ask, PNo};
 
@@ -19,6 +19,16 @@ pub struct Round {
     pub word: u64,
     /// The number of the victim in the order, from 0.
     pub number: u8,
+}
+
+/// Where a fair machine looks next beside its own queue: in turn at the shelf and at a queue, and at one queue after another. So no ticket
+/// is passed over for ever.
+#[derive(Clone, Copy, Debug, PartialEq, Eq)]
+pub enum Aside {
+    /// At the shelf, and the next time at the queue of this processor.
+    Shelf(PNo),
+    /// At the queue of this processor, which may be its own.
+    Queue(PNo),
 }
 
 /// A place of the program. At each there is one act. Numbers and asks stand in the place and not in a register, so that what is filled
@@ -34,6 +44,10 @@ pub enum Place {
     Ticking(u64),
     /// Asks whether it may keep its processor, after a tick, where there are several.
     Keep,
+    /// Takes from the shelf, beside its own queue.
+    Glance,
+    /// Steals from the queue of this processor, beside its own queue.
+    Peek(PNo),
     /// Pops its own queue, before it gives up a processor that is active no more: its tickets go to the shelf, where everybody finds them.
     Drain,
     /// Puts the ticket onto the shelf.
@@ -44,7 +58,8 @@ pub enum Place {
     Spin,
     /// Steals from one victim after another (Scheduling); before its first act it has drawn no word.
     Hunt(Option<Round>),
-    /// Steals once more from this victim, and so many tickets at most: half of what it had, one by one.
+    /// Steals once more from this victim, and so many tickets at most: half of what it had, one by one. A fair machine never stands here,
+    /// nor at the two that follow: it takes one ticket a hunt.
     More(PNo, u8),
     /// Pushes the ticket to store, and goes on with `More`.
     StoreMore(PNo, u8),

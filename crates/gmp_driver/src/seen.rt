@@ -3,6 +3,7 @@ ghost use Rattle.std.specs.Prelude.{◌≡◌};
 ghost use Rattle.gmp_driver.specs.Seen.{seen_of};
 
 use crate::act::Value;
+use crate::place::Aside;
 use crate::registers::Registers;
 use gmp_base::{PNo, Readiness};
 
@@ -16,6 +17,8 @@ pub struct Seen {
     pub fresh: bool,
     /// Claims since the last tick, up to 16.
     pub turns: u8,
+    /// Where it looks aside next. None at a machine that is not fair, which looks into its own queue as long as that has tickets.
+    pub aside: Option<Aside>,
     /// The own processor.
     pub own: Option<PNo>,
     pub to_claim: Option<Readiness>,
@@ -27,13 +30,20 @@ pub struct Seen {
 impl Seen {
     /// What is to be seen of these registers.
     #[inline(always)]
-    pub(crate) fn of<T, Q>(procs: u8, fresh: bool, turns: u8, hand: &Registers<T, Q>) -> Self
-        ensures { result ≡ seen_of procs fresh turns hand.now }
+    pub(crate) fn of<T, Q>(
+        procs: u8,
+        fresh: bool,
+        turns: u8,
+        aside: Option<Aside>,
+        hand: &Registers<T, Q>,
+    ) -> Self
+        ensures { result ≡ seen_of procs fresh turns aside hand.now }
     {
         Seen {
             procs,
             fresh,
             turns,
+            aside,
             own: match &hand.processor {
                 Some(parts) => Some(parts.p),
                 None => None,

@@ -13,7 +13,7 @@ ghost use Rattle.gmp_driver.specs.Table as table;
 use crate::act::{Act, Frequent, QueueTold, Told};
 use crate::at_queue::{go_on_at_queue, steal_on};
 use crate::hunt::victim_of;
-use crate::place::Place;
+use crate::place::{Aside, Place};
 use crate::seen::Seen;
 use gmp_base::{Ask, PNo, Readiness, Refusal};
 use gmp_seq::{Call, Reply};
@@ -82,6 +82,8 @@ pub(crate) fn act_at(here: &Place, seen: Seen) -> Act
         Place::Look => Act::Pop,
         Place::Ticking(now) => Act::Call(Call::Tick(*now)),
         Place::Keep => Act::Call(Call::Keep),
+        Place::Glance => Act::Call(Call::Take),
+        Place::Peek(v) => Act::Steal(*v),
         Place::Drain => Act::Drain,
         Place::PutDrain => put_call(seen.to_store),
         Place::Global => Act::Call(Call::Take),
@@ -128,7 +130,7 @@ pub(crate) fn frequent_at(
     match here {
         Place::Look if turns >= 16 => Frequent::Other,
         Place::Look => Frequent::Pop,
-        Place::Global => Frequent::Take,
+        Place::Global | Place::Glance => Frequent::Take,
         Place::Claim if fresh => Frequent::Poke,
         Place::Claim => match to_claim {
             Some(r) => Frequent::Claim(r.g, r.epoch),
@@ -200,19 +202,57 @@ pub(crate) fn scanned(procs: u8, v: PNo) -> Place
     }
 }
 
-/// Goes where this reply leads. A reply that is none of the row's leaves the place; none comes.
+/// Whether a fair machine made 16 claims: then it is to look aside before it claims again.
 #[inline(always)]
-pub(crate) fn go_on_by(here: &mut Place, seen: Seen, reply: &Reply)
-    ensures { here.new ≡ table.next_place seen here.old (Told.Replied reply.now) }
+pub(crate) fn is_late(seen: Seen) -> bool
+    ensures { result ≡ table.is_late seen }
+{
+    seen.aside.is_some() && seen.turns >= 16
+}
+
+/// Goes where a machine looks after its tick: at the shelf or at a queue, in turn, and at its own queue where it is not fair.
+#[inline(always)]
+fn look_aside(here: &mut Place, aside: &mut Option<Aside>, procs: u8)
+    ensures place { here.new ≡ table.aside_at aside.old }
+    ensures turns { aside.new ≡ table.turned procs aside.old }
+{
+    match *aside {
+        None => *here = Place::Look,
+        Some(Aside::Shelf(v)) => {
+            *here = Place::Glance;
+            *aside = Some(Aside::Queue(v));
+        }
+        Some(Aside::Queue(v)) => {
+            *here = Place::Peek(v);
+            let before = if v.0 == 0 {
+                procs.saturating_sub(1)
+            } else {
+                v.0 - 1
+            };
+            *aside = Some(Aside::Shelf(PNo(before)));
+        }
+    }
+}
+
+/// Goes where this reply leads, and turns where a machine looks aside. A reply that is none of the row's leaves the place; none comes.
+#[inline(always)]
+pub(crate) fn go_on_by(here: &mut Place, aside: &mut Option<Aside>, seen: Seen, reply: &Reply)
+    requires { aside.old ≡ seen.aside }
+    ensures place { here.new ≡ table.next_place seen here.old (Told.Replied reply.now) }
+    ensures aside { aside.new ≡ table.next_aside seen here.old (Told.Replied reply.now) }
 {
     match (&*here, reply) {
         (Place::Start, Reply::Proc(_)) => *here = Place::Look,
         (Place::Start, Reply::Nothing) => *here = Place::Bare,
         // With one processor that one is always active, and there is nobody to steal from: no Keep, and no Hunt below.
-        (Place::Ticking(_), Reply::Woke(_)) if seen.procs == 1 => *here = Place::Look,
+        (Place::Ticking(_), Reply::Woke(_)) if seen.procs == 1 => look_aside(
+            here, aside, seen.procs,
+        ),
         (Place::Ticking(_), Reply::Woke(_)) => *here = Place::Keep,
         (Place::Global, Reply::Ticket(_)) => *here = Place::Claim,
-        (Place::Keep, Reply::Answer(true)) => *here = Place::Look,
+        (Place::Keep, Reply::Answer(true)) => look_aside(here, aside, seen.procs),
+        (Place::Glance, Reply::Ticket(_)) => *here = Place::Claim,
+        (Place::Glance, Reply::Nothing) => *here = Place::Look,
         (Place::Keep, Reply::Answer(false)) => *here = Place::Drain,
         (Place::PutDrain, Reply::Shelf) => *here = Place::Drain,
         (Place::Global, Reply::Nothing) if seen.procs == 1 => *here = Place::Drop,
@@ -238,6 +278,8 @@ pub(crate) fn go_on_by(here: &mut Place, seen: Seen, reply: &Reply)
         (Place::Bare, Reply::Done) => *here = Place::Scan(PNo(0)),
         (Place::Have, Reply::Proc(_)) => *here = Place::Claim,
         (Place::Have, Reply::Nothing) => *here = Place::PutHave,
+        // One that is late claims nothing that it found without a look aside: it starts anew.
+        (Place::PutHave, Reply::Shelf) if is_late(seen) => *here = Place::Start,
         (Place::PutHave, Reply::Shelf) => *here = Place::Bare,
         // Work, a deadline and a mark each keep the machine awake: only `Parked` leads to Rest.
         (Place::Park, Reply::Parked) => *here = Place::Rest,
@@ -255,13 +297,15 @@ pub(crate) fn go_on_by(here: &mut Place, seen: Seen, reply: &Reply)
 /// Goes where what came of the act leads. From every place a call that is refused since the run is over leads to Over. A make that had no
 /// memory goes on with the body, which is told so.
 #[inline(always)]
-pub(crate) fn go_on(here: &mut Place, seen: Seen, told: Told)
-    requires { 1 ≤ seen.procs }
-    ensures { here.new ≡ table.next_place seen here.old told }
+pub(crate) fn go_on(here: &mut Place, aside: &mut Option<Aside>, seen: Seen, told: Told)
+    requires some { 1 ≤ seen.procs }
+    requires aside { aside.old ≡ seen.aside }
+    ensures place { here.new ≡ table.next_place seen here.old told }
+    ensures aside { aside.new ≡ table.next_aside seen here.old told }
 {
     let there = match (&*here, told) {
         (_, Told::Refused(Refusal::Over)) => Place::Over,
-        (_, Told::Replied(reply)) => return go_on_by(here, seen, &reply),
+        (_, Told::Replied(reply)) => return go_on_by(here, aside, seen, &reply),
         (_, Told::Got) => return go_on_at_queue(here, seen, QueueTold::Popped(false)),
         (_, Told::Drained) => return go_on_at_queue(here, seen, QueueTold::Popped(true)),
         (_, Told::Empty) => return go_on_at_queue(here, seen, QueueTold::Empty),
@@ -336,8 +380,9 @@ pub(crate) fn turns_by(here: &Place, seen: Seen, reply: &Reply) -> u8
 {
     match (here, reply) {
         (Place::Ticking(_), Reply::Woke(_)) => 0,
+        (Place::Keep, Reply::Answer(false)) if seen.aside.is_some() => 16,
         (Place::Claim, Reply::Held) => (seen.turns + 1).min(16),
-        (Place::MindTick(_), Reply::Woke(_)) => 0,
+        (Place::MindTick(_), Reply::Woke(_)) if seen.aside.is_none() => 0,
         _ => seen.turns,
     }
 }

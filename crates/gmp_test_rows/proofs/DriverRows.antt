@@ -35,7 +35,7 @@ relay = record { sender = ready; value = 5 }
 -- Processor 1 of three is its own, and it has two tickets. It is not fresh, and no claim was made since the last tick. A hunt by word 3 has
 -- the victims 0 and 2, one by word 4 has 2 and 0.
 abbrev usual : Seen
-usual = record { procs = 3; fresh = false; turns = 0; own = Some (processor 1); to_claim = Some ready; to_store = Some (ticket 3 4); first = None }
+usual = record { procs = 3; fresh = false; turns = 0; aside = None; own = Some (processor 1); to_claim = Some ready; to_store = Some (ticket 3 4); first = None }
 
 -- 16 claims were made since the last tick
 abbrev late : Seen

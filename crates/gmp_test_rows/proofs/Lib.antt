@@ -6,3 +6,4 @@ pub mod LimitRows
 pub mod MachineRows
 pub mod Refused
 pub mod DriverRows
+pub mod FairRows

@@ -199,12 +199,12 @@ module _ {T Q : Type 0} (x : Machine T Q) (asked : Call) (before : Pass) (book b
   -- what it holds fits, since it does so in plain parts
   fits_after : (answer : Reply) (hand : Registers T Q) → CanReply asked answer → plain hand ≡ hand_after book.log.state.table asked answer (plain x.hand) → SuitsPlace (after (record x { hand = hand }) (told.Replied answer)).place hand
   fits_after answer hand can is_so =
-      let next : act_at (seen_of x.procs x.fresh x.turns (plain x.hand)) x.place ≡ act.Call asked = ap (λ (s : Seen). act_at s x.place) (seen_plain x.procs x.fresh x.turns x.hand) ∙ is in
-      let there = lands x.procs x.fresh x.turns book.log.state.table (plain x.hand) (mode_for x.place) x.place asked answer next (fits_plain x.hand x.place fits) (suits_mode x.place) can
-      (awoke_for (seen_of x.procs x.fresh x.turns x.hand) x.place asked answer is) in
-      let plainly : SuitsPlace (next_place (seen_of x.procs x.fresh x.turns (plain hand)) x.place (told.Replied answer)) (plain hand) =
-      subst (λ (h : PlainHand). SuitsPlace (next_place (seen_of x.procs x.fresh x.turns h) x.place (told.Replied answer)) h) (sym is_so) there.fits in
-      plain_fits hand _ (subst (λ (s : Seen). SuitsPlace (next_place s x.place (told.Replied answer)) (plain hand)) (seen_plain x.procs x.fresh x.turns hand) plainly)
+      let next : act_at (seen_of x.procs x.fresh x.turns x.aside (plain x.hand)) x.place ≡ act.Call asked = ap (λ (s : Seen). act_at s x.place) (seen_plain x.procs x.fresh x.turns x.aside x.hand) ∙ is in
+      let there = lands x.procs x.fresh x.turns x.aside book.log.state.table (plain x.hand) (mode_for x.place) x.place asked answer next (fits_plain x.hand x.place fits) (suits_mode x.place) can
+      (awoke_for (seen_of x.procs x.fresh x.turns x.aside x.hand) x.place asked answer is) in
+      let plainly : SuitsPlace (next_place (seen_of x.procs x.fresh x.turns x.aside (plain hand)) x.place (told.Replied answer)) (plain hand) =
+      subst (λ (h : PlainHand). SuitsPlace (next_place (seen_of x.procs x.fresh x.turns x.aside h) x.place (told.Replied answer)) h) (sym is_so) there.fits in
+      plain_fits hand _ (subst (λ (s : Seen). SuitsPlace (next_place s x.place (told.Replied answer)) (plain hand)) (seen_plain x.procs x.fresh x.turns x.aside hand) plainly)
 
   pub came : (behind : Pass) (back : Values T Q) (result : Result Reply Refusal) → IfErr result (λ why. back ≡ values_back asked why given) → OnErr result ((book' ≡ book) × (behind ≡ before))
       → IfOk result (λ answer. Records book.log before asked answer book'.log behind) → IfOk result (λ answer. Hands asked answer given back book book') → Came x asked before behind back result
@@ -222,7 +222,7 @@ module _ {T Q : Type 0} (x : Machine T Q) (asked : Call) (before : Pass) (book b
       rw (same, stays.1) (record {
         run = loaded x.run _ before (values_back asked why given) pass (back_of x.run (is_make asked) why given (given_of x.run before (used (act.Call asked) x.hand)));
         apart = comes.1;
-        fits = refused x.procs x.fresh x.turns x.hand hand (seen (record x { hand = hand })) x.place why fits (same_filled asked why x.hand hand comes.0);
+        fits = refused x.procs x.fresh x.turns x.aside x.hand hand (seen (record x { hand = hand })) x.place why fits (same_filled asked why x.hand hand comes.0);
       })
 
 pub all_of : (A B : Type 0) (C : Refusal → Type 0) (result : Result Reply Refusal) → OnErr result (A × B) → IfErr result C → IfErr result (λ why. A × B × C why)

@@ -11,6 +11,7 @@ use Rattle.gmp_seq.specs.declared.status.Mode.{Mode}
 use Rattle.gmp_seq.specs.declared.status.Mode.TheVariants as mode
 use Rattle.gmp_driver.specs.declared.act.Act.TheVariants as act
 use Rattle.gmp_driver.specs.declared.act.Told.TheVariants as told
+use Rattle.gmp_driver.specs.declared.place.Aside.{Aside}
 use Rattle.gmp_driver.specs.declared.place.Place.{Place}
 use Rattle.gmp_driver.specs.declared.place.Place.TheVariants as place
 use Rattle.gmp_driver.specs.declared.registers.Registers.{Registers}
@@ -21,7 +22,7 @@ use Rattle.gmp_acts.specs.Sound.{ModeAt}
 use Rattle.gmp_acts.proofs.Replies.{Awoke}
 use Rattle.gmp_turn.proofs.Back.{Filled, filled}
 
-module _ {T Q : Type 0} (procs : ℕ) (fresh : Bool) (turns : ℕ) (hand hand' : Registers T Q) where
+module _ {T Q : Type 0} (procs : ℕ) (fresh : Bool) (turns : ℕ) (aside : Option Aside) (hand hand' : Registers T Q) where
   -- The registers from those before
 
   shape : (p h c t s : Bool) → IsFilled p h c t s hand → filled hand ≡ record { processor = p; held = h; called = c; to_claim = t; to_store = s }

@@ -59,7 +59,7 @@ impl<T, Q> Driver<T, Q> {
         requires { SuitsPlace (after self.old (told_of told)).place self.old.hand }
         ensures { self.new ≡ after self.old (told_of told) }
     {
-        let seen = Seen::of(self.procs, self.fresh, self.turns, &self.hand);
+        let seen = Seen::of(self.procs, self.fresh, self.turns, self.aside, &self.hand);
         go_on_at_queue(&mut self.place, seen, told);
     }
 
@@ -70,7 +70,7 @@ impl<T, Q> Driver<T, Q> {
         ensures { self.new ≡ after (record self.old { hand = with_found r is_to_store self.old.hand }) (told_of told) }
     {
         self.hand.hold(r, is_to_store);
-        let seen = Seen::of(self.procs, self.fresh, self.turns, &self.hand);
+        let seen = Seen::of(self.procs, self.fresh, self.turns, self.aside, &self.hand);
         go_on_at_queue(&mut self.place, seen, told);
     }
 
@@ -81,7 +81,7 @@ impl<T, Q> Driver<T, Q> {
         ensures { self.new ≡ after (record self.old { hand = record self.old.hand { to_store = None } }) (told_of told) }
     {
         self.hand.to_store = None;
-        let seen = Seen::of(self.procs, self.fresh, self.turns, &self.hand);
+        let seen = Seen::of(self.procs, self.fresh, self.turns, self.aside, &self.hand);
         go_on_at_queue(&mut self.place, seen, told);
     }
 }

@@ -9,5 +9,5 @@ pub returns-clause-headline : goal.returns-clause-headline
 returns-clause-headline c = headline_after
 
 pub returns-clause-claims : goal.returns-clause-claims
-returns-clause-claims c = λ run limits bodies capacities moves k m choice end are all acts.
-    no_claim_refused k m choice end (all_sound moves (opening_system run limits bodies capacities) k all (opening_sound run limits bodies capacities are)) acts
+returns-clause-claims c = λ is_fair run limits bodies capacities moves k m choice end are all acts.
+    no_claim_refused k m choice end (all_sound moves (opening_system is_fair run limits bodies capacities) k all (opening_sound is_fair run limits bodies capacities are)) acts

@@ -1,6 +1,3 @@
-use Rattle.std.proofs.Common.{subst}
-use Rattle.gmp_driver.specs.declared.place.Place.{Place}
-use Rattle.gmp_driver.specs.Fits.{SuitsPlace}
 use Rattle.gmp_driver.specs.Seen.{seen_of}
 use Rattle.gmp_driver.proofs.Onward.{asked_fits, asked_is}
 use Rattle.gmp_driver.proofs.driver.Driver.tell_asked.Goals as goal
@@ -8,7 +5,7 @@ use Rattle.gmp_driver.proofs.driver.Driver.tell_asked.Goals as goal
 pub invariant_of-self : goal.invariant_of-self
 invariant_of-self g c =
     let i = c.self.inside in
-    let sees = seen_of i.procs i.fresh i.turns i.hand in
+    let sees = seen_of i.procs i.fresh i.turns i.aside i.hand in
     let kept = c.self.invariant in
     record {
       some_procs = kept.some_procs;
@@ -21,5 +18,5 @@ invariant_of-self g c =
 pub returns : goal.returns
 returns g c =
     let i = c.self.inside in
-    asked_is c.args.self.now (record { run = i.run; procs = i.procs; place = i.place; fresh = i.fresh; turns = i.turns; pass = i.pass; hand = i.hand })
-    c.args.ask c.ask_on.new.here c.self.view_is (c.ask_on.ensures (seen_of i.procs i.fresh i.turns i.hand))
+    asked_is c.args.self.now (record { run = i.run; procs = i.procs; place = i.place; fresh = i.fresh; turns = i.turns; aside = i.aside; pass = i.pass; hand = i.hand })
+    c.args.ask c.ask_on.new.here c.self.view_is (c.ask_on.ensures (seen_of i.procs i.fresh i.turns i.aside i.hand))

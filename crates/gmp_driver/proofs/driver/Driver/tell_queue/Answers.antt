@@ -9,5 +9,5 @@ invariant_of-self g c = search rules
 pub returns : goal.returns
 returns g c =
     let i = c.self.inside in
-    holding_is (λ (hand : Registers _ _). hand) c.args.self.now (record { run = i.run; procs = i.procs; place = i.place; fresh = i.fresh; turns = i.turns; pass = i.pass; hand = i.hand })
+    holding_is (λ (hand : Registers _ _). hand) c.args.self.now (record { run = i.run; procs = i.procs; place = i.place; fresh = i.fresh; turns = i.turns; aside = i.aside; pass = i.pass; hand = i.hand })
     c.args.told i.hand c.of-seen.result c.go_on_at_queue.new.here c.self.view_is refl c.of-seen.ensures c.go_on_at_queue.ensures
