@@ -14,7 +14,7 @@ use Rattle.gmp_words.specs.Runs.{IsTraceOf, limits_of}
 use Rattle.gmp_cli.specs.Step.{IsRunOf}
 
 module _ (s : Settings) (capacities readings : List ℕ) (bodies : List Commands) (before behind : Stage) (x : Content)
-    (opened : before ≡ opening_stage (limits_of s) capacities readings bodies) (same : SameOpening before.core.system.book behind.core.system.book)
+    (opened : before ≡ opening_stage s.fair (limits_of s) capacities readings bodies) (same : SameOpening before.core.system.book behind.core.system.book)
     (head : Headline behind.core.system.book.run behind.core.system.book.limits behind.core.system.book.bodies behind.core.system.book.capacities behind.core.system) (within : AreLimits behind.core.system.book.limits behind.core.system.book.bodies behind.core.system.book.capacities) (fits : All Fits behind.core.system.book.history)
     (limits_are : x.limits ≡ limits_of s) (stock : x.bodies ≡ length bodies) (begun : x.begins ≡ AtOpening capacities) (entries : x.entries ≡ behind.core.system.book.history) (ended : x.end ≡ end_of behind.core.system.book.state.outcome) where
   limits_stay : x.limits ≡ behind.core.system.book.limits

@@ -1,5 +1,5 @@
 -- A run of a script in turn: what its bodies ask, and the clock's readings, are the script's.
-use Rattle.std.specs.Prelude.{◌≡◌, ℕ, List, Option}
+use Rattle.std.specs.Prelude.{◌≡◌, ℕ, Bool, List, Option}
 use Rattle.gmp_base.specs.declared.ask.Ask.{Ask}
 use Rattle.gmp_base.specs.declared.ask.Woke.{Woke}
 use Rattle.gmp_seq.specs.declared.call.Limits.{Limits}
@@ -25,8 +25,8 @@ abbrev pub Stage : Type 0
 Stage = stage.Stage Commands ClockState
 
 -- no act was made yet
-abbrev pub opening_stage : Limits → List ℕ → List ℕ → List Commands → Stage
-opening_stage limits capacities readings bodies = stage.opening_stage limits capacities bodies (unread readings)
+abbrev pub opening_stage : Bool → Limits → List ℕ → List ℕ → List Commands → Stage
+opening_stage is_fair limits capacities readings bodies = stage.opening_stage is_fair limits capacities bodies (unread readings)
 
 -- so many acts, one after another
 abbrev pub Plays : ℕ → ℕ → Stage → Stage → Type 0

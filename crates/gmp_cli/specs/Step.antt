@@ -13,7 +13,7 @@ use Rattle.gmp_cli.specs.Plays.{IsPlayed, Stage, opening_stage}
 pub record IsRunOf (s : Settings) (capacities readings : List ℕ) (bodies : List Commands) (x : Content) : Type 0 where
   pub stock : x.bodies ≡ length bodies
   pub last : Stage
-  pub played : IsPlayed s.acts s.word (opening_stage (limits_of s) capacities readings bodies) last
+  pub played : IsPlayed s.acts s.word (opening_stage s.fair (limits_of s) capacities readings bodies) last
   pub entries : x.entries ≡ last.core.system.book.history
   pub ended : x.end ≡ end_of last.core.system.book.state.outcome
 

@@ -34,7 +34,7 @@ fn run<W: Write>(alloc: Global, settings: &Settings, script: Script, writer: &mu
     let limits = settings.limits();
     let count = bodies.len();
     let clock = Clock::of(readings);
-    let mut player = match Player::open(alloc, limits, &capacities, bodies, clock) {
+    let mut player = match Player::open(alloc, limits, &capacities, bodies, clock, settings.fair) {
         Ok(player) => player,
         Err(Refusal::BadLimits) => return Ended::bad_limits(),
         Err(_) => return Ended::out_of_memory(),

@@ -1,5 +1,5 @@
 -- Entries that were handed out change no act: what leads on from those that are left leads on from all.
-use Rattle.std.proofs.Common.{◌≡◌, ◌⊎◌, inl, inr, ℕ, List, [], ◌∷◌, ◌++◌, map, set, refl, sym, ap, ◌∙◌, subst, Option, None, Some}
+use Rattle.std.proofs.Common.{◌≡◌, inl, inr, ℕ, Bool, List, [], ◌∷◌, ◌++◌, map, sym, ap, ◌∙◌, subst, None, Some}
 use Rattle.std.proofs.lemmas.List.{append_assoc, append-nil, append_cancel_left, map-append}
 use Rattle.gmp_base.specs.declared.number.MNo.{MNo}
 use Rattle.gmp_seq.specs.declared.call.Call.{Call}
@@ -11,7 +11,7 @@ use Rattle.gmp_driver.specs.declared.act.Act.TheVariants as act
 use Rattle.gmp_driver.specs.Table.{next_act}
 use Rattle.gmp_acts.specs.declared.choice.Choice.{Choice}
 use Rattle.gmp_acts.specs.declared.made.Made.{Made}
-use Rattle.gmp_acts.specs.Acts.{Accepted, Acts, ActsAll, Answers, Declined, DoesAct, IsGranted, MakesCall, Stopped, Unmade}
+use Rattle.gmp_acts.specs.Acts.{Accepted, Acts, ActsAll, Answers, DoesAct, IsGranted, MakesCall}
 use Rattle.gmp_acts.specs.Hands.{PlainMachine}
 use Rattle.gmp_acts.specs.Headline.{Headline, opening_system}
 use Rattle.gmp_acts.specs.Lookouts.{NoWorkIsAsleep}
@@ -132,16 +132,16 @@ acts_alone (None ∷ moves) k before out k' s is =
     subst (λ (j : System). ActsAll j (acts_of moves) (with_before (before ++ out) k')) same
     (subst (λ (l : List Entry). ActsAll (with_before (before ++ k.book.history) (emptied k)) (acts_of moves) (with_before l k')) all rest)
 
-module _ (run : ℕ) (limits : Limits) (bodies : ℕ) (capacities : List ℕ) (moves : List Move) (out : List Entry) (k : System) (are : AreLimits limits bodies capacities)
-    (all : MovesAll (opening_system run limits bodies capacities) moves out k) where
-  pub alone : ActsAll (opening_system run limits bodies capacities) (acts_of moves) (with_before out k)
-  alone = acts_alone moves (opening_system run limits bodies capacities) [] out k (opening_sound run limits bodies capacities are) all
+module _ (is_fair : Bool) (run : ℕ) (limits : Limits) (bodies : ℕ) (capacities : List ℕ) (moves : List Move) (out : List Entry) (k : System) (are : AreLimits limits bodies capacities)
+    (all : MovesAll (opening_system is_fair run limits bodies capacities) moves out k) where
+  pub alone : ActsAll (opening_system is_fair run limits bodies capacities) (acts_of moves) (with_before out k)
+  alone = acts_alone moves (opening_system is_fair run limits bodies capacities) [] out k (opening_sound is_fair run limits bodies capacities are) all
 
   pub joined_headline : Headline run limits bodies capacities (with_before out k)
-  joined_headline = headline_after run limits bodies capacities (acts_of moves) (with_before out k) are alone
+  joined_headline = headline_after is_fair run limits bodies capacities (acts_of moves) (with_before out k) are alone
 
   pub none_asleep : NoWorkIsAsleep k
-  none_asleep = awake_after run limits bodies capacities (acts_of moves) (with_before out k) are alone
+  none_asleep = awake_after is_fair run limits bodies capacities (acts_of moves) (with_before out k) are alone
 
 -- of a history of which none was handed out the headline holds by itself
 pub whole_headline : (k : System) → HeadlineOf k → IsWhole k → Headline k.book.run k.book.limits k.book.bodies k.book.capacities k

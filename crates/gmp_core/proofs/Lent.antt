@@ -251,15 +251,19 @@ module _ {T : Type 0} (c : Parts T) (m : MNo) (x : Machine T Unit) (is : slice_g
         ∙ ap (λ (ms : List (Machine T Unit)). stock_of ms c.book.bodies) (put_here c.machines m.0 x is) ∙ ap (λ (o : Option GNo). stock_with o w stock) (sym l.in_hand)
 
   abbrev whole : Whole T
-  whole = record { system = system_of c; stock = stock }
+  whole = record { system = system_of c; stock = stock; shelf = c.book.log.shelf }
 
   module _ (k : Whole T) (it : whole ≡ k) where
     -- what the core is then
-    pub whole_lent : (w : T) → record { system = system_of (lent w); stock = stock_of (lent w).machines c.book.bodies } ≡ with_body_in_hand k m w
-    whole_lent w = subst (λ (j : Whole T). record { system = system_of (lent w); stock = stock_of (lent w).machines c.book.bodies } ≡ with_body_in_hand j m w) it (λ i. record { system = system_same w i; stock = stock_lent w i })
+    pub whole_lent : (w : T) → record { system = system_of (lent w); stock = stock_of (lent w).machines c.book.bodies; shelf = c.book.log.shelf } ≡ with_body_in_hand k m w
+    whole_lent w =
+        subst (λ (j : Whole T). record { system = system_of (lent w); stock = stock_of (lent w).machines c.book.bodies; shelf = c.book.log.shelf } ≡ with_body_in_hand j m w) it
+        (λ i. record { system = system_same w i; stock = stock_lent w i; shelf = c.book.log.shelf })
 
-    pub whole_same : record { system = system_of (record c { machines = set c.machines m.0 x }); stock = stock_of (set c.machines m.0 x) c.book.bodies } ≡ k
-    whole_same = ap (λ (ms : List (Machine T Unit)). record { system = system_of (record c { machines = ms }); stock = stock_of ms c.book.bodies }) (put_here c.machines m.0 x is) ∙ it
+    pub whole_same : record { system = system_of (record c { machines = set c.machines m.0 x }); stock = stock_of (set c.machines m.0 x) c.book.bodies; shelf = c.book.log.shelf } ≡ k
+    whole_same =
+        ap (λ (ms : List (Machine T Unit)). record { system = system_of (record c { machines = ms }); stock = stock_of ms c.book.bodies; shelf = c.book.log.shelf })
+        (put_here c.machines m.0 x is) ∙ it
 
     module _ (r : Option (MutBor T)) (lends : option_copied_mut r ≡ body_at x.place x.hand) where
       some_is : is_some (option_copied_mut r) ≡ is_some (held_at (machine_at (system_of c) m).place (machine_at (system_of c) m).hand.held)

@@ -12,3 +12,4 @@ pub mod Opened
 pub mod Moves
 pub mod Wanting
 pub mod Lent
+pub mod Served

@@ -1,5 +1,5 @@
 -- A core that has made no act.
-use Rattle.std.proofs.Common.{◌≡◌, ℕ, ◌<◌, zero, suc, List, [], ◌∷◌, map, length, get_or, refl, sym, ap, ◌∙◌, arith, Option, Some, None}
+use Rattle.std.proofs.Common.{◌≡◌, ℕ, ◌<◌, Bool, zero, suc, List, [], ◌∷◌, map, length, get_or, true, refl, sym, ap, subst, ◌∙◌, arith, Option, Some, None}
 use Rattle.std.proofs.lemmas.List.{get_or_default, same_lists}
 use Rattle.std.proofs.lemmas.List.FromFn.{get_or-map-range_with_len, length-map-range_with_len}
 use Rattle.std.specs.List.{range_with_len, slice_get}
@@ -16,6 +16,8 @@ use Rattle.gmp_acts.specs.Headline.{machine_at_start, opening_system}
 use Rattle.gmp_acts.specs.System.{System}
 use Rattle.gmp_acts.proofs.Watching.{opening_watchful}
 use Rattle.gmp_acts.proofs.Whole.{opening_sound}
+use Rattle.gmp_fair.specs.Fair.{AllSteady}
+use Rattle.gmp_fair.proofs.Steady.{opening_steady}
 use Rattle.gmp_turn.specs.Values.{AreOut, body_in, owner_in}
 use Rattle.gmp_core.specs.Inside.{IsCore, Parts, system_of}
 use Rattle.gmp_core.specs.Opening.{at_start}
@@ -40,19 +42,19 @@ passes_long run n = length-map-range_with_len _ 0 n
 abbrev pub first_pass : ℕ → ℕ → Pass
 first_pass run m = record { run = run; m = record { 0 = m }; calls = 0; seen = 0 }
 
-starts_plain : (T : Type 0) (run : ℕ) (limits : Limits) (ns : List ℕ)
-    → map plain_machine (map (at_start {T = T} {Q = Unit} limits.procs) (map (first_pass run) ns)) ≡ map (machine_at_start run limits) ns
-starts_plain T run limits [] = refl
-starts_plain T run limits (n ∷ ns) = ap (λ (l : List PlainMachine). machine_at_start run limits n ∷ l) (starts_plain T run limits ns)
+starts_plain : (T : Type 0) (is_fair : Bool) (run : ℕ) (limits : Limits) (ns : List ℕ)
+    → map plain_machine (map (at_start {T = T} {Q = Unit} is_fair limits.procs) (map (first_pass run) ns)) ≡ map (machine_at_start is_fair run limits) ns
+starts_plain T is_fair run limits [] = refl
+starts_plain T is_fair run limits (n ∷ ns) = ap (λ (l : List PlainMachine). machine_at_start is_fair run limits n ∷ l) (starts_plain T is_fair run limits ns)
 
-hand_empty : {T : Type 0} (procs : ℕ) (passes : List Pass) (m : ℕ) (x : Machine T Unit) → slice_get (map (at_start procs) passes) m ≡ Some x → x.hand ≡ nothing
-hand_empty procs [] m x is = absurd (let no : None ≡ Some x = is in cc)
-hand_empty {T = T} procs (pass ∷ passes) zero x is = (let its : Some (at_start {T = T} {Q = Unit} procs pass) ≡ Some x = is in let e : at_start procs pass ≡ x = cc in ap (λ (y : Machine T Unit). y.hand) (sym e))
-hand_empty procs (pass ∷ passes) (suc m) x is = hand_empty procs passes m x is
+hand_empty : {T : Type 0} (is_fair : Bool) (procs : ℕ) (passes : List Pass) (m : ℕ) (x : Machine T Unit) → slice_get (map (at_start is_fair procs) passes) m ≡ Some x → x.hand ≡ nothing
+hand_empty is_fair procs [] m x is = absurd (let no : None ≡ Some x = is in cc)
+hand_empty {T = T} is_fair procs (pass ∷ passes) zero x is = (let its : Some (at_start {T = T} {Q = Unit} is_fair procs pass) ≡ Some x = is in let e : at_start is_fair procs pass ≡ x = cc in ap (λ (y : Machine T Unit). y.hand) (sym e))
+hand_empty is_fair procs (pass ∷ passes) (suc m) x is = hand_empty is_fair procs passes m x is
 
-module _ {T : Type 0} (run : ℕ) (limits : Limits) (capacities : List ℕ) (bodies : List T) (owners : List (Unit {0})) where
+module _ {T : Type 0} (is_fair : Bool) (run : ℕ) (limits : Limits) (capacities : List ℕ) (bodies : List T) (owners : List (Unit {0})) where
   abbrev machines : List (Machine T Unit)
-  machines = map (at_start limits.procs) (opening_passes run limits.machines)
+  machines = map (at_start is_fair limits.procs) (opening_passes run limits.machines)
 
   abbrev book : BookContents T Unit
   book = opening_book run limits capacities bodies owners
@@ -60,22 +62,22 @@ module _ {T : Type 0} (run : ℕ) (limits : Limits) (capacities : List ℕ) (bod
   abbrev c : Rings → Parts T
   c rings = record { book = book; rings = rings; machines = machines }
 
-  pub opening_is : (rings : Rings) → rings.queues ≡ (opening_system run limits (length bodies) capacities).queues
-      → system_of (c rings) ≡ opening_system run limits (length bodies) capacities
+  pub opening_is : (rings : Rings) → rings.queues ≡ (opening_system is_fair run limits (length bodies) capacities).queues
+      → system_of (c rings) ≡ opening_system is_fair run limits (length bodies) capacities
   opening_is rings queues =
-      ap (λ (l : List PlainMachine). let k : System = record { book = (opening_system run limits (length bodies) capacities).book; queues = rings.queues; machines = l; own = [] } in k) (starts_plain T run limits (range_with_len 0 limits.machines))
+      ap (λ (l : List PlainMachine). let k : System = record { book = (opening_system is_fair run limits (length bodies) capacities).book; queues = rings.queues; machines = l; own = [] } in k) (starts_plain T is_fair run limits (range_with_len 0 limits.machines))
       ∙ rw queues refl
 
   nothing_out : {X : Type 0} (f : Machine T Unit → ℕ → Option X) (places : List (Option X)) → ((x : Machine T Unit) (i : ℕ) → x.hand ≡ nothing → f x i ≡ None)
       → (m : ℕ) (x : Machine T Unit) → slice_get machines m ≡ Some x → AreOut (f x) places
-  nothing_out f places none m x is i some = absurd (no_some (f x i) (none x i (hand_empty limits.procs (opening_passes run limits.machines) m x is)) some)
+  nothing_out f places none m x is i some = absurd (no_some (f x i) (none x i (hand_empty is_fair limits.procs (opening_passes run limits.machines) m x is)) some)
 
-  pub opening_core : (rings : Rings) → rings.queues ≡ (opening_system run limits (length bodies) capacities).queues → AreLimits limits (length bodies) capacities
+  pub opening_core : (rings : Rings) → rings.queues ≡ (opening_system is_fair run limits (length bodies) capacities).queues → AreLimits limits (length bodies) capacities
       → rings.room ≡ length bodies → IsCore (c rings)
   opening_core rings queues within tickets = record {
     out = [];
-    sound = rw (opening_is rings queues) (opening_sound run limits (length bodies) capacities within);
-    watchful = rw (opening_is rings queues) (opening_watchful run limits (length bodies) capacities within);
+    sound = rw (opening_is rings queues) (opening_sound is_fair run limits (length bodies) capacities within);
+    watchful = rw (opening_is rings queues) (opening_watchful is_fair run limits (length bodies) capacities within);
     bodies = nothing_out (λ (x : Machine T Unit). body_in x.hand) book.bodies (λ x i e. ap (λ h. body_in h i) e);
     owners = nothing_out (λ (x : Machine T Unit). owner_in x.hand) book.owners (λ x i e. ap (λ h. owner_in h i) e);
     tickets_room = tickets;
@@ -84,11 +86,17 @@ module _ {T : Type 0} (run : ℕ) (limits : Limits) (capacities : List ℕ) (bod
     fits = λ i d within. absurd (omega (arith, within));
   }
 
+  -- fair machines are steady
+  pub steady_at : (rings : Rings) → rings.queues ≡ (opening_system is_fair run limits (length bodies) capacities).queues → AreLimits limits (length bodies) capacities
+      → is_fair ≡ true → AllSteady (system_of (c rings))
+  steady_at rings queues within fair =
+      subst AllSteady (sym (opening_is rings queues ∙ ap (λ (b : Bool). opening_system b run limits (length bodies) capacities) fair)) (opening_steady run limits (length bodies) capacities within)
+
   pub opening_stock : stock_of machines book.bodies ≡ map Some bodies
   opening_stock =
       map_same _ _ (range_with_len 0 (length (map Some bodies)))
       (λ i. ap (λ (o : Option T). first_of o (get_or (map Some bodies) i None))
-      (none_has (λ (x : Machine T Unit). body_in x.hand i) machines (λ n y at. ap (λ h. body_in h i) (hand_empty limits.procs (opening_passes run limits.machines) n y at))))
+      (none_has (λ (x : Machine T Unit). body_in x.hand i) machines (λ n y at. ap (λ h. body_in h i) (hand_empty is_fair limits.procs (opening_passes run limits.machines) n y at))))
       ∙ listed (map Some bodies) None
 
 -- why the book is not opened is why the core is not

@@ -17,13 +17,15 @@ use Rattle.gmp_seq.specs.Fits.{Fits}
 use Rattle.gmp_seq.specs.Needs.{WantsMemory}
 use Rattle.gmp_seq.specs.Table.{is_outstanding, is_shelved}
 use Rattle.gmp_table.specs.Kept.{IsListing}
+use Rattle.gmp_goroutines.specs.Shelf.{Shelves}
 use Rattle.gmp_journal.specs.Grants.{Chooses}
-use Rattle.gmp_journal.specs.Log.{is_over}
+use Rattle.gmp_journal.specs.Log.{Log, is_over}
 use Rattle.gmp_journal.specs.Segments.{handed_out}
 use Rattle.gmp_book.specs.Book.{BookContents}
 use Rattle.gmp_driver.specs.declared.act.Act.{Act}
 use Rattle.gmp_driver.specs.declared.act.Act.TheVariants as act
 use Rattle.gmp_driver.specs.declared.act.Value.{Value}
+use Rattle.gmp_driver.specs.declared.load.Load.{Load}
 use Rattle.gmp_driver.specs.declared.place.Place.{Place}
 use Rattle.gmp_driver.specs.declared.place.Place.TheVariants as place
 use Rattle.gmp_driver.specs.declared.registers.HeldParts.{HeldParts}
@@ -44,13 +46,13 @@ use Rattle.gmp_acts.proofs.Onward.{act_opened}
 use Rattle.gmp_acts.proofs.Plain.{number_plain, plain_fits}
 use Rattle.gmp_acts.proofs.Room.{push_has_room}
 use Rattle.gmp_acts.proofs.Whole.{headline_of}
-use Rattle.gmp_turn.specs.Surrenders.{Surrenders}
+use Rattle.gmp_turn.specs.Surrenders.{Surrenders, book_after}
 use Rattle.gmp_turn.specs.Turns.{Turns}
 use Rattle.gmp_turn.specs.Values.{AreOut, body_in, owner_in}
 use Rattle.gmp_turn.proofs.Kept.{kept_at_end, turned}
 use Rattle.gmp_core.specs.Doing.{Desk, Does}
 use Rattle.gmp_core.specs.Inside.{IsCore, Parts, joined_system_of, system_of}
-use Rattle.gmp_core.specs.Whole.{EntersCall, HasRoom, HeadlineOf, IsKept, IsWhole, NoCallIsRefused, TakesFixed, stock_of}
+use Rattle.gmp_core.specs.Whole.{EntersCall, HasRoom, HeadlineOf, IsKept, IsWhole, NoCallIsRefused, TakesFixed, Whole, stock_of}
 use Rattle.gmp_core.proofs.Before.{acts_before, hands_out}
 use Rattle.gmp_core.proofs.Keeping.{kept_after, one_in_hand}
 use Rattle.gmp_core.proofs.Tying.{agrees, does, is_there, joined_total, kept_room, machine_is, none_out, next_plain, over, parts_after, tickets}
@@ -65,15 +67,46 @@ abbrev reply_of : Reply → List Entry → Reply
 reply_of other [] = other
 reply_of other (e ∷ es) = e.reply
 
-chosen : {T Q : Type 0} (x x' : Machine T Q) (book book' : BookContents T Q) (m : MNo) (count : ℕ) (asked : Call) (word : ℕ) (answer : Reply) (result : Result Reply Refusal) → Turns x book asked word result x' book'
-    → book'.log.history ≡ book.log.history ++ record { m = m; k = count; call = asked; reply = answer } ∷ [] → Chooses asked word answer book.log.state book.log.shelf
-chosen x x' book book' m count asked word answer (Ok reply) t more =
+longer : (log log' : Log) (e : Entry) → log'.history ≡ log.history ++ e ∷ [] → log'.history ≡ log.history → ⊥
+longer log log' e more same =
+    let one : length log.history ≡ length log.history + 1 = ap (λ (l : List Entry). length l) (sym same ∙ more) ∙ length_push log.history e in omega (arith, one)
+
+-- what a call takes, and what it does to the shelf
+abbrev Takes : {T Q : Type 0} → Call → ℕ → BookContents T Q → BookContents T Q → Reply → Type 0
+Takes asked word book book' answer =
+    Chooses asked word answer book.log.state book.log.shelf × Shelves asked answer book.log.state.table book'.log.state.table book.log.shelf book'.log.shelf
+
+taken_so : {T Q : Type 0} (x x' : Machine T Q) (book book' : BookContents T Q) (m : MNo) (count : ℕ) (asked : Call) (word : ℕ) (answer : Reply) (result : Result Reply Refusal)
+    → Turns x book asked word result x' book' → book'.log.history ≡ book.log.history ++ record { m = m; k = count; call = asked; reply = answer } ∷ [] → Takes asked word book book' answer
+taken_so x x' book book' m count asked word answer (Ok reply) t more =
     let e : reply ≡ answer = ap (reply_of answer) (append_cancel_left book.log.history _ _ (sym t.records.entry ∙ more)) in
-    subst (λ (r : Reply). Chooses asked word r book.log.state book.log.shelf) e t.choice
-chosen x x' book book' m count asked word answer (Err why) t more =
-    let same : book'.log.history ≡ book.log.history = ap (λ (b : BookContents _ _). b.log.history) t.err.0 in
-    let longer : length book.log.history ≡ length book.log.history + 1 = ap (λ (l : List Entry). length l) (sym same ∙ more) ∙ length_push book.log.history _ in
-    absurd (omega (arith, longer))
+    subst (Takes asked word book book') e (t.choice, t.records.shelf)
+taken_so x x' book book' m count asked word answer (Err why) t more = absurd (longer book.log book'.log _ more (ap (λ (b : BookContents _ _). b.log.history) t.err.0))
+
+-- a call that makes no entry leaves the shelf
+shelf_kept : {T Q : Type 0} (x x' : Machine T Q) (book book' : BookContents T Q) (asked : Call) (word : ℕ) (result : Result Reply Refusal) → Turns x book asked word result x' book'
+    → book'.log.history ≡ book.log.history → book'.log.shelf ≡ book.log.shelf
+shelf_kept x x' book book' asked word (Ok reply) t same = absurd (longer book.log book'.log _ t.records.entry same)
+shelf_kept x x' book book' asked word (Err why) t same = ap (λ (b : BookContents _ _). b.log.shelf) t.err.0
+
+book_kept : {T Q : Type 0} (which : Option Value) (result : Result Unit Refusal) (load : Load T Q) (book : BookContents T Q) → (book_after which result load book).log ≡ book.log
+book_kept which (Ok done) load book = search rules
+book_kept which (Err why) load book = refl
+
+-- and so does any other act
+shelf_stays : {T : Type 0} (a : Act) (m : MNo) (choice : Choice) (old now : Desk T) → Does a m choice old now → now.book.log.history ≡ old.book.log.history
+    → now.book.log.shelf ≡ old.book.log.shelf
+shelf_stays (act.Call asked) m choice old now d same = shelf_kept old.machine now.machine old.book now.book asked choice.word d.0 d.1 same
+shelf_stays act.Pop m choice old now d same = ap (λ (b : BookContents _ _). b.log.shelf) d.book
+shelf_stays act.Drain m choice old now d same = ap (λ (b : BookContents _ _). b.log.shelf) d.book
+shelf_stays act.Push m choice old now d same = ap (λ (b : BookContents _ _). b.log.shelf) d.book
+shelf_stays act.Hunt m choice old now d same = ap (λ (b : BookContents _ _). b.log.shelf) d.book
+shelf_stays (act.Steal v) m choice old now d same = ap (λ (b : BookContents _ _). b.log.shelf) d.book
+shelf_stays act.Resume m choice old now d same = ap (λ (x : Desk _). x.book.log.shelf) d
+shelf_stays act.Block m choice old now d same = ap (λ (x : Desk _). x.book.log.shelf) d
+shelf_stays (act.Clock minded) m choice old now d same = ap (λ (x : Desk _). x.book.log.shelf) d
+shelf_stays (act.Surrender which) m choice old now d same = ap (λ (b : BookContents _ _). b.log.shelf) d.1.places ∙ ap (λ (l : Log). l.shelf) (book_kept which d.0 _ old.book)
+shelf_stays act.Nothing m choice old now d same = ap (λ (x : Desk _). x.book.log.shelf) d
 
 -- What is known of all entries, for those that are left
 
@@ -82,6 +115,10 @@ left_entry out before behind more e = append_cancel_left out _ _ (e ∙ append_a
 
 left_book : (out : List Entry) (a b : BookRun) → (record a { history = out ++ a.history }) ≡ (record b { history = out ++ b.history }) → a ≡ b
 left_book out a b e = λ i. record (e i) { history = append_cancel_left out a.history b.history (ap (λ (r : BookRun). r.history) e) i }
+
+-- the core as a contract sees it
+abbrev pub whole_of : {T : Type 0} → Parts T → Whole T
+whole_of c = record { system = system_of c; stock = stock_of c.machines c.book.bodies; shelf = c.book.log.shelf }
 
 -- the core keeps the headline
 pub core_headline : {T : Type 0} (c : Parts T) → IsCore c → HeadlineOf (system_of c)
@@ -151,11 +188,15 @@ module _ {T : Type 0} (c : Parts T) (m : MNo) (x : Machine T Unit) (is : slice_g
       by (inl entered) = inl (entered.0, left_entry core.out c.book.log.history now.book.log.history _ entered.1)
       by (inr wanted) = inr (wanted.0, left_book core.out (system_of c').book k.book wanted.1)
 
-    pub fixed_so : IsListing is_shelved c.book.log.state.table.goroutines c.book.log.shelf → TakesFixed k m choice.word (system_of c')
-    fixed_so listed asked answer inside next more =
-        let at : next_act x ≡ act.Call asked = sym (ap next_act (machine_is c m x is) ∙ next_plain x) ∙ next in
-        let made_so = subst (λ (a : Act). Does a m choice (record { machine = x; book = c.book; rings = c.rings }) now) at d in
-        (c.book.log.shelf, listed, chosen x now.machine c.book now.book m (count_of k.book m) asked choice.word answer made_so.0 made_so.1 more)
+    pub fixed_so : IsListing is_shelved c.book.log.state.table.goroutines c.book.log.shelf → TakesFixed (whole_of c) m choice.word (whole_of c')
+    fixed_so listed = record {
+      listed = listed;
+      takes = λ asked answer inside next more.
+          let at : next_act x ≡ act.Call asked = sym (ap next_act (machine_is c m x is) ∙ next_plain x) ∙ next in
+          let made_so = subst (λ (a : Act). Does a m choice (record { machine = x; book = c.book; rings = c.rings }) now) at d in
+          taken_so x now.machine c.book now.book m (count_of k.book m) asked choice.word answer made_so.0 made_so.1 more;
+      stays = λ same. shelf_stays (next_act x) m choice (record { machine = x; book = c.book; rings = c.rings }) now d (ap (λ (r : BookRun). r.history) same);
+    }
 
     pub headline_so : HeadlineOf (system_of c')
     headline_so = core_headline c' core_so
@@ -175,6 +216,15 @@ acts_none {T = T} c m choice k is few none = subst (λ (j : System). Acts j m ch
   few = few;
   by_place = λ inside. absurd (none (let same = length-map c.machines (plain_machine {T = T} {Q = Unit}) in omega (arith, inside, same)));
   else_none = λ past. refl;
+})
+
+-- it takes nothing
+pub fixed_none : {T : Type 0} (c : Parts T) (m : MNo) (word : ℕ) (k : Whole T) → whole_of c ≡ k → IsListing is_shelved c.book.log.state.table.goroutines c.book.log.shelf
+    → (m.0 < length c.machines → ⊥) → TakesFixed k m word (whole_of c)
+fixed_none {T} c m word k is listed none = subst (λ (j : Whole T). TakesFixed j m word (whole_of c)) is (record {
+  listed = listed;
+  takes = λ asked answer inside. absurd (none (let same = length-map c.machines (plain_machine {T = T} {Q = Unit}) in omega (arith, inside, same)));
+  stays = λ same. refl;
 })
 
 -- A core that has as much room as entries has room as long as its run lasts, unless it handed some out.

@@ -57,7 +57,7 @@ none_or_outcome None = inl refl
 none_or_outcome (Some x) = inr (λ e. (let no : Some x ≡ None = e in cc))
 
 seen_of_plain : {T Q : Type 0} (x : Machine T Q) → seen (plain_machine x) ≡ seen x
-seen_of_plain x = seen_plain x.procs x.fresh x.turns x.hand
+seen_of_plain x = seen_plain x.procs x.fresh x.turns x.aside x.hand
 
 pub next_plain : {T Q : Type 0} (x : Machine T Q) → next_act (plain_machine x) ≡ next_act x
 next_plain x = ap (λ (s : Seen). act_at s x.place) (seen_of_plain x)

@@ -6,3 +6,4 @@ pub mod Inside
 pub mod Opening
 pub mod Lending
 pub mod Pieces
+pub mod Waits

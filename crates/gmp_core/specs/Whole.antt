@@ -1,4 +1,4 @@
--- The core as a contract sees it: its state, and the bodies of all goroutines, wherever each is.
+-- The core as a contract sees it: its state, the bodies of all goroutines, wherever each is, and who is on the shelf, in order.
 use Rattle.std.specs.Prelude.{◌≡◌, ◌⊎◌, ℕ, ◌<◌, All, Bool, true, false, List, [], ◌∷◌, ◌++◌, map, length, Option, None, Some, slice_get, slice_index_or, slice_set}
 use Rattle.std.specs.List.{range_with_len}
 use Rattle.gmp_base.specs.declared.number.GNo.{GNo}
@@ -11,6 +11,7 @@ use Rattle.gmp_seq.specs.Fits.{Fits}
 use Rattle.gmp_seq.specs.Needs.{WantsMemory}
 use Rattle.gmp_seq.specs.Table.{is_shelved}
 use Rattle.gmp_table.specs.Kept.{IsListing}
+use Rattle.gmp_goroutines.specs.Shelf.{Shelves}
 use Rattle.gmp_journal.specs.Grants.{Chooses}
 use Rattle.gmp_core.specs.declared.want.Want.{Want}
 use Rattle.gmp_core.specs.declared.want.Want.TheVariants as want
@@ -28,10 +29,11 @@ use Rattle.gmp_acts.specs.Hands.{PlainHand}
 use Rattle.gmp_acts.specs.Headline.{Headline, Lasts, NoClaimIsRefused}
 use Rattle.gmp_acts.specs.System.{System, called_number, count_of, count_of_all, held_number, machine_at, made_of}
 
--- the state, and the stock of bodies: body g is that of goroutine g, in the book or with a machine
+-- the state, the stock of bodies: body g is that of goroutine g, in the book or with a machine; and who is on the shelf, in order
 pub record Whole (T : Type 0) : Type 0 where
   pub system : System
   pub stock : List (Option T)
+  pub shelf : List GNo
 
 -- the first that is there
 abbrev pub first_with : {M X : Type 0} → (M → Option X) → List M → Option X
@@ -91,9 +93,13 @@ is_of_body _ = false
 
 -- Refusals
 
--- machine m makes this call: that is the one entry more, with some reply
+-- machine m makes this call, with this reply: that is the one entry more
+abbrev pub Enters : System → MNo → Call → Reply → System → Type 0
+Enters k m asked answer k' = k'.book.history ≡ k.book.history ++ record { m = m; k = count_of k.book m; call = asked; reply = answer } ∷ []
+
+-- with some reply
 abbrev pub EntersCall : System → MNo → Call → System → Type 0
-EntersCall k m asked k' = (answer : Reply) × (k'.book.history ≡ k.book.history ++ record { m = m; k = count_of k.book m; call = asked; reply = answer } ∷ [])
+EntersCall k m asked k' = (answer : Reply) × Enters k m asked answer k'
 
 -- While the run lasts, a call that the machine's program names makes its entry. A make may want memory, and then the book is as it was.
 abbrev pub NoCallIsRefused : System → MNo → System → Type 0
@@ -101,19 +107,21 @@ NoCallIsRefused k m k' = (asked : Call) → m.0 < length k.machines → next_act
     → Lasts k (EntersCall k m asked k' ⊎ (WantsMemory k.book.limits asked k.book.state × (k'.book ≡ k.book)))
 
 -- Where the scheduler leaves a choice, a call that makes its entry takes what is fixed: the least idle processor, the least parked machine,
--- the case of the word. A take gives the first of some list of those on the shelf, whichever: the state has no order of them.
-abbrev pub TakesFixed : System → MNo → ℕ → System → Type 0
-TakesFixed k m word k' = (asked : Call) (answer : Reply) → m.0 < length k.machines → next_act (machine_at k m) ≡ act.Call asked
-    → k'.book.history ≡ k.book.history ++ record { m = m; k = count_of k.book m; call = asked; reply = answer } ∷ []
-    → (shelf : List GNo) × IsListing is_shelved k.book.state.table.goroutines shelf × Chooses asked word answer k.book.state shelf
+-- the least goroutine that may be started, the case of the word, and whoever is first on the shelf. All who come onto the shelf come last, and
+-- without an entry it stays.
+pub record TakesFixed {T : Type 0} (k : Whole T) (m : MNo) (word : ℕ) (k' : Whole T) : Type 0 where
+  pub listed : IsListing is_shelved k.system.book.state.table.goroutines k.shelf
+  pub takes : (asked : Call) (answer : Reply) → m.0 < length k.system.machines → next_act (machine_at k.system m) ≡ act.Call asked → Enters k.system m asked answer k'.system
+      → Chooses asked word answer k.system.book.state k.shelf × Shelves asked answer k.system.book.state.table k'.system.book.state.table k.shelf k'.shelf
+  pub stays : k'.system.book ≡ k.system.book → k'.shelf ≡ k.shelf
 
 -- Acts in a row: no call of them is refused, no claim is, and each takes what is fixed.
-abbrev pub GrantsAll : System → List (MNo × Choice) → System → Type 0
+abbrev pub GrantsAll : {T : Type 0} → Whole T → List (MNo × Choice) → Whole T → Type 0
 GrantsAll k [] k' = k' ≡ k
-GrantsAll k (move ∷ moves) k' = (mid : System)
-    × Acts k move.0 move.1 mid
-    × NoCallIsRefused k move.0 mid
-    × NoClaimIsRefused k move.0 mid
+GrantsAll {T} k (move ∷ moves) k' = (mid : Whole T)
+    × Acts k.system move.0 move.1 mid.system
+    × NoCallIsRefused k.system move.0 mid.system
+    × NoClaimIsRefused k.system move.0 mid.system
     × TakesFixed k move.0 move.1.word mid
     × GrantsAll mid moves k'
 

@@ -2,10 +2,13 @@
 //! The calls that machines made have no list here: they are those of the history, each with the reply that its machine was told. A list
 //! beside it would copy each call once more.
 ghost use Rattle.std.specs.Borrow.{sem};
-ghost use Rattle.std.specs.Prelude.{◌≡◌, ◌↔◌, ◌≤◌, ◌<◌, [], All, IsTrue, Some, false, true, is_some, length, map, slice_get, take, IfErr, IfOk, IfSome, IsSome, OnOk};
+ghost use Rattle.std.specs.Prelude.{ℕ, ◌≡◌, ◌↔◌, ◌≤◌, ◌<◌, ◌+◌, ◌*◌, [], ◌∷◌, All, IsTrue, Some, false, true, is_some, length, map, slice_get, take, IfErr, IfOk, IfSome, IsSome, OnOk};
 ghost use Rattle.std.specs.Option.{option_map_or};
+ghost use Rattle.gmp_base.specs.declared.number.MNo.{MNo};
+ghost use Rattle.gmp_base.specs.declared.number.Readiness.{Readiness};
 ghost use Rattle.gmp_seq.specs.Fits.{AreLimits, Fits};
 ghost use Rattle.gmp_seq.specs.Machines.{is_parked_mode};
+ghost use Rattle.gmp_seq.specs.State.{main};
 ghost use Rattle.gmp_book.specs.Book.{WhyUnopened};
 ghost use Rattle.gmp_acts.specs.System.{made_of};
 ghost use Rattle.gmp_core.specs.Whole.{wanted_by};
@@ -27,7 +30,7 @@ use std::marker::Model;
 
 /// Several machines by their programs, over one book and their local queues. Whatever they do, and in any order, the headline holds.
 ///
-/// A contract sees the state of all together, and the stock of bodies, wherever each body is.
+/// A contract sees the state of all together, the stock of bodies, wherever each body is, and who is on the shelf, in order.
 pub struct Core<T> {
     alloc: Global,
     /// Its owners are nothing: the queues lie beside it, and not in the hands of who holds a processor.
@@ -46,6 +49,7 @@ impl<T> Model for Core<T> {
     ghost view = { λ c. record {
       system = system_of (record { book = c.book; rings = c.queues; machines = c.drivers.items });
       stock = stock_of c.drivers.items c.book.bodies;
+      shelf = c.book.log.shelf;
     } };
 
     ghost invariant = { λ c. IsCore (record { book = c.book; rings = c.queues; machines = c.drivers.items }) };
@@ -94,10 +98,12 @@ impl<T> Core<T> {
     ghost use Rattle.gmp_acts.specs.Lookouts.{NoWorkIsAsleep};
     ghost use Rattle.gmp_acts.specs.System.{machine_at};
     ghost use Rattle.gmp_driver.specs.Machine.{held_at, is_done};
+    ghost use Rattle.gmp_fair.specs.Fair.{AllSteady};
     ghost use Rattle.gmp_core.specs.Lending.{lends_body};
+    ghost use Rattle.gmp_core.specs.Waits.{WaitsThrough};
     ghost use Rattle.gmp_core.specs.Whole.{GrantsAll, HasRoom, HeadlineOf, IsBodyInHand, IsKept, IsWhole, NoCallIsRefused, TakesFixed, emptied, is_of_body};
 
-    /// Machines that have made no act, each at its start with nothing in hand. There is a body for each goroutine. It takes all the memory
+    /// Machines that have made no act and are not fair, each at its start with nothing in hand. There is a body for each goroutine. It takes all the memory
     /// that acts need, but for a make. Refused, it hands the bodies back.
     /// `BadLimits` comes before `OutOfMemory`. With other limits numbers of the history might not fit their types.
     pub fn open(
@@ -110,8 +116,30 @@ impl<T> Core<T> {
         ensures within { OnOk result (AreLimits limits (length bodies.items) capacities.now) }
         ensures why { IfErr result (λ r. WhyUnopened (AreLimits limits (length bodies.items) capacities.now) r.why) }
         ensures back { IfErr result (λ r. r.back.items ≡ bodies.items) }
-        ensures system { IfOk result (λ k. k.system ≡ opening_system run limits (length bodies.items) capacities.now) }
+        ensures system { IfOk result (λ k. k.system ≡ opening_system false run limits (length bodies.items) capacities.now) }
         ensures stock { IfOk result (λ k. k.stock ≡ map Some bodies.items) }
+        ensures shelf { IfOk result (λ k. k.shelf ≡ main ∷ []) }
+        ensures whole { IfOk result (λ k. IsWhole k.system) }
+    {
+        Core::open_fair(alloc, run, limits, capacities, bodies, false)
+    }
+
+    /// The same, of machines that are all fair, or none is: a fair one looks aside each 16 claims.
+    pub fn open_fair(
+        alloc: Global,
+        run: u64,
+        limits: Limits,
+        capacities: &[u32],
+        bodies: Vec<T>,
+        is_fair: bool,
+    ) -> Result<Self, Refused<Vec<T>>>
+        ensures within { OnOk result (AreLimits limits (length bodies.items) capacities.now) }
+        ensures why { IfErr result (λ r. WhyUnopened (AreLimits limits (length bodies.items) capacities.now) r.why) }
+        ensures back { IfErr result (λ r. r.back.items ≡ bodies.items) }
+        ensures system { IfOk result (λ k. k.system ≡ opening_system is_fair run limits (length bodies.items) capacities.now) }
+        ensures stock { IfOk result (λ k. k.stock ≡ map Some bodies.items) }
+        ensures shelf { IfOk result (λ k. k.shelf ≡ main ∷ []) }
+        ensures steady { IfOk result (λ k. is_fair ≡ true → AllSteady k.system) }
         ensures whole { IfOk result (λ k. IsWhole k.system) }
     {
         if !limits.allow(bodies.len(), capacities) {
@@ -138,7 +166,7 @@ impl<T> Core<T> {
                 alloc,
                 book,
                 queues,
-                drivers: starting(room, passes, limits.procs),
+                drivers: starting(room, passes, limits.procs, is_fair),
             }),
         }
     }
@@ -158,7 +186,8 @@ impl<T> Core<T> {
         ensures stock { self.new.stock ≡ self.old.stock }
         ensures claims { result ≡ true → NoClaimIsRefused self.old.system m self.new.system }
         ensures calls { result ≡ true → NoCallIsRefused self.old.system m self.new.system }
-        ensures fixed { result ≡ true → TakesFixed self.old.system m choice.now.word self.new.system }
+        ensures fixed { result ≡ true → TakesFixed self.old m choice.now.word self.new }
+        ensures steady { AllSteady self.old.system → AllSteady self.new.system }
         ensures headline { HeadlineOf self.new.system }
         ensures awake { NoWorkIsAsleep self.new.system }
         ensures opened { SameOpening self.old.system.book self.new.system.book }
@@ -204,6 +233,7 @@ impl<T> Core<T> {
         ensures lasting { self.old.system.book.limits.room ≤ spare.new.lasting }
         ensures rest { self.new.system ≡ emptied self.old.system }
         ensures stock { self.new.stock ≡ self.old.stock }
+        ensures shelf { self.new.shelf ≡ self.old.shelf }
     {
         // The history tells that its numbers fit their types.
         let _ = self.book.history();
@@ -222,16 +252,22 @@ impl<T> Core<T> {
     /// headline holds after them, and no work is left asleep.
     pub fn run(&mut self, moves: &[(MNo, Choice)]) -> usize
         ensures acts { ActsAll self.old.system (take result moves.now) self.new.system }
-        ensures calls { GrantsAll self.old.system (take result moves.now) self.new.system }
+        ensures calls { GrantsAll self.old (take result moves.now) self.new }
         ensures few { result ≤ length moves.now }
         ensures full { result < length moves.now → ¬ (HasRoom self.new.system) }
         ensures kept { IsKept self.old.system.book.limits → IsWhole self.old.system → result ≡ length moves.now }
         ensures whole { IsWhole self.old.system → IsWhole self.new.system }
         ensures stock { self.new.stock ≡ self.old.stock }
+        // Of fair machines each claims at most so many tickets while another waits in lines: the shelf, or a local queue.
+        ensures served { (m : MNo) (r : Readiness) (count : ℕ) → AllSteady self.old.system → m.0 < length self.old.system.machines
+            → WaitsThrough m r self.old (take result moves.now) count self.new → count ≤ 32 * (self.old.system.book.limits.procs + 1) * self.old.system.book.bodies }
+        ensures steady { AllSteady self.old.system → AllSteady self.new.system }
         ensures headline { HeadlineOf self.new.system }
         ensures awake { NoWorkIsAsleep self.new.system }
         ensures opened { SameOpening self.old.system.book self.new.system.book }
     {
+        // The core keeps what acts need from its beginning on.
+        let _ = &self.book;
         for (i, (m, choice)) in moves.iter().enumerate() {
             if !self.act(*m, choice) {
                 return i;

@@ -13,17 +13,18 @@ pub(crate) fn starting<T>(
     room: Vec<Driver<T, ()>>,
     passes: Vec<Pass>,
     procs: u8,
+    is_fair: bool,
 ) -> Vec<Driver<T, ()>>
     requires empty { room.items ≡ [] }
     requires room { length passes.items ≤ vec_capacity room }
     requires some { 1 ≤ procs }
     requires few { procs ≤ 32 }
-    ensures { result.items ≡ map (at_start procs) passes.items }
+    ensures { result.items ≡ map (at_start is_fair procs) passes.items }
 {
     let mut drivers = room;
     let mut passes = passes;
     while let Some(pass) = passes.pop() {
-        drivers.push_reserved(Driver::new(pass, procs));
+        drivers.push_reserved(Driver::new_fair(pass, procs, is_fair));
     }
     passes.destroy_empty();
     drivers.reverse();

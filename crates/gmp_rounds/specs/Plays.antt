@@ -72,8 +72,8 @@ module _ {T O : Type 0} (asks : O → T → Woke → Ask → O → T → Type 0)
     pub settled : IsSettled word choice
     pub deals : IsDealt (wanted_by (next_act (machine_at s.core.system m))) s.core s.outside m choice s'.core.stock s'.outside
     pub acts : Acts s.core.system m choice s'.core.system
-    -- where the scheduler leaves a choice, it is the one that is fixed, by the word where it is among cases
-    pub fixed : TakesFixed s.core.system m choice.word s'.core.system
+    -- where the scheduler leaves a choice, it is the one that is fixed: by the word among cases, by who came first on the shelf
+    pub fixed : TakesFixed s.core m choice.word s'.core
     pub turn : s'.turn ≡ m.0 + 1
 
   -- so many acts, one after another

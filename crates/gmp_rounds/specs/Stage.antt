@@ -1,9 +1,10 @@
 -- A core whose machines act in turn, with what is outside it.
-use Rattle.std.specs.Prelude.{◌≡◌, ◌≢◌, ℕ, ◌+◌, ◌%◌, ◌<◌, Bool, true, false, List, map, length, None, Some, slice_get}
+use Rattle.std.specs.Prelude.{◌≡◌, ◌≢◌, ℕ, ◌+◌, ◌%◌, ◌<◌, Bool, true, false, List, [], ◌∷◌, map, length, None, Some, slice_get}
 use Rattle.std.specs.Option.{option_map_or}
 use Rattle.gmp_base.specs.declared.number.MNo.{MNo}
 use Rattle.gmp_seq.specs.declared.call.Limits.{Limits}
 use Rattle.gmp_seq.specs.Machines.{is_parked_mode}
+use Rattle.gmp_seq.specs.State.{main}
 use Rattle.gmp_acts.specs.Headline.{opening_system}
 use Rattle.gmp_acts.specs.System.{System, machine_at}
 use Rattle.gmp_driver.specs.Machine.{is_done}
@@ -15,10 +16,10 @@ pub record Stage (T O : Type 0) : Type 0 where
   pub outside : O
   pub turn : ℕ
 
--- no act was made yet; there is one run, number 0
-abbrev pub opening_stage : {T O : Type 0} → Limits → List ℕ → List T → O → Stage T O
-opening_stage limits capacities bodies outside = record {
-  core = record { system = opening_system 0 limits (length bodies) capacities; stock = map Some bodies };
+-- no act was made yet, and main is on the shelf; all machines are fair, or none is; there is one run, number 0
+abbrev pub opening_stage : {T O : Type 0} → Bool → Limits → List ℕ → List T → O → Stage T O
+opening_stage is_fair limits capacities bodies outside = record {
+  core = record { system = opening_system is_fair 0 limits (length bodies) capacities; stock = map Some bodies; shelf = main ∷ [] };
   outside = outside;
   turn = 0;
 }

@@ -22,6 +22,7 @@ pub(crate) fn choose<T, O: Outside<T>>(
     ensures deals { IsDealt O.asks O.answers O.shows (wanted_by (next_act (machine_at core.old.system m))) core.old outside.old m choice.new core.new.stock outside.new }
     ensures settled { IsSettled word choice.new }
     ensures system { core.new.system ≡ core.old.system }
+    ensures shelf { core.new.shelf ≡ core.old.shelf }
 {
     choice.word = word;
     // What goes wrong between threads doesn't here: no push is refused, and no steal loses a race.
@@ -40,6 +41,7 @@ fn ask<T, O: Outside<T>>(core: &mut Core<T>, outside: &mut O, m: MNo) -> Ask
     requires { IsSome (held_at (machine_at core.old.system m).place (machine_at core.old.system m).hand.held) }
     ensures asks { Asks O.asks core.old outside.old m result core.new.stock outside.new }
     ensures system { core.new.system ≡ core.old.system }
+    ensures shelf { core.new.shelf ≡ core.old.shelf }
 {
     let Some(woke) = core.held(m) else {
         unreachable!()
@@ -55,6 +57,7 @@ fn number<T, O: Outside<T>>(core: &mut Core<T>, outside: &mut O, m: MNo) -> u64
     requires { IsSome (held_at (machine_at core.old.system m).place (machine_at core.old.system m).hand.held) }
     ensures answers { AnswersNumber O.answers core.old outside.old m result core.new.stock outside.new }
     ensures system { core.new.system ≡ core.old.system }
+    ensures shelf { core.new.shelf ≡ core.old.shelf }
 {
     match core.body(m) {
         Some(body) => outside.number(body),

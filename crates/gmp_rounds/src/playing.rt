@@ -46,21 +46,22 @@ impl<T, O> Model for Player<T, O> {
 }
 
 impl<T: Drop, O: Outside<T> + Drop> Player<T, O> {
-    /// The core before its first act. It keeps all entries.
+    /// The core before its first act, of machines that are all fair, or none is. It keeps all entries.
     pub fn open(
         alloc: Global,
         limits: Limits,
         capacities: &[u32],
         bodies: Vec<T>,
         outside: O,
+        is_fair: bool,
     ) -> Result<Self, Refusal>
         requires kept { IsKept limits }
         ensures within { OnOk result (AreLimits limits (length bodies.items) capacities.now) }
-        ensures stage { IfOk result (λ p. p ≡ opening_stage limits capacities.now bodies.items outside) }
+        ensures stage { IfOk result (λ p. p ≡ opening_stage is_fair limits capacities.now bodies.items outside) }
         ensures why { IfErr result (λ why. (why ≡ BadLimits) ⊎ (why ≡ OutOfMemory)) }
         ensures limits { IfErr result (λ why. why ≡ BadLimits → ¬ (AreLimits limits (length bodies.items) capacities.now)) }
     {
-        match Core::open(alloc, RUN, limits, capacities, bodies) {
+        match Core::open_fair(alloc, RUN, limits, capacities, bodies, is_fair) {
             Ok(core) => Ok(Player {
                 core,
                 outside,

@@ -4,3 +4,9 @@ pub mod Ties
 pub mod Follows
 pub mod Whole
 pub mod Makeless
+pub mod Alike
+pub mod MachineReplies
+pub mod Replies
+pub mod WakeOrders
+pub mod Fixed
+pub mod OneEnd

@@ -20,12 +20,14 @@ use Rattle.gmp_driver.specs.declared.act.Told.{Told}
 use Rattle.gmp_driver.specs.declared.act.Told.TheVariants as told
 use Rattle.gmp_driver.specs.declared.act.Tried.{Tried}
 use Rattle.gmp_driver.specs.declared.act.Tried.TheVariants as tried
+use Rattle.gmp_driver.specs.declared.place.Aside.{Aside}
+use Rattle.gmp_driver.specs.declared.place.Aside.TheVariants as aside
 use Rattle.gmp_driver.specs.declared.place.Place.{Place}
 use Rattle.gmp_driver.specs.declared.place.Place.TheVariants as place
 use Rattle.gmp_driver.specs.declared.place.Round.{Round}
 use Rattle.gmp_driver.specs.declared.seen.Seen.{Seen}
-use Rattle.gmp_driver.specs.Hunt.{begun, hunted, more, skipped, steal_goal, victim_of}
-use Rattle.gmp_driver.specs.Table.{act_at, after_ask, call_for, claim_call, next_place, put_call, raised, scanned}
+use Rattle.gmp_driver.specs.Hunt.{begun, hunt_goal, hunted, more, skipped, victim_of}
+use Rattle.gmp_driver.specs.Table.{act_at, after_ask, aside_at, call_for, claim_call, is_late, next_place, put_call, raised, scanned}
 use Rattle.gmp_scene.specs.Scripted.{is_asked}
 
 -- what its body asked, where its call is next; and what its blocking call answered, where that ends next
@@ -51,12 +53,17 @@ mores v zero = refl
 mores v (suc goal) = refl
 
 hunts : (s : Seen) (r : Round) (how : Tried) → due_at (hunted s r how) ≡ None
-hunts s r (tried.Got hint) = mores (victim_of s.procs r) (steal_goal hint - 1)
+hunts s r (tried.Got hint) = mores (victim_of s.procs r) (hunt_goal s.aside hint - 1)
 hunts s r tried.Empty = either (nat_lt (skipped s r.word (r.number + 1)) s.procs) (place.Hunt (Some (record { word = r.word; number = skipped s r.word (r.number + 1) }))) place.Unspin refl refl
 hunts s r tried.Unsure = refl
 
 scans : (np : ℕ) (v : PNo) → due_at (scanned np v) ≡ None
 scans np v = either (nat_lt (v.0 + 1) np) (place.Scan (record { 0 = v.0 + 1 })) place.Park refl refl
+
+asides : (a : Option Aside) → due_at (aside_at a) ≡ None
+asides None = refl
+asides (Some (aside.Shelf v)) = refl
+asides (Some (aside.Queue v)) = refl
 
 -- after a call that its body asked for
 pub answered : (asked : Ask) (answer : Reply) → due_at (after_ask asked answer) ≡ None
@@ -78,8 +85,13 @@ stays s place.Run (told.Asked asked) h n = absurd n
 stays s place.Start (told.Replied (reply.Proc p)) h n = refl
 stays s place.Start (told.Replied reply.Nothing) h n = refl
 stays s place.Look (told.Moment now) h n = refl
-stays s (place.Ticking now) (told.Replied (reply.Woke k)) h n = either (s.procs == 1) place.Look place.Keep refl refl
-stays s place.Keep (told.Replied (reply.Answer true)) h n = refl
+stays s (place.Ticking now) (told.Replied (reply.Woke k)) h n = either (s.procs == 1) (aside_at s.aside) place.Keep (asides s.aside) refl
+stays s place.Keep (told.Replied (reply.Answer true)) h n = asides s.aside
+stays s place.Glance (told.Replied (reply.Ticket r)) h n = refl
+stays s place.Glance (told.Replied reply.Nothing) h n = refl
+stays s (place.Peek v) (told.Tried (tried.Got hint)) h n = refl
+stays s (place.Peek v) (told.Tried tried.Empty) h n = refl
+stays s (place.Peek v) (told.Tried tried.Unsure) h n = refl
 stays s place.Keep (told.Replied (reply.Answer false)) h n = refl
 stays s place.Drain told.Drained h n = refl
 stays s place.Drain told.Empty h n = refl
@@ -110,12 +122,12 @@ stays s place.Poke (told.Replied reply.Nothing) h n = refl
 stays s place.Block (told.Number number) h n = absurd n
 stays s place.Drop (told.Replied (reply.Idle p)) h n = refl
 stays s place.Bare (told.Replied reply.Done) h n = refl
-stays s (place.Scan v) (told.Tried (tried.Got hint)) h n = refl
+stays s (place.Scan v) (told.Tried (tried.Got hint)) h n = either (is_late s) place.PutHave place.Have refl refl
 stays s (place.Scan v) (told.Tried tried.Empty) h n = scans s.procs v
 stays s (place.Scan v) (told.Tried tried.Unsure) h n = refl
 stays s place.Have (told.Replied (reply.Proc p)) h n = refl
 stays s place.Have (told.Replied reply.Nothing) h n = refl
-stays s place.PutHave (told.Replied reply.Shelf) h n = refl
+stays s place.PutHave (told.Replied reply.Shelf) h n = either (is_late s) place.Start place.Bare refl refl
 stays s place.Park (told.Replied reply.Parked) h n = refl
 stays s place.Park (told.Replied reply.Work) h n = refl
 stays s place.Park (told.Replied (reply.Mind deadline)) h n = refl
@@ -175,6 +187,8 @@ tells_place s place.Start = inr (inr (refl, (refl, refl)))
 tells_place s place.Look = looks (nat_le 16 s.turns)
 tells_place s (place.Ticking now) = inr (inr (refl, (refl, refl)))
 tells_place s place.Keep = inr (inr (refl, (refl, refl)))
+tells_place s place.Glance = inr (inr (refl, (refl, refl)))
+tells_place s (place.Peek v) = refl
 tells_place s place.Drain = refl
 tells_place s place.PutDrain = puts place.PutDrain s.to_store refl
 tells_place s place.Global = inr (inr (refl, (refl, refl)))

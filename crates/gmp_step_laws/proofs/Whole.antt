@@ -1,5 +1,5 @@
 -- Runs of the core by a script's bodies, from the opening.
-use Rattle.std.proofs.Common.{◌≡◌, ℕ, zero, suc, ◌<◌, List, [], ◌∷◌, map, length, get_or, set, Option, None, Some, refl, sym, ap, subst, ◌∙◌, arith}
+use Rattle.std.proofs.Common.{◌≡◌, ℕ, Bool, zero, suc, ◌<◌, List, [], ◌∷◌, map, length, get_or, set, Option, None, Some, refl, sym, ap, subst, ◌∙◌, arith}
 use Rattle.std.proofs.lemmas.List.{set-get_or}
 use Rattle.std.proofs.lemmas.List.FromFn.{length-map-range_with_len, get_or-map-range_with_len}
 use Rattle.std.proofs.lemmas.Option.{get_or_from_slice_get}
@@ -33,23 +33,23 @@ use Rattle.gmp_step_laws.proofs.Turns.{script_of}
 
 -- At the opening
 
-none_due : (run : ℕ) (limits : Limits) (n : MNo) (bodies : ℕ) (capacities : List ℕ) → n.0 < length (opening_system run limits bodies capacities).machines
-    → due_at (get_or (opening_system run limits bodies capacities).machines n.0 no_machine).place ≡ None
-none_due run limits n bodies capacities within =
-    let count = length-map-range_with_len (machine_at_start run limits) 0 limits.machines in
-    let at = get_or-map-range_with_len (machine_at_start run limits) 0 limits.machines n.0 n.0 no_machine (omega (arith, within, count)) (omega arith) in
+none_due : (is_fair : Bool) (run : ℕ) (limits : Limits) (n : MNo) (bodies : ℕ) (capacities : List ℕ) → n.0 < length (opening_system is_fair run limits bodies capacities).machines
+    → due_at (get_or (opening_system is_fair run limits bodies capacities).machines n.0 no_machine).place ≡ None
+none_due is_fair run limits n bodies capacities within =
+    let count = length-map-range_with_len (machine_at_start is_fair run limits) 0 limits.machines in
+    let at = get_or-map-range_with_len (machine_at_start is_fair run limits) 0 limits.machines n.0 n.0 no_machine (omega (arith, within, count)) (omega arith) in
     ap (λ (x : PlainMachine). due_at x.place) at
 
-opening_follows : (run : ℕ) (limits : Limits) (capacities : List ℕ) (script : List Commands) → AreLimits limits (length script) capacities
-    → Follows limits capacities script (Unit {0}) (opening_system run limits (length script) capacities) (map Some script)
-opening_follows run limits capacities script are = record {
-  sound = opening_sound run limits (length script) capacities are;
+opening_follows : (is_fair : Bool) (run : ℕ) (limits : Limits) (capacities : List ℕ) (script : List Commands) → AreLimits limits (length script) capacities
+    → Follows limits capacities script (Unit {0}) (opening_system is_fair run limits (length script) capacities) (map Some script)
+opening_follows is_fair run limits capacities script are = record {
+  sound = opening_sound is_fair run limits (length script) capacities are;
   limits_are = refl;
   turns = [];
   now = script;
   entries = refl;
   runs = (refl, refl);
-  ties = λ _. ties_opening (opening_system run limits (length script) capacities).machines script (λ n within. none_due run limits n (length script) capacities within);
+  ties = λ _. ties_opening (opening_system is_fair run limits (length script) capacities).machines script (λ n within. none_due is_fair run limits n (length script) capacities within);
   whole = λ _. refl;
 }
 
@@ -82,17 +82,17 @@ acts_follow limits capacities script (move ∷ moves) P k stock k' stock' acts f
     kept limits capacities script ((P × (¬ (IsUnmade k move.0 acts.0))) × NoneUnmade acts.0 acts.1 moves k' stock' acts.4) (P × NoneUnmade k stock (move ∷ moves) k' stock' acts)
     (λ q. ((q.0, q.1.0), q.1.1)) k' k' stock' stock' refl refl rest
 
-pub scheduled_whole : (run : ℕ) (limits : Limits) (capacities : List ℕ) (bodies : List Commands) (moves : List (MNo × Choice)) (last : System) (stock : List (Option Commands))
-    → AreLimits limits (length bodies) capacities → (acts : ActsBy (opening_system run limits (length bodies) capacities) (map Some bodies) moves last stock)
-    → NoneUnmade (opening_system run limits (length bodies) capacities) (map Some bodies) moves last stock acts → (after : List Commands) × IsRunOf limits capacities bodies last.book.history last.book.state after
-scheduled_whole run limits capacities bodies moves last stock are acts none =
-    whole_of limits capacities bodies _ last stock (acts_follow limits capacities bodies moves (Unit {0}) _ _ last stock acts (opening_follows run limits capacities bodies are)) (tt, none)
+pub scheduled_whole : (is_fair : Bool) (run : ℕ) (limits : Limits) (capacities : List ℕ) (bodies : List Commands) (moves : List (MNo × Choice)) (last : System) (stock : List (Option Commands))
+    → AreLimits limits (length bodies) capacities → (acts : ActsBy (opening_system is_fair run limits (length bodies) capacities) (map Some bodies) moves last stock)
+    → NoneUnmade (opening_system is_fair run limits (length bodies) capacities) (map Some bodies) moves last stock acts → (after : List Commands) × IsRunOf limits capacities bodies last.book.history last.book.state after
+scheduled_whole is_fair run limits capacities bodies moves last stock are acts none =
+    whole_of limits capacities bodies _ last stock (acts_follow limits capacities bodies moves (Unit {0}) _ _ last stock acts (opening_follows is_fair run limits capacities bodies are)) (tt, none)
 
-pub scheduled_any : (run : ℕ) (limits : Limits) (capacities : List ℕ) (bodies : List Commands) (moves : List (MNo × Choice)) (last : System) (stock : List (Option Commands))
-    → AreLimits limits (length bodies) capacities → ActsBy (opening_system run limits (length bodies) capacities) (map Some bodies) moves last stock
+pub scheduled_any : (is_fair : Bool) (run : ℕ) (limits : Limits) (capacities : List ℕ) (bodies : List Commands) (moves : List (MNo × Choice)) (last : System) (stock : List (Option Commands))
+    → AreLimits limits (length bodies) capacities → ActsBy (opening_system is_fair run limits (length bodies) capacities) (map Some bodies) moves last stock
     → (after : List Commands) × IsRunButMakes limits capacities bodies last.book.history last.book.state after
-scheduled_any run limits capacities bodies moves last stock are acts =
-    any_of limits capacities bodies _ last stock (acts_follow limits capacities bodies moves (Unit {0}) _ _ last stock acts (opening_follows run limits capacities bodies are))
+scheduled_any is_fair run limits capacities bodies moves last stock are acts =
+    any_of limits capacities bodies _ last stock (acts_follow limits capacities bodies moves (Unit {0}) _ _ last stock acts (opening_follows is_fair run limits capacities bodies are))
 
 -- `step`
 
@@ -120,15 +120,15 @@ plays_follow limits capacities script P word (suc n) s s' plays f =
     kept limits capacities script ((P × MakesAll word n s plays.0 plays.1) × (¬ (IsUnmade plays.0.core.system plays.2.m s'.core.system))) (P × MakesAll word (suc n) s s' plays) (λ q. ((q.0, q.1.0), q.1.1))
     s'.core.system s'.core.system s'.core.stock s'.core.stock refl refl one
 
-pub step_whole : (acts word : ℕ) (limits : Limits) (capacities readings : List ℕ) (bodies : List Commands) (last : Stage) → AreLimits limits (length bodies) capacities
-    → (played : IsPlayed acts word (opening_stage limits capacities readings bodies) last) → MakesAll word played.made (opening_stage limits capacities readings bodies) last played.plays
+pub step_whole : (is_fair : Bool) (acts word : ℕ) (limits : Limits) (capacities readings : List ℕ) (bodies : List Commands) (last : Stage) → AreLimits limits (length bodies) capacities
+    → (played : IsPlayed acts word (opening_stage is_fair limits capacities readings bodies) last) → MakesAll word played.made (opening_stage is_fair limits capacities readings bodies) last played.plays
     → (after : List Commands) × IsRunOf limits capacities bodies last.core.system.book.history last.core.system.book.state after
-step_whole acts word limits capacities readings bodies last are played all =
+step_whole is_fair acts word limits capacities readings bodies last are played all =
     whole_of limits capacities bodies _ last.core.system last.core.stock
-    (plays_follow limits capacities bodies (Unit {0}) word played.made (opening_stage limits capacities readings bodies) last played.plays (opening_follows 0 limits capacities bodies are)) (tt, all)
+    (plays_follow limits capacities bodies (Unit {0}) word played.made (opening_stage is_fair limits capacities readings bodies) last played.plays (opening_follows is_fair 0 limits capacities bodies are)) (tt, all)
 
-pub step_any : (acts word : ℕ) (limits : Limits) (capacities readings : List ℕ) (bodies : List Commands) (last : Stage) → AreLimits limits (length bodies) capacities
-    → IsPlayed acts word (opening_stage limits capacities readings bodies) last → (after : List Commands) × IsRunButMakes limits capacities bodies last.core.system.book.history last.core.system.book.state after
-step_any acts word limits capacities readings bodies last are played =
+pub step_any : (is_fair : Bool) (acts word : ℕ) (limits : Limits) (capacities readings : List ℕ) (bodies : List Commands) (last : Stage) → AreLimits limits (length bodies) capacities
+    → IsPlayed acts word (opening_stage is_fair limits capacities readings bodies) last → (after : List Commands) × IsRunButMakes limits capacities bodies last.core.system.book.history last.core.system.book.state after
+step_any is_fair acts word limits capacities readings bodies last are played =
     any_of limits capacities bodies _ last.core.system last.core.stock
-    (plays_follow limits capacities bodies (Unit {0}) word played.made (opening_stage limits capacities readings bodies) last played.plays (opening_follows 0 limits capacities bodies are))
+    (plays_follow limits capacities bodies (Unit {0}) word played.made (opening_stage is_fair limits capacities readings bodies) last played.plays (opening_follows is_fair 0 limits capacities bodies are))

@@ -1,5 +1,5 @@
 //! Laws of the core's runs by a script's bodies. Each is the contract of a function that does nothing.
-ghost use Rattle.std.specs.Prelude.{ℕ, List, All, Option, Some, length, map};
+ghost use Rattle.std.specs.Prelude.{◌≡◌, ℕ, Bool, List, All, Option, Some, length, map};
 ghost use Rattle.gmp_base.specs.declared.number.MNo.{MNo};
 ghost use Rattle.gmp_script.specs.Script.{Commands};
 ghost use Rattle.gmp_seq.specs.declared.call.Entry.{Entry};
@@ -18,23 +18,31 @@ ghost use Rattle.gmp_step_laws.specs.Scheduled.{ActsBy, NoneUnmade};
 /// What `step` plays of a script is a run of the scheduler by the script's bodies, where memory was refused for no make of it. Of any other
 /// the same holds, but that the bodies pass over the makes that were refused.
 pub fn step_plays_the_script()
-    ensures whole { (acts word : ℕ) (limits : Limits) (capacities readings : List ℕ) (bodies : List Commands) (last : Stage) → AreLimits limits (length bodies) capacities
-        → (played : IsPlayed acts word (opening_stage limits capacities readings bodies) last) → MakesAll word played.made (opening_stage limits capacities readings bodies) last played.plays
+    ensures whole { (is_fair : Bool) (acts word : ℕ) (limits : Limits) (capacities readings : List ℕ) (bodies : List Commands) (last : Stage) → AreLimits limits (length bodies) capacities
+        → (played : IsPlayed acts word (opening_stage is_fair limits capacities readings bodies) last) → MakesAll word played.made (opening_stage is_fair limits capacities readings bodies) last played.plays
         → (after : List Commands) × IsRunOf limits capacities bodies last.core.system.book.history last.core.system.book.state after }
-    ensures any { (acts word : ℕ) (limits : Limits) (capacities readings : List ℕ) (bodies : List Commands) (last : Stage) → AreLimits limits (length bodies) capacities
-        → IsPlayed acts word (opening_stage limits capacities readings bodies) last
+    ensures any { (is_fair : Bool) (acts word : ℕ) (limits : Limits) (capacities readings : List ℕ) (bodies : List Commands) (last : Stage) → AreLimits limits (length bodies) capacities
+        → IsPlayed acts word (opening_stage is_fair limits capacities readings bodies) last
         → (after : List Commands) × IsRunButMakes limits capacities bodies last.core.system.book.history last.core.system.book.state after }
 {}
 
-/// The same of the core under any scheduling: whichever machines act, in any order, with any choices but that a body that is resumed asks
+/// A script has one end: whatever is played of it, where memory is refused for no make, is the same, entry for entry.
+pub fn script_has_one_end()
+    ensures { (is_fair : Bool) (acts word : ℕ) (limits : Limits) (capacities readings : List ℕ) (bodies : List Commands) (one other : Stage) → AreLimits limits (length bodies) capacities
+        → (played : IsPlayed acts word (opening_stage is_fair limits capacities readings bodies) one) → MakesAll word played.made (opening_stage is_fair limits capacities readings bodies) one played.plays
+        → (again : IsPlayed acts word (opening_stage is_fair limits capacities readings bodies) other) → MakesAll word again.made (opening_stage is_fair limits capacities readings bodies) other again.plays
+        → one ≡ other }
+{}
+
+/// What `step_plays_the_script` says, of the core under any scheduling: whichever machines act, in any order, with any choices but that a body that is resumed asks
 /// what its next command asks, and whatever the scheduler chooses.
 pub fn any_scheduling_plays_the_script()
-    ensures whole { (run : ℕ) (limits : Limits) (capacities : List ℕ) (bodies : List Commands) (moves : List (MNo × Choice)) (last : System) (stock : List (Option Commands))
-        → AreLimits limits (length bodies) capacities → (acts : ActsBy (opening_system run limits (length bodies) capacities) (map Some bodies) moves last stock)
-        → NoneUnmade (opening_system run limits (length bodies) capacities) (map Some bodies) moves last stock acts
+    ensures whole { (is_fair : Bool) (run : ℕ) (limits : Limits) (capacities : List ℕ) (bodies : List Commands) (moves : List (MNo × Choice)) (last : System) (stock : List (Option Commands))
+        → AreLimits limits (length bodies) capacities → (acts : ActsBy (opening_system is_fair run limits (length bodies) capacities) (map Some bodies) moves last stock)
+        → NoneUnmade (opening_system is_fair run limits (length bodies) capacities) (map Some bodies) moves last stock acts
         → (after : List Commands) × IsRunOf limits capacities bodies last.book.history last.book.state after }
-    ensures any { (run : ℕ) (limits : Limits) (capacities : List ℕ) (bodies : List Commands) (moves : List (MNo × Choice)) (last : System) (stock : List (Option Commands))
-        → AreLimits limits (length bodies) capacities → ActsBy (opening_system run limits (length bodies) capacities) (map Some bodies) moves last stock
+    ensures any { (is_fair : Bool) (run : ℕ) (limits : Limits) (capacities : List ℕ) (bodies : List Commands) (moves : List (MNo × Choice)) (last : System) (stock : List (Option Commands))
+        → AreLimits limits (length bodies) capacities → ActsBy (opening_system is_fair run limits (length bodies) capacities) (map Some bodies) moves last stock
         → (after : List Commands) × IsRunButMakes limits capacities bodies last.book.history last.book.state after }
 {}
 

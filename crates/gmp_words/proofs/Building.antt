@@ -1,5 +1,5 @@
 -- The shape of a command to which options are added in turn.
-use Rattle.std.proofs.Common.{◌≡◌, ◌∙◌, ◌+◌, ◌<◌, ℕ, false, List, [], ◌∷◌, map, take, get_or, length, ap, ap₂, sym, append_assoc, Result, Ok, Err, IfOk, IsOkAnd}
+use Rattle.std.proofs.Common.{◌≡◌, ◌∙◌, ◌+◌, ◌<◌, ℕ, false, List, [], ◌∷◌, ◌++◌, map, take, get_or, length, ap, ap₂, sym, append_assoc, Result, Ok, Err, IfOk, IsOkAnd}
 use Rattle.std.proofs.lemmas.List.{map_more}
 use Rattle.clap.specs.Words.{AddsArg, AddsSubcommand, App, Rule, Shape, app_of, rule_of, shape_of, with_subcommand}
 use Rattle.clap.specs.declared.builder.arg.Arg.{Arg}
@@ -10,6 +10,13 @@ use Rattle.gmp_words.specs.Program.{with_more}
 -- one more option
 pub one_more : (old new : Command) (a : Arg) → AddsArg old a new → a.global ≡ false → shape_of new ≡ with_more (shape_of old) (rule_of a ∷ [])
 one_more old new a adds local = ap (λ (p : App). p.top) (adds.shape local)
+
+-- the same behind others
+pub one_further : (old new : Command) (a : Arg) (s : Shape) (rs : List Rule) (r : Rule) → AddsArg old a new → a.global ≡ false
+    → shape_of old ≡ with_more s rs → rule_of a ≡ r → shape_of new ≡ with_more s (rs ++ r ∷ [])
+one_further old new a s rs r adds local so_far is =
+    one_more old new a adds local ∙ ap₂ (λ (t : Shape) q. with_more t (q ∷ [])) so_far is
+    ∙ ap (λ all. record s { rules = all }) (append_assoc s.rules rs (r ∷ []))
 
 pub still_local : (old new : Command) (a : Arg) → AddsArg old a new → a.global ≡ false → (out-Command old).has_globals ≡ false
     → (out-Command new).has_globals ≡ false

@@ -36,13 +36,14 @@ with_more s options = record s { rules = s.rules ++ options }
 abbrev pub step : Shape
 step = command (codes "step")
     (numeric (codes "procs") 1 32 ∷ numeric (codes "machines") 1 64 ∷ numeric (codes "channels") 0 1024
-    ∷ numeric (codes "entries") 16 1000000 ∷ numeric (codes "word") 0 18446744073709551615 ∷ numeric (codes "acts") 1 1000000000 ∷ [])
+    ∷ numeric (codes "entries") 16 1000000 ∷ numeric (codes "word") 0 18446744073709551615 ∷ numeric (codes "acts") 1 1000000000
+    ∷ flag (codes "fair") ∷ [])
 
 abbrev pub run : Shape
 run = command (codes "run")
     (numeric (codes "procs") 1 32 ∷ numeric (codes "machines") 1 64 ∷ numeric (codes "channels") 0 1024
     ∷ numeric (codes "entries") 16 9223372036854775807 ∷ numeric (codes "random") 0 18446744073709551615 ∷ numeric (codes "room") 16 1000000
-    ∷ folder (codes "segments") ∷ flag (codes "trace") ∷ flag (codes "scripted") ∷ [])
+    ∷ folder (codes "segments") ∷ flag (codes "trace") ∷ flag (codes "scripted") ∷ flag (codes "fair") ∷ [])
 
 abbrev pub check : Shape
 check = command (codes "check") []

@@ -93,6 +93,7 @@ pub record AreGiven (rows : List Row) (s : Settings) : Type 0 where
   pub random : number_given rows (codes "random") 0 ≡ Some s.random
   pub trace : s.trace ≡ is_given rows (codes "trace")
   pub scripted : s.scripted ≡ is_given rows (codes "scripted")
+  pub fair : s.fair ≡ is_given rows (codes "fair")
   pub at : number_given rows (codes "at") 0 ≡ Some s.at
   pub json : s.json ≡ is_given rows (codes "json")
   pub from : number_given rows (codes "from") 0 ≡ Some s.from

@@ -127,7 +127,7 @@ pub(crate) const STATES: Numeric = Numeric {
 };
 
 /// The program's version, and that of the traces that it writes and reads.
-const VERSION: &str = "0.1.0 (gmp-trace 1, 2, 3)";
+const VERSION: &str = "0.1.0 (gmp-trace 1, 2, 4)";
 
 /// What stands behind the help of the program.
 const STATUSES: &str =
@@ -241,7 +241,8 @@ fn step<'a>(alloc: Global) -> Result<Command<'a>, AllocError>
         alloc,
         bare(alloc, "step", about, STEP_INPUT),
         &[PROCS, MACHINES, CHANNELS, ENTRIES, WORD, ACTS],
-    )
+    )?
+    .arg(fair(alloc))
 }
 
 /// The command `run`, with its options.
@@ -265,7 +266,8 @@ fn run<'a>(alloc: Global) -> Result<Command<'a>, AllocError>
         alloc,
         "scripted",
         "Audits too that each goroutine asked what its body says, in order; not with --segments",
-    ))
+    ))?
+    .arg(fair(alloc))
 }
 
 /// The option `--segments`.
@@ -279,6 +281,18 @@ fn segments<'a>(alloc: Global) -> Arg<'a>
         .action(ArgAction::Set)
         .value_parser(ValueParser::NonEmptyString)
         .help("Writes the history into files of this folder, and keeps --room entries of it")
+}
+
+/// The flag `--fair`.
+fn fair<'a>(alloc: Global) -> Arg<'a>
+    ensures rule { rule_of result ≡ flag (codes "fair") }
+    ensures local { result.global ≡ false }
+{
+    flag(
+        alloc,
+        "fair",
+        "Has machines look aside after each 16 claims, so that nobody is passed over for ever",
+    )
 }
 
 /// A flag, with what `--help` says of it.

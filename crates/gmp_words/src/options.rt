@@ -75,6 +75,8 @@ pub struct Settings {
     pub trace: bool,
     /// Whether its audit holds it against the script.
     pub scripted: bool,
+    /// Whether machines are fair: every 16 claims one looks aside, at the shelf or at a local queue, in turn.
+    pub fair: bool,
     /// The entry from which the part of a trace begins, counted from 0.
     pub at: u64,
     /// Whether facts are told as one JSON object, and not as lines.

@@ -164,6 +164,7 @@ fn settings_of(task: Task, wanted: Wanted, options: &ArgMatches) -> Option<Setti
         random: RANDOM.read(options)?,
         trace: is_given(options, "trace"),
         scripted: is_given(options, "scripted"),
+        fair: is_given(options, "fair"),
         at: of_trace.at,
         json: of_trace.json,
         from: of_trace.from,

@@ -14,10 +14,10 @@ returns-in-Ok-written-clause-traced g c = λ nothing.
     let s = c.args.settings.now in
     let script = c.args.script in
     let x : Content = record { limits = c.limits-limits.result; bodies = c.len-count.result; begins = AtOpening c.deref-2.result.now; entries = c.history.result.now.list; end = c.of-end.result } in
-    let opened : c.in-Ok.player ≡ opening_stage (limits_of s) script.capacities.items script.readings.items script.bodies.items =
-    c.in-Ok.ensures.stage ∙ ap (λ (clock : ClockState). stage.opening_stage c.limits-limits.result c.deref.result.now script.bodies.items clock) c.of-clock.ensures
-    ∙ ap (λ (l : Limits). opening_stage l c.deref.result.now script.readings.items script.bodies.items) c.limits-limits.ensures
-    ∙ ap (λ (cs : List ℕ). opening_stage (limits_of s) cs script.readings.items script.bodies.items) c.deref.ensures.value in
+    let opened : c.in-Ok.player ≡ opening_stage s.fair (limits_of s) script.capacities.items script.readings.items script.bodies.items =
+    c.in-Ok.ensures.stage ∙ ap (λ (clock : ClockState). stage.opening_stage s.fair c.limits-limits.result c.deref.result.now script.bodies.items clock) c.of-clock.ensures
+    ∙ ap (λ (l : Limits). opening_stage s.fair l c.deref.result.now script.readings.items script.bodies.items) c.limits-limits.ensures
+    ∙ ap (λ (cs : List ℕ). opening_stage s.fair (limits_of s) cs script.readings.items script.bodies.items) c.deref.ensures.value in
     let stock : c.len-count.result ≡ length script.bodies.items = search rules in
     let behind : Stage = c.play.new.self in
     let ended = c.of-end.ensures ∙ ap end_of c.outcome.ensures in

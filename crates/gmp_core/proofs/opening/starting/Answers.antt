@@ -18,11 +18,11 @@ loop-pass-preserved g c =
       done = (
         c.in-Some.pass ∷ done.0,
         done.1 ∙ ap (λ (l : List Pass). l ++ done.0) c.in-Some.ensures.items ∙ append_assoc c.pop.new.self.items (c.in-Some.pass ∷ []) done.0,
-        c.push_reserved.ensures.items ∙ rw (done.2, c.new.ensures) (sym (reverse-append (at_start c.args.procs c.in-Some.pass ∷ []) (map (at_start c.args.procs) done.0))),
+        c.push_reserved.ensures.items ∙ rw (done.2, c.new_fair.ensures) (sym (reverse-append (at_start c.args.is_fair c.args.procs c.in-Some.pass ∷ []) (map (at_start c.args.is_fair c.args.procs) done.0))),
       );
       room =
           let passes = ap (λ (l : List Pass). length l) c.in-Some.ensures.items ∙ length-append c.pop.new.self.items (c.in-Some.pass ∷ []) in
-          let drivers = ap (λ (l : List (Machine _ _)). length l) c.push_reserved.ensures.items ∙ length-append c.loop-pass.drivers.items (c.new.result ∷ []) in
+          let drivers = ap (λ (l : List (Machine _ _)). length l) c.push_reserved.ensures.items ∙ length-append c.loop-pass.drivers.items (c.new_fair.result ∷ []) in
           let capacity = c.push_reserved.ensures.capacity in
           let room = c.loop-pass.invariant.room in
           omega (arith, passes, drivers, capacity, room);
@@ -32,4 +32,4 @@ pub returns : goal.returns
 returns g c =
     let done = c.loop-pass.invariant.done in
     let none : c.loop-pass.passes.items ≡ [] = search rules in
-    c.reverse.ensures.items ∙ ap reverse done.2 ∙ reverse-reverse (map (at_start c.args.procs) done.0) ∙ ap (map (at_start c.args.procs)) (sym (done.1 ∙ ap (λ (l : List Pass). l ++ done.0) none))
+    c.reverse.ensures.items ∙ ap reverse done.2 ∙ reverse-reverse (map (at_start c.args.is_fair c.args.procs) done.0) ∙ ap (map (at_start c.args.is_fair c.args.procs)) (sym (done.1 ∙ ap (λ (l : List Pass). l ++ done.0) none))

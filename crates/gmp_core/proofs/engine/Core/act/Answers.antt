@@ -1,7 +1,9 @@
-use Rattle.std.proofs.Common.{◌≡◌, ◌∙◌, true, false, ap, arith, sym}
+use Rattle.std.proofs.Common.{◌≡◌, ◌∙◌, true, false, ap, arith, subst, sym}
+use Rattle.gmp_fair.specs.Fair.{AllSteady}
+use Rattle.gmp_fair.proofs.Steady.{act_steady}
 use Rattle.gmp_core.specs.Whole.{Whole}
 use Rattle.gmp_core.proofs.Stock.{found}
-use Rattle.gmp_core.proofs.Together.{acts_none, acts_so, awake_so, calls_so, claims_so, core_headline, core_so, finds_room, fixed_so, has_pass, headline_so, opened_so, same_run, stock_so, whole_so}
+use Rattle.gmp_core.proofs.Together.{acts_none, acts_so, awake_so, calls_so, claims_so, core_headline, core_so, finds_room, fixed_none, fixed_so, has_pass, headline_so, opened_so, same_run, stock_so, whole_so}
 use Rattle.gmp_core.proofs.engine.Core.act.Goals as goal
 
 pub act-requires-clause-pass : goal.act-requires-clause-pass
@@ -65,7 +67,14 @@ pub returns-clause-fixed : goal.returns-clause-fixed
 returns-clause-fixed g c =
     let at = found c.self.inside.drivers.items c.args.m.0 c.in-Some.driver.now c.in-Some.ensures.item.3.0 c.in-Some.ensures.value in
     let room = rw (← ap (λ (w : Whole _). w.system) c.self.view_is) at (c.is_full.ensures.room.0 c.if-is_full.false) in
-    λ _. rw (← ap (λ (w : Whole _). w.system) c.self.view_is) (fixed_so _ c.args.m c.in-Some.driver.now at c.self.invariant c.args.choice.now _ c.has_few.ensures room c.act.ensures.does c.history.ensures.listing)
+    λ _. rw (← c.self.view_is) (fixed_so _ c.args.m c.in-Some.driver.now at c.self.invariant c.args.choice.now _ c.has_few.ensures room c.act.ensures.does c.history.ensures.listing)
+
+pub returns-clause-steady : goal.returns-clause-steady
+returns-clause-steady g c =
+    let at = found c.self.inside.drivers.items c.args.m.0 c.in-Some.driver.now c.in-Some.ensures.item.3.0 c.in-Some.ensures.value in
+    let room = rw (← ap (λ (w : Whole _). w.system) c.self.view_is) at (c.is_full.ensures.room.0 c.if-is_full.false) in
+    rw (← ap (λ (w : Whole _). w.system) c.self.view_is)
+    (λ steady. act_steady _ c.args.m c.args.choice.now _ steady (acts_so _ c.args.m c.in-Some.driver.now at c.self.invariant c.args.choice.now _ c.has_few.ensures room c.act.ensures.does))
 
 pub returns-clause-headline : goal.returns-clause-headline
 returns-clause-headline g c =
@@ -90,6 +99,14 @@ pub returns-in_default-clause-acts : goal.returns-in_default-clause-acts
 returns-in_default-clause-acts g c = λ _.
     acts_none (record { book = c.self.inside.book; rings = c.self.inside.queues; machines = c.self.inside.drivers.items }) c.args.m c.args.choice.now _ (ap (λ (w : Whole _). w.system) c.self.view_is) c.has_few.ensures
     (λ within. (let bad : false ≡ true = c.in_default.ensures.variant.1 (omega arith) in cc))
+
+pub returns-in_default-clause-fixed : goal.returns-in_default-clause-fixed
+returns-in_default-clause-fixed g c = λ _.
+    fixed_none (record { book = c.self.inside.book; rings = c.self.inside.queues; machines = c.self.inside.drivers.items }) c.args.m c.args.choice.now.word _ c.self.view_is c.history.ensures.listing
+    (λ within. (let bad : false ≡ true = c.in_default.ensures.variant.1 (omega arith) in cc))
+
+pub returns-in_default-clause-steady : goal.returns-in_default-clause-steady
+returns-in_default-clause-steady g c = λ steady. subst (λ (w : Whole _). AllSteady w.system) (sym c.self.view_is) steady
 
 pub returns-in_default-clause-headline : goal.returns-in_default-clause-headline
 returns-in_default-clause-headline g c = core_headline _ c.self.invariant

@@ -1,0 +1,15 @@
+-- A core's acts while a ticket waits: its shelf is the line in which shelved goroutines stand.
+use Rattle.std.specs.Prelude.{◌≡◌, ℕ, ◌+◌, List, [], ◌∷◌}
+use Rattle.gmp_base.specs.declared.number.MNo.{MNo}
+use Rattle.gmp_base.specs.declared.number.Readiness.{Readiness}
+use Rattle.gmp_acts.specs.declared.choice.Choice.{Choice}
+use Rattle.gmp_acts.specs.Acts.{Acts}
+use Rattle.gmp_fair.specs.Waits.{IsWaiting, claimed_past}
+use Rattle.gmp_core.specs.Whole.{TakesFixed, Whole}
+
+-- acts in a row, while the ticket waits, each of which takes what is fixed; so many tickets machine m claims while it stands in lines
+abbrev pub WaitsThrough : {T : Type 0} → MNo → Readiness → Whole T → List (MNo × Choice) → ℕ → Whole T → Type 0
+WaitsThrough m r k [] count k' = IsWaiting r k.shelf k.system × (count ≡ 0) × (k' ≡ k)
+WaitsThrough {T} m r k (move ∷ moves) count k' =
+    IsWaiting r k.shelf k.system × (mid : Whole T) × (rest : ℕ) × Acts k.system move.0 move.1 mid.system × TakesFixed k move.0 move.1.word mid
+    × (count ≡ claimed_past m r k.system mid.system + rest) × WaitsThrough m r mid moves rest k'
