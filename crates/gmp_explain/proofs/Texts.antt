@@ -1,29 +1,56 @@
 -- Lines, one after another.
-use Rattle.std.proofs.Common.{◌≡◌, ℕ, None, List, [], ◌∷◌, ◌++◌, refl, sym, ap, subst, ◌∙◌, append_assoc}
+use Rattle.std.proofs.Common.{◌≡◌, ◌⊎◌, ℕ, Option, None, Some, IfSome, inl, inr, List, [], ◌∷◌, ◌++◌, sym, ap, ◌∙◌, append_assoc}
 use Rattle.std.proofs.lemmas.List.{append-nil}
-use Rattle.gmp_explain.specs.Lines.{AddsLine, HasLines, SaysDoing}
-use Rattle.gmp_explain.specs.Spoken.{Does, Spoken, Tells, TellsOf}
-
-pub adds_none : (a : List ℕ) → AddsLine a None a
-adds_none a = ([], sym (append-nil a), tt)
-
-pub adds_more : (a b c : List ℕ) → AddsLine a None b → AddsLine b None c → AddsLine a None c
-adds_more a b c (x, is, one) (y, next, two) = (x ++ y, next ∙ ap (λ (l : List ℕ). l ++ y) is ∙ append_assoc a x y, tt)
+use Rattle.std.specs.List.{flat_map}
+use Rattle.gmp_seq.specs.declared.call.Entry.{Entry}
+use Rattle.gmp_seq.specs.declared.call.Limits.{Limits}
+use Rattle.gmp_seq.specs.State.{State}
+use Rattle.gmp_trace.specs.declared.bad.Bad.{Bad}
+use Rattle.gmp_check_cli.specs.Check.{said_of}
+use Rattle.gmp_words.specs.declared.said.Said.{Said}
+use Rattle.gmp_words.specs.declared.said.Said.TheVariants as said
+use Rattle.gmp_explain.specs.declared.fact.Fact.{Fact}
+use Rattle.gmp_explain.specs.Lines.{AddsLines, SaysAllowed, SaysDoing, lines_of}
+use Rattle.gmp_explain.specs.Spoken.{Does, Tells, TellsOf}
+use Rattle.gmp_explain.specs.Told.{TellsAllowed}
 
 -- what was told behind these bytes has its lines there
 module _ {S : Type 0} (text : S → List ℕ) where
-  abbrev pub adds : S → Spoken → S → Type 0
-  adds old x new = AddsLine (text old) x (text new)
+  abbrev pub adds : S → Fact → S → Type 0
+  adds old x new = AddsLines (text old) x (text new)
 
-  pub told_lines : (old new : S) (said : List Spoken) → Tells adds old said new → (added : List ℕ) × (text new ≡ text old ++ added) × HasLines said added
-  told_lines old new [] same = ([], ap text same ∙ sym (append-nil (text old)), refl)
-  told_lines old new (x ∷ said) (mid, (line, is, fits), rest) =
-      let more = told_lines mid new said rest in
-      (line ++ more.0, more.1 ∙ ap (λ (l : List ℕ). l ++ more.0) is ∙ append_assoc (text old) line more.0, (line, more.0, refl, fits, more.2))
+  pub told_lines : (old new : S) (said : List Fact) → Tells adds old said new → text new ≡ text old ++ flat_map lines_of said
+  told_lines old new [] same = ap text same ∙ sym (append-nil (text old))
+  told_lines old new (x ∷ said) (mid, is, rest) =
+      told_lines mid new said rest ∙ ap (λ (l : List ℕ). l ++ flat_map lines_of said) is ∙ append_assoc (text old) (lines_of x) (flat_map lines_of said)
 
   -- from no text on
   pub says_doing : (old new : S) (does : List Does) → text old ≡ [] → TellsOf adds does old new → SaysDoing does (text new)
-  says_doing old new does none told =
-      let lines = told_lines old new told.said told.tells in
-      let all : text new ≡ lines.0 = lines.1 ∙ ap (λ (l : List ℕ). l ++ lines.0) none in
-      record { said = told.said; lines = subst (HasLines told.said) (sym all) lines.2; doing = told.doing }
+  says_doing old new does none told = record {
+    said = told.said;
+    lines = told_lines old new told.said told.tells ∙ ap (λ (l : List ℕ). l ++ flat_map lines_of told.said) none;
+    doing = told.picked;
+  }
+
+  -- the same of what is called allowed
+  pub says_allowed : (limits : Limits) (s : State) (e : Entry) (old new : S) → text old ≡ [] → TellsAllowed adds limits s e old new → SaysAllowed limits s e (text new)
+  says_allowed limits s e old new none told = record {
+    said = told.tells.said;
+    lines = told_lines old new told.tells.said told.tells.tells ∙ ap (λ (l : List ℕ). l ++ flat_map lines_of told.tells.said) none;
+    replies = told.replies;
+    right = told.right;
+    whole = told.whole;
+    called = told.tells.picked;
+  }
+
+-- what follows of a value, where there is one
+pub if_some : {T : Type 0} (o : Option T) {P Q : T → Type 0} → ((x : T) → P x → Q x) → IfSome o P → IfSome o Q
+if_some (Some x) f p = f x p
+if_some None f p = p
+
+-- the line that is called bad is the one that was found
+pub found_bad : (wrong : Option Bad) (x : Said) (bad : Bad) → (x ≡ said_of wrong) ⊎ (x ≡ said.OutOfMemory) → x ≡ said.BadTrace bad → wrong ≡ Some bad
+found_bad None x bad (inl same) is = absurd cc
+found_bad None x bad (inr other) is = absurd cc
+found_bad (Some b) x bad (inl same) is = let b_is : b ≡ bad = cc in ap (λ (y : Bad). Some y) b_is
+found_bad (Some b) x bad (inr other) is = absurd cc

@@ -1,5 +1,6 @@
-pub mod Told
 pub mod Doing
+pub mod Text
 pub mod Spoken
-pub mod Fact
+pub mod Tried
+pub mod Told
 pub mod Lines

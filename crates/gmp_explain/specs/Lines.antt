@@ -1,45 +1,84 @@
 -- Facts as lines.
-use Rattle.std.specs.Prelude.{◌≡◌, ℕ, Bool, Option, None, Some, List, [], ◌∷◌, ◌++◌, codes}
+use Rattle.std.specs.Prelude.{◌≡◌, ℕ, zero, suc, ◌+◌, ◌==◌, nat_le, Bool, Option, None, Some, IfSome, List, [], ◌∷◌, ◌++◌, All, length, map, slice_get, take, drop, codes, if◌then◌else◌}
+use Rattle.std.specs.List.{filter_map, flat_map}
+use Rattle.std.specs.Option.{option_map, option_map_or}
+use Rattle.gmp_base.specs.declared.number.GNo.{GNo}
+use Rattle.gmp_seq.specs.declared.call.Entry.{Entry}
+use Rattle.gmp_seq.specs.declared.call.Limits.{Limits}
+use Rattle.gmp_seq.specs.declared.call.Reply.{Reply}
 use Rattle.gmp_seq.specs.State.{State}
 use Rattle.gmp_trace.specs.Text.{Content}
 use Rattle.gmp_check_cli.specs.Check.{IsJudged, IsRead}
 use Rattle.gmp_walk.specs.Led.{IsWalked}
-use Rattle.gmp_explain.specs.Doing.{goroutine_text}
-use Rattle.gmp_explain.specs.Spoken.{Does, Spoken, TellsOf, doing_from, doings}
+use Rattle.gmp_explain.specs.declared.fact.Fact.{Fact}
+use Rattle.gmp_explain.specs.declared.fact.Fact.TheVariants as fact
+use Rattle.gmp_explain.specs.Spoken.{Does, TellsOf, called_allowed, doing_from, doings}
+use Rattle.gmp_explain.specs.Told.{IsAllowed, IsWhole, TellsAllowed, reply_text}
+use Rattle.gmp_explain.specs.Text.{calls_text, dealers_text, fact_text, no_step_text, values_text}
 
--- The line of what a goroutine does. Since when, and whether it is called a leak, is left open, and so is what is written of any other fact.
-abbrev pub IsLine : Spoken → List ℕ → Type 0
-IsLine None line = Unit {0}
-IsLine (Some d) line = (since : Option ℕ) × (leak : Bool) × (line ≡ goroutine_text d.g d.status since leak ++ codes "\n")
+-- a list in parts of n, k at most
+abbrev pub parts_up_to : {A : Type 0} → ℕ → ℕ → List A → List (List A)
+parts_up_to n zero xs = []
+parts_up_to n (suc k) [] = []
+parts_up_to n (suc k) (x ∷ xs) = take n (x ∷ xs) ∷ parts_up_to n k (drop n (x ∷ xs))
 
--- the text has the line of one fact more
-abbrev pub AddsLine : List ℕ → Spoken → List ℕ → Type 0
-AddsLine old x new = (line : List ℕ) × (new ≡ old ++ line) × IsLine x line
+-- a list in parts of n
+abbrev pub parts : {A : Type 0} → ℕ → List A → List (List A)
+parts n xs = parts_up_to n (length xs) xs
 
--- the text has the lines of these facts, in order
-abbrev pub HasLines : List Spoken → List ℕ → Type 0
-HasLines [] text = text ≡ []
-HasLines (x ∷ said) text = (line rest : List ℕ) × (text ≡ line ++ rest) × IsLine x line × HasLines said rest
+-- goroutines in parts of 16; nobody is one
+abbrev pub who_parts : List GNo → List (List GNo)
+who_parts who = if length who == 0 then [] ∷ [] else parts 16 who
 
--- in the text stand, in order, the lines of what goroutines do for these, and between them what is written of other facts
+-- the place of the last space, of a byte and those behind it
+abbrev pub later_space : ℕ → Option ℕ → Option ℕ
+later_space b (Some i) = Some (i + 1)
+later_space b None = if b == 32 then Some 0 else None
+
+abbrev pub last_space : List ℕ → Option ℕ
+last_space [] = None
+last_space (b ∷ bytes) = later_space b (last_space bytes)
+
+-- a line of 100 columns or more up to the last space among its first 100, and the rest
+abbrev pub split_of : List ℕ → Option (List ℕ × List ℕ)
+split_of line = if nat_le 100 (length line) then option_map (λ i. (take i line, drop (i + 1) line)) (last_space (take 100 line)) else None
+
+-- a line in such parts, k + 1 at most
+abbrev pub words_up_to : ℕ → List ℕ → List (List ℕ)
+words_up_to zero line = line ∷ []
+words_up_to (suc k) line = option_map_or (λ s. s.0 ∷ words_up_to k s.1) (split_of line) (line ∷ [])
+
+-- the lines of a fact: one, but for a long list or a long entry
+abbrev pub lines_of : Fact → List ℕ
+lines_of (fact.Values c values) = flat_map (λ some. values_text c some ++ codes "\n") (parts 4 values.now)
+lines_of (fact.Dealers c role who) = flat_map (λ some. dealers_text c role some ++ codes "\n") (who_parts who.now)
+lines_of (fact.Calls who calls) = flat_map (λ some. calls_text who some ++ codes "\n") (parts 6 calls.now)
+lines_of (fact.NoStep line) = flat_map (λ some. no_step_text some ++ codes "\n") (words_up_to (length line.now) line.now)
+lines_of x = fact_text x ++ codes "\n"
+
+-- the text has the lines of one fact more
+abbrev pub AddsLines : List ℕ → Fact → List ℕ → Type 0
+AddsLines old x new = new ≡ old ++ lines_of x
+
+-- the text is the lines of facts, and of what goroutines do these say this
 pub record SaysDoing (does : List Does) (text : List ℕ) : Type 0 where
-  pub said : List Spoken
-  pub lines : HasLines said text
+  pub said : List Fact
+  pub lines : text ≡ flat_map lines_of said
   pub doing : doings said ≡ does
 
 -- told was what each goroutine does in the state to which the trace's entries lead, and of no goroutine anything else
-pub record TellsState {S : Type 0} (told : S → Spoken → S → Type 0) (x : Content) (old new : S) : Type 0 where
+pub record TellsState {S : Type 0} (told : S → Fact → S → Type 0) (x : Content) (old new : S) : Type 0 where
   pub n : ℕ
   pub last : State
   pub walked : IsWalked x n last
-  pub tells : TellsOf told (doing_from 0 last.table.goroutines) old new
+  pub tells : TellsOf told (doing_from last.outcome 0 last.table.goroutines) old new
 
 -- it says what each goroutine does in the state to which the trace's entries lead
 pub record TellsTrace (x : Content) (text : List ℕ) : Type 0 where
   pub n : ℕ
   pub last : State
   pub walked : IsWalked x n last
-  pub says : SaysDoing (doing_from 0 last.table.goroutines) text
+  pub says : SaysDoing (doing_from last.outcome 0 last.table.goroutines) text
 
 -- the bytes are the text of a right trace, of which it does so
 pub record TellsText (bytes text : List ℕ) : Type 0 where
@@ -47,3 +86,33 @@ pub record TellsText (bytes text : List ℕ) : Type 0 where
   pub right : IsJudged trace None
   pub read : IsRead bytes trace
   pub tells : TellsTrace trace text
+
+-- told was which replies are allowed at the entry to which the trace's steps lead, if there is one
+pub record TellsRiddle {S : Type 0} (told : S → Fact → S → Type 0) (x : Content) (old new : S) : Type 0 where
+  pub n : ℕ
+  pub last : State
+  pub walked : IsWalked x n last
+  pub tells : IfSome (slice_get x.entries n) (λ e. TellsAllowed told x.limits last e old new)
+
+-- the text is the lines of facts, and of replies these and no others are called allowed, each in its words; each is allowed, and of some calls
+-- none that is allowed is left out
+pub record SaysAllowed (limits : Limits) (s : State) (e : Entry) (text : List ℕ) : Type 0 where
+  pub said : List Fact
+  pub lines : text ≡ flat_map lines_of said
+  pub replies : List Reply
+  pub right : All (IsAllowed limits s e) replies
+  pub whole : IsWhole limits s e replies
+  pub called : filter_map called_allowed said ≡ map reply_text replies
+
+-- it says so of the entry to which the trace's steps lead, if there is one
+pub record SaysRiddle (x : Content) (text : List ℕ) : Type 0 where
+  pub n : ℕ
+  pub last : State
+  pub walked : IsWalked x n last
+  pub says : IfSome (slice_get x.entries n) (λ e. SaysAllowed x.limits last e text)
+
+-- the bytes are the text of a trace of which it does so
+pub record SolvesText (bytes text : List ℕ) : Type 0 where
+  pub trace : Content
+  pub read : IsRead bytes trace
+  pub says : SaysRiddle trace text

@@ -1,15 +1,20 @@
 -- What is told of a trace is true of the state to which its entries lead.
-use Rattle.std.specs.Prelude.{◌≡◌, ℕ, None}
+use Rattle.std.specs.Prelude.{◌≡◌, ◌⊎◌, ℕ, ◌+◌, true, None, List, [], ◌∷◌, ◌++◌, All, Contains, is_some, codes, decimal, drop, length, map}
 use Rattle.gmp_seq.specs.declared.call.Entry.{Entry}
 use Rattle.gmp_seq.specs.declared.call.Limits.{Limits}
 use Rattle.gmp_seq.specs.declared.call.Reply.{Reply}
+use Rattle.gmp_seq.specs.Fits.{FitsReply}
 use Rattle.gmp_seq.specs.Run.{IsStep}
 use Rattle.gmp_seq.specs.State.{State}
 use Rattle.gmp_start.specs.declared.start.Start.{Start}
 use Rattle.gmp_start.specs.Start.{state_of}
+use Rattle.gmp_trace.specs.Pieces.{Pair, Word, call_pieces, fields, reply_pieces}
 use Rattle.gmp_trace.specs.Text.{Content}
 use Rattle.gmp_check.specs.Decides.{Leads}
 use Rattle.gmp_walk.specs.Led.{IsWalked}
+use Rattle.gmp_explain.specs.declared.fact.Fact.{Fact}
+use Rattle.gmp_explain.specs.Tried.{tried_of}
+use Rattle.gmp_explain.specs.Spoken.{TellsThese, called_allowed}
 
 -- the first n entries lead to this state, which is told by its parts; they are all, or no step follows by the next
 pub record IsTold (x : Content) (n : ℕ) (s : State) (last : Start) : Type 0 where
@@ -19,3 +24,41 @@ pub record IsTold (x : Content) (n : ℕ) (s : State) (last : Start) : Type 0 wh
 -- with this reply the entry is a step
 abbrev pub IsAllowed : Limits → State → Entry → Reply → Type 0
 IsAllowed limits s e reply = Leads (IsStep limits (record e { reply = reply })) s
+
+-- the reply was tried, and added where it is allowed
+abbrev pub Tries : Limits → State → Entry → Reply → List Reply → List Reply → Type 0
+Tries limits s e r old new = (IsAllowed limits s e r × (new ≡ old ++ r ∷ [])) ⊎ ((IsAllowed limits s e r → ⊥) × (new ≡ old))
+
+-- of the replies that were tried, in order, exactly those that are allowed were found
+abbrev pub AreThoseAllowed : Limits → State → Entry → List Reply → List Reply → Type 0
+AreThoseAllowed limits s e [] found = found ≡ []
+AreThoseAllowed limits s e (r ∷ tried) found =
+    (IsAllowed limits s e r × (rest : List Reply) × (found ≡ r ∷ rest) × AreThoseAllowed limits s e tried rest)
+    ⊎ ((IsAllowed limits s e r → ⊥) × AreThoseAllowed limits s e tried found)
+
+-- of the calls of which the tried replies are known, none that is allowed and fits a trace is left out
+abbrev pub IsWhole : Limits → State → Entry → List Reply → Type 0
+IsWhole limits s e found = is_some (tried_of s.table s.machines.active e.call) ≡ true → (r : Reply) → FitsReply r → IsAllowed limits s e r → Contains found r
+
+-- they differ in their replies alone
+abbrev pub AreAlike : Entry → Entry → Type 0
+AreAlike a b = (r : Reply) → record a { reply = r } ≡ record b { reply = r }
+
+-- the line of an entry up to its reply
+abbrev pub before_reply : ℕ → Entry → List ℕ
+before_reply n e = decimal n ++ fields (Pair 8 e.m.0 e.k ∷ (call_pieces e.call ++ Word (codes "->") ∷ []))
+
+-- the reply begins there in the line of entry 0
+abbrev pub IsReplyPlace : Entry → ℕ → Type 0
+IsReplyPlace e place = place ≡ length (before_reply 0 e) + 1
+
+-- a reply in the words of a trace
+abbrev pub reply_text : Reply → List ℕ
+reply_text reply = drop 1 (fields (reply_pieces reply))
+
+-- told was of replies that are allowed, each in its words, and no other was called so; of some calls none is left out
+pub record TellsAllowed {S : Type 0} (told : S → Fact → S → Type 0) (limits : Limits) (s : State) (e : Entry) (old new : S) : Type 0 where
+  pub replies : List Reply
+  pub right : All (IsAllowed limits s e) replies
+  pub whole : IsWhole limits s e replies
+  pub tells : TellsThese told called_allowed (map reply_text replies) old new

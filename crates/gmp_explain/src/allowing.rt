@@ -1,6 +1,6 @@
 //! Which replies are allowed before an entry: of those that its call could have, the ones by which the checker takes it.
 ghost use Rattle.std.specs.Prelude.{◌≡◌, ◌↔◌, All, IfOk, IsTrue, OnOk};
-ghost use Rattle.gmp_explain.specs.Told.{IsAllowed};
+ghost use Rattle.gmp_explain.specs.Told.{AreAlike, AreThoseAllowed, IsAllowed, IsWhole, Tries};
 
 use crate::replies::{add, candidates};
 use gmp_check::{OutOfMemory, Replay};
@@ -29,8 +29,7 @@ fn try_reply(
     reply: Reply,
     right: &mut Vec<Reply>,
 ) -> Result<(), OutOfMemory>
-    requires { All (IsAllowed replay.now.limits replay.now.state entry.old) right.old.items }
-    ensures right { OnOk result (All (IsAllowed replay.now.limits replay.now.state entry.old) right.new.items) }
+    ensures tries { OnOk result (Tries replay.now.limits replay.now.state entry.old reply right.old.items right.new.items) }
     ensures reply { entry.new ≡ record entry.old { reply = reply } }
 {
     if is_step(alloc, replay, entry, reply)? {
@@ -39,15 +38,31 @@ fn try_reply(
     Ok(())
 }
 
+/// Of these replies, in order, those with which the entry would be a step.
+fn allowed_of(
+    alloc: Global,
+    replay: &Replay,
+    entry: &mut Entry,
+    replies: &[Reply],
+) -> Result<Vec<Reply>, OutOfMemory>
+    ensures exact { IfOk result (λ v. AreThoseAllowed replay.now.limits replay.now.state entry.old replies.now v.items) }
+    ensures alike { OnOk result (AreAlike entry.new entry.old) }
+{
+    let mut right = Vec::new(alloc);
+    for reply in replies {
+        try_reply(alloc, replay, entry, *reply, &mut right)?;
+    }
+    Ok(right)
+}
+
 /// The replies with which the entry would be a step. The reply that it has is not looked at, and is another one afterwards.
 pub fn allowed(alloc: Global, replay: &Replay, entry: &mut Entry) -> Result<Vec<Reply>, OutOfMemory>
-    ensures { IfOk result (λ v. All (IsAllowed replay.now.limits replay.now.state entry.old) v.items) }
+    ensures right { IfOk result (λ v. All (IsAllowed replay.now.limits replay.now.state entry.old) v.items) }
+    ensures whole { IfOk result (λ v. IsWhole replay.now.limits replay.now.state entry.old v.items) }
+    ensures alike { OnOk result (AreAlike entry.new entry.old) }
 {
     let last = replay.copied(alloc)?;
     let replies = candidates(alloc, &last, entry.m, &entry.call)?;
-    let mut right = Vec::new(alloc);
-    for reply in &replies {
-        try_reply(alloc, replay, entry, *reply, &mut right)?;
-    }
+    let right = allowed_of(alloc, replay, entry, &replies)?;
     Ok(right)
 }

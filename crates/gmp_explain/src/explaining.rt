@@ -1,7 +1,10 @@
 //! The command `explain` as a function: it reads and checks a trace as `check` does, and tells its facts.
-ghost use Rattle.std.specs.Prelude.{◌≡◌, ◌≢◌, ◌↔◌, ◌⊎◌, false, true, IfOk, IfSome, None, OnOk, string_bytes};
+ghost use Rattle.std.specs.Prelude.{◌≡◌, ◌≢◌, ◌↔◌, ◌⊎◌, [], false, true, IfOk, IfSome, None, OnOk, Some, slice_get, string_bytes};
 ghost use Rattle.gmp_trace.specs.Text.{content};
-ghost use Rattle.gmp_explain.specs.Lines.{TellsState, TellsText, TellsTrace};
+ghost use Rattle.gmp_trace.specs.declared.bad.Bad.{Bad};
+ghost use Rattle.gmp_trace.specs.declared.bad.Why.TheVariants as why;
+ghost use Rattle.gmp_explain.specs.Lines.{SaysRiddle, SolvesText, TellsRiddle, TellsState, TellsText, TellsTrace};
+ghost use Rattle.gmp_explain.specs.Told.{TellsAllowed};
 ghost use Rattle.gmp_check_cli.specs.Check.{HasRightTrace, SaysOfTrace, said_of};
 ghost use Rattle.gmp_words.specs.Said.{is_of_check};
 ghost use Rattle.gmp_words.specs.declared.said.Said.TheVariants as said;
@@ -12,10 +15,10 @@ use crate::json::Json;
 use crate::lines::Lines;
 use crate::riddle::tell_riddle;
 use crate::telling::tell_story;
-use crate::told::story_of;
+use crate::told::{Story, story_of};
 use gmp_check::OutOfMemory;
 use gmp_check_cli::{Judgement, Progress, read_trace};
-use gmp_trace::{End, Why};
+use gmp_trace::{End, Trace, Why};
 use gmp_words::Ended;
 use std::alloc::Global;
 use std::io::Read;
@@ -28,26 +31,40 @@ pub struct Explained {
     pub facts: String,
 }
 
+/// Why the entry at which the story ends is no step, if there is one.
+fn tell_next<S: Sink>(
+    alloc: Global,
+    trace: &Trace,
+    story: &Story,
+    sink: &mut S,
+) -> Result<(), OutOfMemory>
+    ensures { OnOk result (IfSome (slice_get trace.now.entries.list story.now.steps) (λ e. TellsAllowed S.told story.now.replay.limits story.now.replay.state e sink.old sink.new)) }
+{
+    match trace.entries.get(story.steps) {
+        Some(entry) => tell_riddle(alloc, story, entry, sink),
+        None => Ok(()),
+    }
+}
+
 /// The facts of a right trace, or why the first wrong line of another is wrong.
 fn tell<S: Sink>(alloc: Global, judgement: &Judgement, sink: &mut S) -> Result<(), OutOfMemory>
-    ensures { OnOk result (judgement.now.wrong ≡ None → TellsState S.told (content judgement.now.trace) sink.old sink.new) }
+    ensures right { OnOk result (judgement.now.wrong ≡ None → TellsState S.told (content judgement.now.trace) sink.old sink.new) }
+    ensures riddle { OnOk result ((bad : Bad) → judgement.now.wrong ≡ Some bad → bad.why ≡ why.Step → TellsRiddle S.told (content judgement.now.trace) sink.old sink.new) }
 {
     let Ok(story) = story_of(alloc, judgement.trace.view(), &mut ()) else {
         return Err(OutOfMemory);
     };
     match judgement.wrong {
         None => Ok(tell_story(alloc, &story, sink)?),
-        Some(bad) if bad.why == Why::Step => match judgement.trace.entries.get(story.steps) {
-            Some(entry) => tell_riddle(alloc, &story, entry, sink),
-            None => Ok(()),
-        },
+        Some(bad) if bad.why == Why::Step => tell_next(alloc, &judgement.trace, &story, sink),
         Some(_) => Ok(sink.tell(&Fact::Leads(End::of(story.replay.outcome())))?),
     }
 }
 
 /// Whether there are facts: of a right trace, and where an entry is no step or the end is not that of the run.
 fn has_facts(judgement: &Judgement) -> bool
-    ensures { judgement.now.wrong ≡ None → result ≡ true }
+    ensures right { judgement.now.wrong ≡ None → result ≡ true }
+    ensures riddle { (bad : Bad) → judgement.now.wrong ≡ Some bad → bad.why ≡ why.Step → result ≡ true }
 {
     match judgement.wrong {
         None => true,
@@ -57,7 +74,9 @@ fn has_facts(judgement: &Judgement) -> bool
 
 /// The facts, as lines or as one JSON object.
 fn facts(alloc: Global, json: bool, judgement: &Judgement) -> Result<String, OutOfMemory>
-    ensures { IfOk result (λ text. json ≡ false → judgement.now.wrong ≡ None → TellsTrace (content judgement.now.trace) (string_bytes text)) }
+    ensures told { IfOk result (λ text. json ≡ false → judgement.now.wrong ≡ None → TellsTrace (content judgement.now.trace) (string_bytes text)) }
+    ensures riddle { IfOk result (λ text. json ≡ false → (bad : Bad) → judgement.now.wrong ≡ Some bad → bad.why ≡ why.Step
+        → SaysRiddle (content judgement.now.trace) (string_bytes text)) }
 {
     if !has_facts(judgement) {
         return Ok(String::new(alloc));
@@ -77,6 +96,8 @@ fn explain_trace(alloc: Global, json: bool, judgement: &Judgement) -> Explained
     ensures said { (result.ended.said ≡ said_of judgement.now.wrong) ⊎ (result.ended.said ≡ said.OutOfMemory) }
     ensures status { result.ended.status ≡ 0 ↔ result.ended.said ≡ Nothing }
     ensures told { result.ended.said ≡ Nothing → json ≡ false → TellsTrace (content judgement.now.trace) (string_bytes result.facts) }
+    ensures riddle { json ≡ false → (bad : Bad) → judgement.now.wrong ≡ Some bad → bad.why ≡ why.Step
+        → (string_bytes result.facts ≡ []) ⊎ SaysRiddle (content judgement.now.trace) (string_bytes result.facts) }
 {
     let facts = facts(alloc, json, judgement);
     let ended = match (judgement.wrong, &facts) {
@@ -102,8 +123,11 @@ pub fn explain<R: Read, P: Progress>(
 ) -> Explained
     ensures passed { result.ended.said ≡ Nothing → IfSome (R.remaining reader.old) HasRightTrace }
     ensures status { result.ended.status ≡ 0 ↔ result.ended.said ≡ Nothing }
-    // Each goroutine has its line, by number, of what it does in the state to which the entries lead.
+    // Each goroutine has its line, by number, of what it does in the state to which the entries lead, and whether it is a leak.
     ensures told { result.ended.said ≡ Nothing → json ≡ false → IfSome (R.remaining reader.old) (λ all. TellsText all (string_bytes result.facts)) }
+    // Where an entry is no step, the replies that are called allowed are, and of some calls they are all. Without memory no fact is told.
+    ensures riddle { json ≡ false → IfSome (R.remaining reader.old) (λ all. (bad : Bad) → result.ended.said ≡ said.BadTrace bad → bad.why ≡ why.Step
+        → (string_bytes result.facts ≡ []) ⊎ SolvesText all (string_bytes result.facts)) }
 
     // What is wrong is said by one of the program's own texts.
     ensures kinds { is_of_check result.ended.said ≡ true }

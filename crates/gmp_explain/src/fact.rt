@@ -1,5 +1,8 @@
 //! A fact of a run (`Fact`), and who is told it (`Sink`). `Lines` has its line, `Json` its object.
 
+ghost use Rattle.std.specs.Prelude.{◌≡◌};
+ghost use Rattle.gmp_explain.specs.Text.{call_words, end_words, mode_words, need_words, role_words};
+
 use crate::heard::{Lost, Way};
 use gmp_base::{CNo, GNo, MNo, PNo, Readiness};
 use gmp_check::Need;
@@ -27,7 +30,7 @@ pub enum Help {
 
 /// Whose calls are counted.
 #[derive(Clone, Copy)]
-pub enum Unit {
+pub enum Caller {
     Machine(MNo),
     Processor(PNo),
 }
@@ -90,9 +93,9 @@ pub enum Fact<'a> {
     /// The links are circles.
     Cycles,
     /// How many entries a machine or a processor has.
-    Entries(Unit, u64),
+    Entries(Caller, u64),
     /// How often each call was made there.
-    Calls(Unit, &'a [Made]),
+    Calls(Caller, &'a [Made]),
     /// The longest way of a ticket.
     Longest(Way),
     /// An entry that is no step, as the trace has it.
@@ -117,18 +120,19 @@ pub enum Fact<'a> {
 /// Is told facts, one after another. Each says by a relation of its own what a fact makes of it.
 pub trait Sink {
     ghost use Rattle.std.specs.Prelude.{OnOk};
-    ghost use Rattle.gmp_explain.specs.Fact.{spoken};
-    ghost use Rattle.gmp_explain.specs.Spoken.{Spoken};
+    ghost use Rattle.gmp_explain.specs.declared.fact.Fact.{Fact};
 
-    /// From itself before, by what the fact says, to itself after.
-    ghost told: { Self → Spoken → Self → Type 0 };
+    /// From itself before, by the fact, to itself after.
+    ghost told: { Self → Fact → Self → Type 0 };
 
     fn tell(&mut self, fact: &Fact) -> Result<(), AllocError>
-        ensures { OnOk result (told self.old (spoken fact.now) self.new) };
+        ensures { OnOk result (told self.old fact.now self.new) };
 }
 
 /// How a run ended, in the words of a trace.
-pub fn end_words(end: End) -> &'static str {
+pub fn end_words(end: End) -> &'static str
+    ensures { result.now ≡ end_words end }
+{
     match end {
         End::MainEnded => "main ended",
         End::AllAsleep => "all asleep",
@@ -138,7 +142,9 @@ pub fn end_words(end: End) -> &'static str {
 }
 
 /// What is missing, in words.
-pub fn need_words(need: Need) -> &'static str {
+pub fn need_words(need: Need) -> &'static str
+    ensures { result.now ≡ need_words need }
+{
     match need {
         Need::Awake => "the machine is not awake",
         Need::AwakeOrParked => "the machine is neither awake nor parked",
@@ -153,7 +159,9 @@ pub fn need_words(need: Need) -> &'static str {
 }
 
 /// What a machine does, in words.
-pub fn mode_words(mode: Mode) -> &'static str {
+pub fn mode_words(mode: Mode) -> &'static str
+    ensures { result.now ≡ mode_words mode }
+{
     match mode {
         Mode::Awake => "awake",
         Mode::Parked => "parked",
@@ -162,7 +170,9 @@ pub fn mode_words(mode: Mode) -> &'static str {
 }
 
 /// What goroutines have to do with a channel, in words.
-pub fn role_words(role: Role) -> &'static str {
+pub fn role_words(role: Role) -> &'static str
+    ensures { result.now ≡ role_words role }
+{
     match role {
         Role::WaitsToSend => "waiting to send",
         Role::WaitsToReceive => "waiting to receive",
@@ -173,6 +183,8 @@ pub fn role_words(role: Role) -> &'static str {
 }
 
 /// A call's word.
-pub fn call_words(call: usize) -> &'static [u8] {
+pub fn call_words(call: usize) -> &'static [u8]
+    ensures { result.now ≡ call_words call }
+{
     if call < CALLS { call_name(call) } else { b"" }
 }

@@ -1,6 +1,8 @@
 //! What a walk hears and keeps (`Heard`): since when each goroutine does what it does, who ever dealt on each channel, what each machine and
 //! processor did, and the longest way of a ticket. `Parties` has who dealt, `Counts` the calls.
 
+ghost use Rattle.std.specs.Prelude.{◌≡◌, ◌-◌};
+
 use gmp_base::{CNo, Case, Fault, GNo, MNo, PNo, Readiness};
 use gmp_seq::{Call, Goroutine, Limits, Reply, Taken};
 use gmp_trace::{CALLS, call_place};
@@ -103,7 +105,9 @@ pub struct Way {
 
 impl Way {
     /// How many entries it took.
-    pub fn length(self) -> u64 {
+    pub fn length(self) -> u64
+        ensures { result ≡ self.claimed - self.ready }
+    {
         self.claimed.saturating_sub(self.ready)
     }
 }

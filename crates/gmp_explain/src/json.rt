@@ -2,7 +2,7 @@
 
 use crate::doing::{Dealing, Doing};
 use crate::fact::{
-    Fact, Help, Made, Sink, Unit, call_words, end_words, mode_words, need_words, role_words,
+    Caller, Fact, Help, Made, Sink, call_words, end_words, mode_words, need_words, role_words,
 };
 use gmp_base::GNo;
 use gmp_seq::{Offer, Status};
@@ -170,7 +170,7 @@ fn link(alloc: Global, g: GNo, by: GNo, help: Help) -> Result<Value, AllocError>
 }
 
 /// What the name of a machine or a processor is.
-fn named(alloc: Global, unit: Unit) -> Result<String, AllocError> {
+fn named(alloc: Global, unit: Caller) -> Result<String, AllocError> {
     format!(in alloc; "{unit}")
 }
 
@@ -246,7 +246,7 @@ fn of_channel(alloc: Global, fact: &Fact) -> Result<Value, AllocError> {
 }
 
 /// How many entries a machine or a processor has.
-fn entries(alloc: Global, unit: Unit, n: u64) -> Result<Value, AllocError> {
+fn entries(alloc: Global, unit: Caller, n: u64) -> Result<Value, AllocError> {
     let of = named(alloc, unit)?;
     object(
         alloc,
@@ -259,7 +259,7 @@ fn entries(alloc: Global, unit: Unit, n: u64) -> Result<Value, AllocError> {
 }
 
 /// Of which calls these are.
-fn made(alloc: Global, unit: Unit, list: &[Made]) -> Result<Value, AllocError> {
+fn made(alloc: Global, unit: Caller, list: &[Made]) -> Result<Value, AllocError> {
     let of = named(alloc, unit)?;
     let members = [
         ("fact", Member::Text("calls")),

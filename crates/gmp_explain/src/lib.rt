@@ -2,9 +2,11 @@
 //! who else does and who ever dealt on it; who waits for whom in a circle; what each machine and processor did. Of an entry that is no step
 //! of the scheduler it says what was before it, and which replies are allowed there, or what is missing.
 //!
-//! **Invariant**: what is told of what goroutines do is read off the state to which the checker's own replay comes (`story_of`): each one's
-//! once, in order (`tell_story`), and its line has that text (`explain`: `told`). A reply is called allowed only where the checker takes it
-//! (`allowed`). Of other facts, of leaks and of the past (since when, who ever) no clause speaks.
+//! **Invariant**: the text is the lines of the facts that are told, one after another, each in its own words (`Lines`: `told`). What is told
+//! of goroutines is read off the state to which the checker's own replay comes (`story_of`): what each one does and whether it is a leak, once,
+//! in order (`tell_story`; `explain`: `told`). At an entry that is no step a reply is called allowed only where the checker takes it, in the
+//! words of a trace, and of the calls of `tried_of` none that is allowed is left out (`allowed`; `explain`: `riddle`). That other facts are
+//! true, since when a goroutine does what it does, and what `--json` says, no clause speaks of.
 //!
 //! One fact a line, of at most 120 columns, and none twice; or the same facts as one JSON object.
 //!
@@ -23,6 +25,7 @@ mod lines;
 mod replies;
 mod riddle;
 mod telling;
+mod text;
 mod told;
 
 pub use allowing::allowed;

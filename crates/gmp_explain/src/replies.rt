@@ -1,5 +1,8 @@
 //! Which replies a call of a kind could have, by the numbers of the state. They are more than are allowed: each is tried by the checker.
-ghost use Rattle.std.specs.Prelude.{◌≡◌, ◌∷◌, ◌++◌, [], OnOk};
+ghost use Rattle.std.specs.Prelude.{◌≡◌, ◌∷◌, ◌++◌, [], IfOk, IfSome, OnOk};
+ghost use Rattle.gmp_seq.specs.Table.{Table};
+ghost use Rattle.gmp_start.specs.Start.{table_of};
+ghost use Rattle.gmp_explain.specs.Tried.{goroutine_replies, machine_replies, next_word, readied_replies, tried_of};
 
 use gmp_base::{CNo, Case, Fault, GNo, MNo, PNo, Readiness};
 use gmp_seq::{Call, Direction, Goroutine, Relay, Reply, Status, Taken, Waiter};
@@ -24,7 +27,9 @@ pub(crate) fn held_by(last: &Start, m: MNo) -> Option<PNo> {
 }
 
 /// The next readiness of a goroutine.
-fn next(rows: &[Goroutine], g: GNo) -> Readiness {
+fn next(rows: &[Goroutine], g: GNo) -> Readiness
+    ensures { (t : Table) → t.goroutines ≡ rows.now → result ≡ next_word t g }
+{
     let epoch = match rows.get(usize::from(g.0)) {
         Some(row) => row.epoch,
         None => 0,
@@ -234,21 +239,23 @@ fn of_channel(last: &Start, call: &Call, out: &mut Vec<Reply>) -> Result<(), All
     }
 }
 
+/// A start and a `ready` of a goroutine.
+fn of_readied(last: &Start, h: GNo, out: &mut Vec<Reply>) -> Result<(), AllocError>
+    ensures { OnOk result (out.new.items ≡ out.old.items ++ readied_replies (table_of last.now) h) }
+{
+    add(out, Reply::Ticket(next(&last.goroutines, h)))?;
+    add(out, Reply::Fault(Fault::NoSuchBody))?;
+    add(out, Reply::Fault(Fault::AlreadyStarted))?;
+    add(out, Reply::Fault(Fault::NotParked))
+}
+
 /// A start, a `ready`, and what a goroutine does by itself.
-fn of_goroutine(
-    rows: &[Goroutine],
-    g: GNo,
-    call: &Call,
-    out: &mut Vec<Reply>,
-) -> Result<(), AllocError> {
+fn of_goroutine(last: &Start, g: GNo, call: &Call, out: &mut Vec<Reply>) -> Result<(), AllocError>
+    ensures { OnOk result (IfSome (goroutine_replies (table_of last.now) call.now) (λ l. out.new.items ≡ out.old.items ++ l)) }
+{
     match call {
-        Call::Go(h) | Call::Ready(h) => {
-            add(out, Reply::Ticket(next(rows, *h)))?;
-            add(out, Reply::Fault(Fault::NoSuchBody))?;
-            add(out, Reply::Fault(Fault::AlreadyStarted))?;
-            add(out, Reply::Fault(Fault::NotParked))
-        }
-        Call::Yield => add(out, Reply::Shelved(next(rows, g))),
+        Call::Go(h) | Call::Ready(h) => of_readied(last, *h, out),
+        Call::Yield => add(out, Reply::Shelved(next(&last.goroutines, g))),
         Call::Exit => {
             add(out, Reply::Dead)?;
             add(out, Reply::MainEnded)
@@ -301,7 +308,9 @@ fn of_own_processor(
 }
 
 /// Calls of a machine for itself.
-fn of_machine(last: &Start, call: &Call, out: &mut Vec<Reply>) -> Result<(), AllocError> {
+fn of_machine(last: &Start, call: &Call, out: &mut Vec<Reply>) -> Result<(), AllocError>
+    ensures { OnOk result (IfSome (machine_replies last.now.active call.now) (λ l. out.new.items ≡ out.old.items ++ l)) }
+{
     match call {
         Call::Poke => {
             add(out, Reply::Nothing)?;
@@ -348,7 +357,9 @@ pub(crate) fn candidates(
     last: &Start,
     m: MNo,
     call: &Call,
-) -> Result<Vec<Reply>, AllocError> {
+) -> Result<Vec<Reply>, AllocError>
+    ensures { IfOk result (λ v. IfSome (tried_of (table_of last.now) last.now.active call.now) (λ l. v.items ≡ l)) }
+{
     let g = at_machine(&last.goroutines, m).unwrap_or(GNo(0));
     let mut out = Vec::new(alloc);
     match call {
@@ -361,7 +372,7 @@ pub(crate) fn candidates(
             of_channel(last, call, &mut out)?;
         }
         Call::Go(_) | Call::Ready(_) | Call::Yield | Call::Exit | Call::Sleep(_) | Call::Gopark => {
-            of_goroutine(&last.goroutines, g, call, &mut out)?;
+            of_goroutine(last, g, call, &mut out)?;
         }
         Call::Acquire | Call::Leave(_) => of_any_processor(last, g, call, &mut out)?,
         Call::Enter | Call::Declare => {

@@ -1,10 +1,10 @@
 //! The facts of a story, in order: the end, each goroutine, each channel that somebody waits on or that holds values, cycles, machines,
 //! processors, and the longest way of a ticket.
-ghost use Rattle.std.specs.Prelude.{◌<◌, ◌^◌, [], OnOk, length};
+ghost use Rattle.std.specs.Prelude.{◌≡◌, ◌<◌, ◌^◌, [], OnOk, length};
 ghost use Rattle.gmp_start.specs.Start.{table_of};
-ghost use Rattle.gmp_explain.specs.Spoken.{TellsOf, doing_at, doing_from};
+ghost use Rattle.gmp_explain.specs.Spoken.{TellsOf, doing_at, doing_from, is_leak};
 
-use crate::fact::{Fact, Made, Role, Sink, Told, Unit};
+use crate::fact::{Caller, Fact, Made, Role, Sink, Told};
 use crate::heard::{Counts, Heard, Party};
 use crate::knot::tell_cycles;
 use crate::told::Story;
@@ -32,6 +32,16 @@ fn is_waited(rows: &[Goroutine], c: CNo) -> bool {
     })
 }
 
+/// Whether it waits though main ended.
+fn is_leak(outcome: Option<Outcome>, status: &Status) -> bool
+    ensures { result ≡ is_leak outcome status.now }
+{
+    matches!(
+        (outcome, status),
+        (Some(Outcome::MainEnded), Status::Waiting(_))
+    )
+}
+
 /// The cases of the select in which a goroutine waits.
 fn tell_cases<S: Sink>(g: GNo, status: &Status, sink: &mut S) -> Result<(), AllocError>
     ensures { OnOk result (TellsOf S.told [] sink.old sink.new) }
@@ -48,28 +58,40 @@ fn tell_cases<S: Sink>(g: GNo, status: &Status, sink: &mut S) -> Result<(), Allo
     Ok(())
 }
 
+/// The `ready` that a goroutine missed, where it waits for one.
+fn tell_lost<S: Sink>(
+    g: GNo,
+    status: &Status,
+    story: &Story,
+    sink: &mut S,
+) -> Result<(), AllocError>
+    ensures { OnOk result (TellsOf S.told [] sink.old sink.new) }
+{
+    if !status.is_parked() {
+        return Ok(());
+    }
+    if let Some(Some(lost)) = story.heard.lost.get(usize::from(g.0)) {
+        sink.tell(&Fact::Lost { g, lost: *lost })?;
+        return Ok(());
+    }
+    Ok(())
+}
+
 /// What a goroutine does, and the `ready` that it missed, where it waits for one.
 fn tell_goroutine<S: Sink>(g: GNo, story: &Story, sink: &mut S) -> Result<(), AllocError>
-    ensures { OnOk result (TellsOf S.told (doing_at (table_of story.now.last) g) sink.old sink.new) }
+    ensures { OnOk result (TellsOf S.told (doing_at story.now.replay.state.outcome (table_of story.now.last) g) sink.old sink.new) }
 {
     let Some(status) = story.does(g) else {
         return Ok(());
     };
-    let leak = story.replay.outcome() == Some(Outcome::MainEnded)
-        && matches!(status, Status::Waiting(_));
     sink.tell(&Fact::Goroutine(Told {
         g,
         status,
         since: story.since(g),
-        leak,
+        leak: is_leak(story.replay.outcome(), status),
     }))?;
     tell_cases(g, status, sink)?;
-    if status.is_parked() {
-        if let Some(Some(lost)) = story.heard.lost.get(usize::from(g.0)) {
-            sink.tell(&Fact::Lost { g, lost: *lost })?;
-        }
-    }
-    Ok(())
+    tell_lost(g, status, story, sink)
 }
 
 /// The goroutines that wait on the channel in this direction.
@@ -110,7 +132,8 @@ fn tell_party<S: Sink>(
         Party::Received => Role::Received,
         Party::Closed => Role::Closed,
     };
-    sink.tell(&Fact::Dealers(c, role, &who))
+    sink.tell(&Fact::Dealers(c, role, &who))?;
+    Ok(())
 }
 
 /// Who waits on the channel, and who dealt on it.
@@ -141,7 +164,7 @@ pub(crate) fn tell_state<S: Sink>(
     channel: &StartChannel,
     sink: &mut S,
 ) -> Result<(), AllocError>
-    ensures { OnOk result (TellsOf S.told [] sink.old sink.new) }
+    ensures { OnOk result (S.told sink.old (Fact.Channel c channel.now.closed channel.now.capacity (length channel.now.items.items)) sink.new) }
 {
     sink.tell(&Fact::Channel {
         c,
@@ -181,7 +204,7 @@ fn tell_channel<S: Sink>(
 /// How many entries a machine or a processor has, and of which calls.
 fn tell_counts<S: Sink>(
     alloc: Global,
-    unit: Unit,
+    unit: Caller,
     counts: &Counts,
     sink: &mut S,
 ) -> Result<(), AllocError>
@@ -207,10 +230,10 @@ fn tell_units<S: Sink>(alloc: Global, heard: &Heard, sink: &mut S) -> Result<(),
     ensures { OnOk result (TellsOf S.told [] sink.old sink.new) }
 {
     for (m, counts) in heard.machines.iter().enumerate() {
-        tell_counts(alloc, Unit::Machine(machine_at(m)), counts, sink)?;
+        tell_counts(alloc, Caller::Machine(machine_at(m)), counts, sink)?;
     }
     for (p, counts) in heard.processors.iter().enumerate() {
-        tell_counts(alloc, Unit::Processor(processor_at(p)), counts, sink)?;
+        tell_counts(alloc, Caller::Processor(processor_at(p)), counts, sink)?;
     }
     match heard.longest {
         Some(way) => sink.tell(&Fact::Longest(way)),
@@ -221,7 +244,7 @@ fn tell_units<S: Sink>(alloc: Global, heard: &Heard, sink: &mut S) -> Result<(),
 /// What each goroutine does.
 fn tell_goroutines<S: Sink>(story: &Story, sink: &mut S) -> Result<(), AllocError>
     requires { length story.now.last.goroutines.items < 2 ^ 16 }
-    ensures { OnOk result (TellsOf S.told (doing_from 0 story.now.last.goroutines.items) sink.old sink.new) }
+    ensures { OnOk result (TellsOf S.told (doing_from story.now.replay.state.outcome 0 story.now.last.goroutines.items) sink.old sink.new) }
 {
     for g in 0..story.last.goroutines.len() {
         tell_goroutine(goroutine_at(g), story, sink)?;
@@ -242,7 +265,7 @@ fn tell_channels<S: Sink>(alloc: Global, story: &Story, sink: &mut S) -> Result<
 /// All facts of the story: what each goroutine does, by number, and nothing else of what one does.
 pub fn tell_story<S: Sink>(alloc: Global, story: &Story, sink: &mut S) -> Result<(), AllocError>
     requires { length story.now.last.goroutines.items < 2 ^ 16 }
-    ensures { OnOk result (TellsOf S.told (doing_from 0 story.now.last.goroutines.items) sink.old sink.new) }
+    ensures { OnOk result (TellsOf S.told (doing_from story.now.replay.state.outcome 0 story.now.last.goroutines.items) sink.old sink.new) }
 {
     sink.tell(&Fact::End {
         end: End::of(story.replay.outcome()),

@@ -66,6 +66,7 @@ fn first_of(beginning: BeginningView) -> Option<u64> {
 /// The watch is told at each 65,536th entry how many were played.
 pub fn story_of<W: Watch>(alloc: Global, trace: TraceView, watch: &mut W) -> Result<Story, Bad>
     ensures told { IfOk result (λ s. IsTold (content_of trace.entry) s.steps s.replay.state s.last) }
+    ensures limits { IfOk result (λ s. s.replay.limits ≡ trace.entry.limits) }
     ensures few { IfOk result (λ s. length s.last.goroutines.items < 2 ^ 16) }
     ensures wrong { IfErr result (λ bad. bad.why ≢ OutOfMemory → IsFirstBad (content_of trace.entry) bad) }
 {

@@ -1,19 +1,21 @@
-use Rattle.std.proofs.Common.{sym, ap, ◌∙◌}
-use Rattle.gmp_seq.specs.declared.call.Entry.{Entry}
-use Rattle.gmp_explain.proofs.Alike.{allowed_alike}
+use Rattle.std.proofs.Common.{◌≡◌, List, ap, subst}
+use Rattle.gmp_seq.specs.declared.call.Reply.{Reply}
+use Rattle.gmp_seq.specs.State.{State}
+use Rattle.gmp_start.specs.Start.{state_of}
+use Rattle.gmp_explain.specs.Told.{AreThoseAllowed}
+use Rattle.gmp_explain.proofs.Alike.{those_right}
+use Rattle.gmp_explain.proofs.Tries.{whole_of}
 use Rattle.gmp_explain.proofs.allowing.allowed.Goals as goal
 
-pub try_reply-requires : goal.try_reply-requires
-try_reply-requires c =
+pub returns-clause-right : goal.returns-clause-right
+returns-clause-right c =
     let now = c.args.replay.now in
-    let k = c.loop-reply.invariant in
-    allowed_alike now.limits now.state c.args.entry.now c.loop-reply.entry c.loop-reply.right.items (λ r. sym (k.entry r)) k.all
+    those_right now.limits now.state c.args.entry.now _ c.in_ok-right.right.items c.in_ok-right.ensures.exact
 
-pub loop-reply-preserved : goal.loop-reply-preserved
-loop-reply-preserved c =
+pub returns-clause-whole : goal.returns-clause-whole
+returns-clause-whole c =
     let now = c.args.replay.now in
-    let k = c.loop-reply.invariant in
-    record {
-      entry = λ r. ap (λ (e : Entry). let x : Entry = record e { reply = r } in x) c.in_ok-try_reply.ensures.reply ∙ k.entry r;
-      all = allowed_alike now.limits now.state c.loop-reply.entry c.args.entry.now c.try_reply.new.right.items k.entry c.in_ok-try_reply.ensures.right;
-    }
+    let last = c.in_ok-last.last in
+    let exact = subst (λ (l : List Reply). AreThoseAllowed now.limits now.state c.args.entry.now l c.in_ok-right.right.items) c.deref.ensures.value c.in_ok-right.ensures.exact in
+    whole_of now.limits now.state c.args.entry.now c.in_ok-replies.replies.items c.in_ok-right.right.items (state_of last)
+    (ap (λ (s : State). s.table) c.in_ok-last.ensures) (ap (λ (s : State). s.machines) c.in_ok-last.ensures) c.in_ok-replies.ensures exact

@@ -1,15 +1,27 @@
-use Rattle.std.proofs.Common.{string_bytes}
+use Rattle.std.proofs.Common.{slice_get, string_bytes}
+use Rattle.gmp_trace.specs.Text.{content}
 use Rattle.gmp_explain.specs.declared.lines.Lines.{Lines}
 use Rattle.gmp_explain.specs.Spoken.{doing_from}
-use Rattle.gmp_explain.proofs.Texts.{says_doing}
+use Rattle.gmp_explain.proofs.Texts.{if_some, says_allowed, says_doing}
 use Rattle.gmp_explain.proofs.explaining.facts.Goals as goal
 
-pub returns : goal.returns
-returns c plain right =
-    let state = c.in_ok-tell-2.ensures right in
+pub returns-clause-told : goal.returns-clause-told
+returns-clause-told c plain right =
+    let state = c.in_ok-tell-2.ensures.right right in
     record {
       n = state.n;
       last = state.last;
       walked = state.walked;
-      says = says_doing (λ (l : Lines). string_bytes l.text) c.new-lines.result c.tell-2.new.sink (doing_from 0 state.last.table.goroutines) c.new-lines.ensures state.tells;
+      says = says_doing (λ (l : Lines). string_bytes l.text) c.new-lines.result c.tell-2.new.sink (doing_from state.last.outcome 0 state.last.table.goroutines) c.new-lines.ensures state.tells;
+    }
+
+pub returns-clause-riddle : goal.returns-clause-riddle
+returns-clause-riddle c plain bad is step =
+    let x = content c.args.judgement.now.trace in
+    let state = c.in_ok-tell-2.ensures.riddle bad is step in
+    record {
+      n = state.n;
+      last = state.last;
+      walked = state.walked;
+      says = if_some (slice_get x.entries state.n) (λ e. says_allowed (λ (l : Lines). string_bytes l.text) x.limits state.last e c.new-lines.result c.tell-2.new.sink c.new-lines.ensures) state.tells;
     }

@@ -1,4 +1,4 @@
-use Rattle.std.proofs.Common.{[], sym, subst}
+use Rattle.std.proofs.Common.{refl, [], sym, subst}
 use Rattle.gmp_explain.specs.Spoken.{TellsOf}
 use Rattle.gmp_explain.proofs.Spoken.{behind, other}
 use Rattle.gmp_explain.proofs.knot.tell_cycles.Goals as goal
@@ -21,6 +21,6 @@ returns g c =
     elim c.if-found.branch [
       | then-found+in_ok-tell w ↦
           subst (λ s. TellsOf told [] c.args.sink.now s) (sym w.sink-is)
-          (behind told c.args.sink.now c.loop-g.sink w.tell.new.self [] so_far (other told c.loop-g.sink w.tell.new.self w.in_ok-tell.ensures))
+          (behind told c.args.sink.now c.loop-g.sink w.tell.new.self [] so_far (other told c.loop-g.sink w.tell.new.self w.in_ok-tell.ensures refl))
       | else-found w ↦ subst (λ s. TellsOf told [] c.args.sink.now s) (sym w.sink-is) so_far
     ]

@@ -1,32 +1,21 @@
-use Rattle.std.proofs.Common.{◌≡◌, [], Some, rules}
+use Rattle.std.proofs.Common.{◌≡◌, [], Bool, Some, ap, rules}
 use Rattle.gmp_seq.specs.Table.{status_at}
 use Rattle.gmp_start.specs.Start.{table_of}
-use Rattle.gmp_explain.proofs.Spoken.{behind, other, told_one}
+use Rattle.gmp_explain.specs.Spoken.{Does, is_leak}
+use Rattle.gmp_explain.proofs.Parts.{on_ok}
+use Rattle.gmp_explain.proofs.Spoken.{behind, told_one}
 use Rattle.gmp_explain.proofs.telling.tell_goroutine.Goals as goal
 
-pub returns-in_ok-tell-2 : goal.returns-in_ok-tell-2
-returns-in_ok-tell-2 g c =
+pub returns : goal.returns
+returns g c =
     let a = c.args in
-    let is : status_at (table_of a.story.now.last) a.g ≡ Some c.in-Some.status.now = search rules in
     let told = g.S.Sink.told in
-    let last = other told c.tell_cases.new.sink c.tell-in-Some-Some.new.self c.in_ok-tell-2.ensures in
-    told_one told (table_of a.story.now.last) a.g c.in-Some.status.now a.sink.now c.tell.new.self c.tell-in-Some-Some.new.self is c.in_ok-tell.ensures
-    (behind told c.tell.new.self c.tell_cases.new.sink c.tell-in-Some-Some.new.self [] c.in_ok-tell_cases.ensures last)
-
-pub returns-then-is_parked : goal.returns-then-is_parked
-returns-then-is_parked g c =
-    let a = c.args in
-    let is : status_at (table_of a.story.now.last) a.g ≡ Some c.in-Some.status.now = search rules in
-    told_one g.S.Sink.told (table_of a.story.now.last) a.g c.in-Some.status.now a.sink.now c.tell.new.self c.tell_cases.new.sink is c.in_ok-tell.ensures c.in_ok-tell_cases.ensures
-
-pub returns-then-is_parked-2 : goal.returns-then-is_parked-2
-returns-then-is_parked-2 g c =
-    let a = c.args in
-    let is : status_at (table_of a.story.now.last) a.g ≡ Some c.in-Some.status.now = search rules in
-    told_one g.S.Sink.told (table_of a.story.now.last) a.g c.in-Some.status.now a.sink.now c.tell.new.self c.tell_cases.new.sink is c.in_ok-tell.ensures c.in_ok-tell_cases.ensures
-
-pub returns-else-is_parked : goal.returns-else-is_parked
-returns-else-is_parked g c =
-    let a = c.args in
-    let is : status_at (table_of a.story.now.last) a.g ≡ Some c.in-Some.status.now = search rules in
-    told_one g.S.Sink.told (table_of a.story.now.last) a.g c.in-Some.status.now a.sink.now c.tell.new.self c.tell_cases.new.sink is c.in_ok-tell.ensures c.in_ok-tell_cases.ensures
+    let o = a.story.now.replay.state.outcome in
+    let t = table_of a.story.now.last in
+    let status = c.in-Some.status.now in
+    let is : status_at t a.g ≡ Some status = search rules in
+    let leak : c.is_leak.result ≡ is_leak o status = search rules in
+    on_ok c.tell_lost.result (λ last.
+    told_one told o t a.g status a.sink.now c.tell.new.self c.tell_lost.new.sink is c.in_ok-tell.ensures
+    (ap (λ (b : Bool). let d : Does = record { g = a.g; status = status; leak = b } in Some d) leak)
+    (behind told c.tell.new.self c.tell_cases.new.sink c.tell_lost.new.sink [] c.in_ok-tell_cases.ensures last)) c.tell_lost.ensures

@@ -1,5 +1,7 @@
-use Rattle.std.proofs.Common.{[]}
-use Rattle.gmp_explain.proofs.Spoken.{behind, on_ok, other}
+use Rattle.std.proofs.Common.{refl, []}
+use Rattle.gmp_explain.specs.declared.fact.Fact.TheVariants as fact
+use Rattle.gmp_explain.proofs.Parts.{on_ok}
+use Rattle.gmp_explain.proofs.Spoken.{behind, other}
 use Rattle.gmp_explain.proofs.telling.tell_units.Goals as goal
 
 pub loop-m-preserved : goal.loop-m-preserved
@@ -12,7 +14,7 @@ pub returns-in-Some : goal.returns-in-Some
 returns-in-Some g c =
     let told = g.S.Sink.told in
     let so_far = behind told c.args.sink.now c.loop-m.sink c.loop-p.sink [] c.loop-m.invariant c.loop-p.invariant in
-    on_ok c.tell.result (λ is. behind told c.args.sink.now c.loop-p.sink c.tell.new.self [] so_far (other told c.loop-p.sink c.tell.new.self is)) c.tell.ensures
+    on_ok c.tell.result (λ is. behind told c.args.sink.now c.loop-p.sink c.tell.new.self [] so_far (other told c.loop-p.sink c.tell.new.self {x = fact.Longest c.in-Some.way} is refl)) c.tell.ensures
 
 pub returns-in-None : goal.returns-in-None
 returns-in-None g c = behind g.S.Sink.told c.args.sink.now c.loop-m.sink c.loop-p.sink [] c.loop-m.invariant c.loop-p.invariant
