@@ -1,5 +1,5 @@
 -- A host's run by a core: its machines act in turn, time passes where one waits for a deadline, and nothing is left open but what bodies do.
-use Rattle.std.specs.Prelude.{◌≡◌, ℕ, ◌*◌, max, List, Option, None, Some, length}
+use Rattle.std.specs.Prelude.{◌≡◌, ℕ, ◌*◌, max, Bool, List, Option, None, Some, length}
 use Rattle.std.specs.Option.{unwrap_or}
 use Rattle.gmp_base.specs.declared.ask.Ask.{Ask}
 use Rattle.gmp_base.specs.declared.ask.Woke.{Woke}
@@ -32,25 +32,25 @@ AnswersSo called shown before number shown' after = called before number after �
 
 -- By what bodies ask when they are resumed, and answer by their blocking calls.
 module _ {T : Type 0} (resumed : T → Woke → Ask → T → Type 0) (called : T → ℕ → T → Type 0) where
-  -- the bodies were played so far
-  abbrev pub IsPlayedTo : Limits → List ℕ → List T → Stage T ℕ → Type 0
-  IsPlayedTo limits capacities bodies last = IsPlayed (AsksSo resumed) (AnswersSo called) ShowsSo (most_acts limits) 0 (opening_stage limits capacities bodies 0) last
+  -- the bodies were played so far, by machines that are all fair, or all not
+  abbrev pub IsPlayedTo : Bool → Limits → List ℕ → List T → Stage T ℕ → Type 0
+  IsPlayedTo is_fair limits capacities bodies last = IsPlayed (AsksSo resumed) (AnswersSo called) ShowsSo (most_acts limits) 0 (opening_stage is_fair limits capacities bodies 0) last
 
   -- the bodies were played, each choice the first, and the run ended so
-  pub record IsPlayedOut (limits : Limits) (capacities : List ℕ) (bodies : List T) (ended : Ended) : Type 0 where
+  pub record IsPlayedOut (is_fair : Bool) (limits : Limits) (capacities : List ℕ) (bodies : List T) (ended : Ended) : Type 0 where
     pub last : Stage T ℕ
-    pub played : IsPlayedTo limits capacities bodies last
+    pub played : IsPlayedTo is_fair limits capacities bodies last
     pub ends : EndsSo last.core.system.book ended
 
   -- the bodies were played, and the run came to no outcome
-  pub record HasNoEnd (limits : Limits) (capacities : List ℕ) (bodies : List T) : Type 0 where
+  pub record HasNoEnd (is_fair : Bool) (limits : Limits) (capacities : List ℕ) (bodies : List T) : Type 0 where
     pub last : Stage T ℕ
-    pub played : IsPlayedTo limits capacities bodies last
+    pub played : IsPlayedTo is_fair limits capacities bodies last
     pub none : last.core.system.book.state.outcome ≡ None
 
 -- the same, whatever the bodies do
-abbrev pub IsPlayedByAny : {T : Type 0} → Limits → List ℕ → List T → Ended → Type 0
-IsPlayedByAny limits capacities bodies ended = IsPlayedOut (λ before told asked after. Unit {0}) (λ before number after. Unit {0}) limits capacities bodies ended
+abbrev pub IsPlayedByAny : {T : Type 0} → Bool → Limits → List ℕ → List T → Ended → Type 0
+IsPlayedByAny is_fair limits capacities bodies ended = IsPlayedOut (λ before told asked after. Unit {0}) (λ before number after. Unit {0}) is_fair limits capacities bodies ended
 
-abbrev pub HasNoEndByAny : {T : Type 0} → Limits → List ℕ → List T → Type 0
-HasNoEndByAny limits capacities bodies = HasNoEnd (λ before told asked after. Unit {0}) (λ before number after. Unit {0}) limits capacities bodies
+abbrev pub HasNoEndByAny : {T : Type 0} → Bool → Limits → List ℕ → List T → Type 0
+HasNoEndByAny is_fair limits capacities bodies = HasNoEnd (λ before told asked after. Unit {0}) (λ before number after. Unit {0}) is_fair limits capacities bodies

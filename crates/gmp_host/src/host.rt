@@ -17,7 +17,7 @@ use crate::stamps::Stamps;
 use crate::stepping::play_all;
 use gmp_base::{CNo, GNo};
 use gmp_history::History;
-use gmp_run::{Clock, Gate, Open, Since, Sink, Stop, run, run_into};
+use gmp_run::{Clock, Gate, Open, Since, Sink, Stop, run_fair, run_into_fair};
 use gmp_worker::{Boxed, PassLog, audit};
 use std::alloc::Global;
 use std::sync::{Arc, Mutex, Wait};
@@ -178,9 +178,9 @@ impl Host {
     /// Runs the goroutines by a core in this thread, the same every time. All entries have to be kept.
     pub fn step(self) -> Result<Ended, Short>
         ensures ended { IfOk result (IsOfLegalRun (limits_of self.settings) self.capacities.items (length self.bodies.items)) }
-        // Its machines act in turn, and each choice is the first.
-        ensures played { IfOk result (IsPlayedByAny (limits_of self.settings) self.capacities.items self.bodies.items) }
-        ensures endless { IfErr result (λ e. e ≡ Short.NoEnd → HasNoEndByAny (limits_of self.settings) self.capacities.items self.bodies.items) }
+        // Its machines, which are fair as the settings say, act in turn, and each choice is the first.
+        ensures played { IfOk result (IsPlayedByAny self.settings.fair (limits_of self.settings) self.capacities.items self.bodies.items) }
+        ensures endless { IfErr result (λ e. e ≡ Short.NoEnd → HasNoEndByAny self.settings.fair (limits_of self.settings) self.capacities.items self.bodies.items) }
         ensures whole { OnOk result (self.settings.entries ≤ self.settings.room) }
         ensures limits { IfErr result (λ e. e ≡ Short.BadLimits
             → IsWholeRun (limits_of self.settings) (length self.bodies.items) self.capacities.items → ⊥) }
@@ -202,7 +202,14 @@ impl Host {
             ..
         } = self;
         let limits = settings.limits();
-        let ended = play_all(alloc, limits, capacities.as_slice(), bodies, shown)?;
+        let ended = play_all(
+            alloc,
+            limits,
+            capacities.as_slice(),
+            bodies,
+            shown,
+            settings.fair,
+        )?;
         Ok(Ended {
             lost: first(&loss),
             ..ended
@@ -246,7 +253,7 @@ impl Host {
         }
         let bodies = self.bodies;
         let gate = Stamps::of(clock, &self.shown, self.is_timed, gate);
-        let ran = run(
+        let ran = run_fair(
             rt,
             self.alloc,
             RUN,
@@ -256,6 +263,7 @@ impl Host {
             clock,
             &gate,
             self.settings.random,
+            self.settings.fair,
         );
         let report = match ran {
             Ok(report) => report,
@@ -296,7 +304,7 @@ impl Host {
         let clock = Since::now(rt);
         let bodies = self.bodies;
         let gate = Stamps::of(&clock, &self.shown, self.is_timed, &Open);
-        let (ran, mut sink) = run_into(
+        let (ran, mut sink) = run_into_fair(
             rt,
             self.alloc,
             RUN,
@@ -307,6 +315,7 @@ impl Host {
             &gate,
             self.settings.random,
             sink,
+            self.settings.fair,
         );
         let mut report = match ran {
             Ok(report) => report,

@@ -1,10 +1,10 @@
 //! How a host runs.
-ghost use Rattle.std.specs.Prelude.{◌≡◌, min};
+ghost use Rattle.std.specs.Prelude.{◌≡◌, min, true};
 ghost use Rattle.gmp_host.specs.Openings.{limits_of};
 
 use gmp_seq::Limits;
 
-/// How a host runs: the limits of its run, and where its words begin.
+/// How a host runs: the limits of its run, where its words begin, and whether its machines are fair.
 #[derive(Clone, Copy, Debug, PartialEq, Eq)]
 pub struct Settings {
     /// How many processors run goroutines: 1 to 32.
@@ -20,12 +20,15 @@ pub struct Settings {
     pub room: u32,
     /// The words that choose among cases and victims are drawn from it on.
     pub random: u64,
+    /// Whether machines look aside every 16 claims, so that no ready goroutine is passed over for ever: also where others wake one another
+    /// without end. It costs some 1 % more entries a claim.
+    pub fair: bool,
 }
 
 impl Default for Settings {
-    /// Four processors, six machines, 64 channels, 200,000 entries, all of which are kept, and words from 0 on.
+    /// Four processors, six machines, 64 channels, 200,000 entries, all of which are kept, words from 0 on, and fair machines.
     fn default() -> Self
-        ensures { result ≡ record { procs = 4; machines = 6; channels = 64; entries = 200000; room = 1000000; random = 0 } }
+        ensures { result ≡ record { procs = 4; machines = 6; channels = 64; entries = 200000; room = 1000000; random = 0; fair = true } }
     {
         Settings {
             procs: 4,
@@ -34,6 +37,7 @@ impl Default for Settings {
             entries: 200_000,
             room: 1_000_000,
             random: 0,
+            fair: true,
         }
     }
 }

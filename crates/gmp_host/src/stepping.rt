@@ -107,19 +107,20 @@ fn ended<T: InHand>(player: &Player<T, Shown>) -> Option<Ended>
     })
 }
 
-/// Runs the bodies, of which the first is main, by a core in this thread. Its machines act in turn, each choice among what can proceed is
-/// the first, and time, which `shown` shows, passes only where a machine waits for a deadline: so it is the same every time.
+/// Runs the bodies, of which the first is main, by a core in this thread. Its machines, which are all fair or all not, act in turn, each
+/// choice among what can proceed is the first, and time, which `shown` shows, passes only where a machine waits for a deadline: so it is the same every time.
 pub(crate) fn play_all<T: InHand>(
     alloc: Global,
     limits: Limits,
     capacities: &[u32],
     bodies: Vec<T>,
     shown: Note,
+    is_fair: bool,
 ) -> Result<Ended, Short>
     ensures ended { IfOk result (IsOfLegalRun limits capacities.now (length bodies.items)) }
-    // The run is the one that these bodies, played in turn, make.
-    ensures played { IfOk result (IsPlayedOut T.resumed T.called limits capacities.now bodies.items) }
-    ensures endless { IfErr result (λ e. e ≡ Short.NoEnd → HasNoEnd T.resumed T.called limits capacities.now bodies.items) }
+    // The run is the one that these bodies, played in turn by machines so fair, make.
+    ensures played { IfOk result (IsPlayedOut T.resumed T.called is_fair limits capacities.now bodies.items) }
+    ensures endless { IfErr result (λ e. e ≡ Short.NoEnd → HasNoEnd T.resumed T.called is_fair limits capacities.now bodies.items) }
     ensures whole { OnOk result (limits.room ≡ limits.entries) }
     ensures limits { IfErr result (λ e. e ≡ Short.BadLimits → IsWholeRun limits (length bodies.items) capacities.now → ⊥) }
     ensures memory { IfErr result (λ e. e ≡ Short.OutOfMemory → IsWholeRun limits (length bodies.items) capacities.now) }
@@ -133,7 +134,7 @@ pub(crate) fn play_all<T: InHand>(
         moment: 0,
         note: shown,
     };
-    let mut player = Player::open(alloc, limits, capacities, bodies, outside)?;
+    let mut player = Player::open(alloc, limits, capacities, bodies, outside, is_fair)?;
     player.play(MOST_ACTS * u32::from(limits.machines), 0);
     let ended = ended(&player);
     player.close();

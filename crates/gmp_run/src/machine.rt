@@ -48,12 +48,13 @@ pub(crate) struct Machine<T, L: RunLedger> {
     pub share: Share<L>,
     pub ghost run: { driver.run ≡ L.run },
     pub ghost pass: { is_some driver.pass ≡ true },
+    pub ghost fair: { is_some driver.aside ≡ L.fair },
     pub ghost one_part: { share.parts ≡ 1 },
     pub ghost counted: { share.amount ≡ calls_in driver.pass },
 }
 
 impl<T: Drop, L: RunLedger> Machine<T, L> {
-    /// A machine that has made no act.
+    /// A machine that has made no act, fair or not.
     pub fn new(
         pass: Pass,
         procs: u8,
@@ -61,15 +62,17 @@ impl<T: Drop, L: RunLedger> Machine<T, L> {
         random: Lcg64Xsh32,
         parker: Parker,
         share: Share<L>,
+        is_fair: bool,
     ) -> Self
         requires procs { (1 ≤ procs) × (procs ≤ 32) }
         requires run { pass.run ≡ L.run }
+        requires fair { is_fair ≡ L.fair }
         requires counted { share.amount ≡ pass.calls }
         requires one_part { share.parts ≡ 1 }
     {
         Machine {
             m: pass.m,
-            driver: Driver::new(pass, procs),
+            driver: Driver::new_fair(pass, procs, is_fair),
             thieves,
             random,
             parker,
@@ -143,9 +146,10 @@ impl<T: Drop, L: RunLedger> Machine<T, L> {
         }
     }
 
-    /// Leaves the victim's owner some time to take the ticket that it is about to run. Once a ticket is stolen, more are at once.
+    /// Leaves the victim's owner some time to take the ticket that it is about to run. Once a ticket is stolen, more are at once. A fair
+    /// machine that looks aside takes what it finds, so that no ticket is left for ever.
     pub fn leave_to_owner(&self, victim: PNo) {
-        if !self.driver.has_to_claim() {
+        if !self.driver.has_to_claim() && !self.driver.peeks() {
             let _ = self.keeps(usize::from(victim.0));
         }
     }
@@ -168,7 +172,7 @@ impl<T: Drop, L: RunLedger> Machine<T, L> {
 /// A body that machines in threads run. The threads' code has it as a parameter, and no box: that such threads may be started the check
 /// finds by itself.
 pub(crate) trait Runs: Drop {
-    ghost use Rattle.std.specs.Prelude.{◌≡◌, IsSome};
+    ghost use Rattle.std.specs.Prelude.{◌≡◌, IsSome, is_some};
     ghost use Rattle.gmp_driver.specs.Table.{next_act};
     ghost use Rattle.gmp_worker.specs.Local.{IsOfBodyOrClock};
 
@@ -177,7 +181,8 @@ pub(crate) trait Runs: Drop {
         requires act { IsOfBodyOrClock (next_act driver.old) }
         requires pass { IsSome driver.old.pass }
         ensures pass { driver.new.pass ≡ driver.old.pass }
-        ensures run { driver.new.run ≡ driver.old.run };
+        ensures run { driver.new.run ≡ driver.old.run }
+        ensures fair { is_some driver.new.aside ≡ is_some driver.old.aside };
 }
 
 impl Runs for Boxed {

@@ -37,7 +37,7 @@ use std::thread::Threads;
 /// out, and the report counts those started. The clock is read by machines that mind a deadline, and every 16 claims. Refused, it hands the
 /// bodies back.
 /// Errors: `BadLimits` for limits, capacities or a number of bodies out of range, `OutOfMemory` for what is taken before the first act.
-/// `run` is the number that all values of this run name.
+/// `run` is the number that all values of this run name. No machine is fair.
 pub fn run<R: Threads + Wait + Sync, C: Clock + Sync, G: Gate + Sync>(
     rt: &R,
     alloc: Global,
@@ -55,12 +55,36 @@ pub fn run<R: Threads + Wait + Sync, C: Clock + Sync, G: Gate + Sync>(
     ensures why { IfErr result (λ u. WhyUnrun (IsWholeRun limits (length bodies.items) capacities.now) u.why) }
     ensures back { IfErr result (λ u. u.bodies.items ≡ bodies.items) }
 {
+    run_fair(
+        rt, alloc, run, limits, capacities, bodies, clock, gate, random, false,
+    )
+}
+
+/// Runs the bodies as `run` does, by machines that are all fair, or all not.
+pub fn run_fair<R: Threads + Wait + Sync, C: Clock + Sync, G: Gate + Sync>(
+    rt: &R,
+    alloc: Global,
+    run: u64,
+    limits: Limits,
+    capacities: &[u32],
+    bodies: Vec<Boxed>,
+    clock: &C,
+    gate: &G,
+    random: u64,
+    is_fair: bool,
+) -> Result<Report<Boxed>, Unrun<Boxed>>
+    ensures report { IfOk result (IsRunReport limits capacities.now (length bodies.items) []) }
+    ensures ended { IfOk result (λ r. IsSome r.outcome) }
+    ensures whole { OnOk result (limits.room ≡ limits.entries) }
+    ensures why { IfErr result (λ u. WhyUnrun (IsWholeRun limits (length bodies.items) capacities.now) u.why) }
+    ensures back { IfErr result (λ u. u.bodies.items ≡ bodies.items) }
+{
     if u64::from(limits.room) != limits.entries {
         let why = Refusal::BadLimits;
         return Err(Unrun { why, bodies });
     }
-    let (ran, _) = run_into(
-        rt, alloc, run, limits, capacities, bodies, clock, gate, random, Whole,
+    let (ran, _) = run_into_fair(
+        rt, alloc, run, limits, capacities, bodies, clock, gate, random, Whole, is_fair,
     );
     ran
 }
@@ -88,6 +112,30 @@ pub fn run_into<R: Threads + Wait + Sync, C: Clock + Sync, G: Gate + Sync, S: Si
     ensures back { IfErr result.0 (λ u. u.bodies.items ≡ bodies.items) }
     ensures unused { OnErr result.0 (result.1 ≡ sink) }
 {
+    run_into_fair(
+        rt, alloc, run, limits, capacities, bodies, clock, gate, random, sink, false,
+    )
+}
+
+/// Runs the bodies as `run_into` does, by machines that are all fair, or all not.
+pub fn run_into_fair<R: Threads + Wait + Sync, C: Clock + Sync, G: Gate + Sync, S: Sink + Send>(
+    rt: &R,
+    alloc: Global,
+    run: u64,
+    limits: Limits,
+    capacities: &[u32],
+    bodies: Vec<Boxed>,
+    clock: &C,
+    gate: &G,
+    random: u64,
+    sink: S,
+    is_fair: bool,
+) -> (Result<Report<Boxed>, Unrun<Boxed>>, S)
+    ensures report { IfOk result.0 (λ r. IsPiecesReport S.takes S.refuses limits capacities.now (length bodies.items) sink r result.1) }
+    ensures why { IfErr result.0 (λ u. WhyUnrun (AreLimits limits (length bodies.items) capacities.now) u.why) }
+    ensures back { IfErr result.0 (λ u. u.bodies.items ≡ bodies.items) }
+    ensures unused { OnErr result.0 (result.1 ≡ sink) }
+{
     run_as::<Brand, R, C, G, S>(
         rt,
         alloc,
@@ -100,6 +148,7 @@ pub fn run_into<R: Threads + Wait + Sync, C: Clock + Sync, G: Gate + Sync, S: Si
         gate,
         random,
         sink,
+        is_fair,
     )
 }
 
@@ -122,10 +171,12 @@ fn run_as<
     gate: &G,
     random: u64,
     sink: S,
+    is_fair: bool,
 ) -> (Result<Report<Boxed>, Unrun<Boxed>>, S)
     requires name { blank.name ≡ L.name }
     requires parts { (blank.parts ≡ L.parts) × (blank.parts ≡ limits.machines) }
     requires run { run ≡ L.run }
+    requires fair { is_fair ≡ L.fair }
     requires first { (s : S) → L.first s → s ≡ sink }
     requires begins { L.first sink }
     ensures report { IfOk result.0 (λ r. IsPiecesReport S.takes S.refuses limits capacities.now (length bodies.items) sink r result.1) }
@@ -170,6 +221,7 @@ fn run_as<
         &mut all,
         limits.procs,
         random,
+        is_fair,
     );
     let desk = Desk::new(book, tally, sink, spare);
     let shared = Shared::new(Bench { desk, watch });
@@ -196,10 +248,12 @@ fn seat_all<L: RunLedger>(
     all: &mut Share<L>,
     procs: u8,
     random: u64,
+    is_fair: bool,
 ) -> Vec<Seat<Boxed, L>>
     requires empty { room.items ≡ [] }
     requires room { length passes.items ≤ vec_capacity room }
     requires passes { All (IsUnused L.run) passes.items }
+    requires fair { is_fair ≡ L.fair }
     requires thieves { length thieves.items ≡ length passes.items }
     requires parkers { length parkers.items ≡ length passes.items }
     requires procs { (1 ≤ procs) × (procs ≤ 32) }
@@ -217,7 +271,7 @@ fn seat_all<L: RunLedger>(
         let parker = parkers.pop().unwrap();
         let share = all.split_off(1, 0);
         let random = Lcg64Xsh32::seed_from_u64(random.wrapping_add(u64::from(pass.m.0)));
-        let machine = Machine::new(pass, procs, thieves, random, parker, share);
+        let machine = Machine::new(pass, procs, thieves, random, parker, share, is_fair);
         seats.push_reserved(Mutex::new(Some(machine)));
     }
     passes.destroy_empty();

@@ -82,7 +82,7 @@ fn threaded<H: Threads + Wait + Sync, W: Write, C: Clock + Sync>(
     };
     let against = lent(&kept);
     let boxed = boxed!(alloc, bodies, Ended::out_of_memory());
-    let ran = gmp_run::run(
+    let ran = gmp_run::run_fair(
         rt,
         alloc,
         RUN,
@@ -93,6 +93,7 @@ fn threaded<H: Threads + Wait + Sync, W: Write, C: Clock + Sync>(
         // Nobody is held up: the gate is for tests.
         &Open,
         settings.random,
+        settings.fair,
     );
     told(alloc, settings, &capacities, against, ran, writer)
 }

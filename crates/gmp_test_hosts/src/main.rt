@@ -1,12 +1,16 @@
-//! What no clause says of a host's run: who is lost and with which answer, a gate of one's own, how a run falls short, and that each body
-//! that is handed over leaves its output once. `rt run` proves, builds and runs it; the gate compares what it prints with `stdout`.
+//! What no clause says of a host's run: who is lost and with which answer, a gate of one's own, how a run falls short, that each body
+//! that is handed over leaves its output once, and that in a host whose machines are fair nobody is passed over. `rt run` proves, builds and runs it; the gate compares what it prints with `stdout`.
 #![tactic(auto)]
 
+mod busy;
 mod handed;
+mod loaded;
 mod split;
 mod ways;
 
+use crate::busy::{Waits, run_busy};
 use crate::handed::{Found, run_handed};
+use crate::loaded::{Tally, run_loaded};
 use crate::split::run_split;
 use crate::ways::Runner;
 use anyhow::Result;
@@ -194,6 +198,40 @@ fn show_spawned<R: Threads + Wait + Clock + Sync + Print>(
     Ok(())
 }
 
+/// How main ends beside two goroutines that wake each other without end, where its machine is fair, and where it is not.
+fn show_busy<R: Threads + Wait + Clock + Sync + Print>(
+    rt: &R,
+    alloc: Global,
+    words: &str,
+    waits: Waits,
+) -> Result<()> {
+    let fair = run_busy(rt, alloc, waits, true)?;
+    let unfair = run_busy(rt, alloc, waits, false)?;
+    println!(rt;
+        "{words}: {fair}, {} entries; not fair: {unfair}, {} entries",
+        fair.entries, unfair.entries
+    )?;
+    Ok(())
+}
+
+/// How many requests of a server under load are answered, and how many late, by so many machines, under these settings for the rest.
+fn show_loaded<R: Threads + Wait + Clock + Sync + Print>(
+    rt: &R,
+    alloc: Global,
+    machines: u8,
+    settings: Settings,
+) -> Result<()> {
+    let tally = Tally::new(alloc)?;
+    let ended = run_loaded(rt, alloc, machines, settings, &tally)?;
+    println!(rt;
+        "under load, machines {machines}, fair {}: {ended}; answered {}, late {}",
+        settings.fair,
+        tally.answered.get(),
+        tally.late.get()
+    )?;
+    Ok(())
+}
+
 fn main(rt: HostRuntime) -> Result<()> {
     let alloc = rt.alloc();
     println!(rt; "step: {}", lossy(&rt, alloc, Way::Step)?)?;
@@ -228,5 +266,22 @@ fn main(rt: HostRuntime) -> Result<()> {
         (Err(short), pieces) => println!(rt; "{short}, pieces: {pieces}")?,
     }
     show_spawned(&rt, alloc, Runner::Core)?;
-    show_spawned(&rt, alloc, Runner::Threads)
+    show_spawned(&rt, alloc, Runner::Threads)?;
+    show_busy(&rt, alloc, "yields, step", Waits::Yields(Runner::Core))?;
+    show_busy(
+        &rt,
+        alloc,
+        "yields, in pieces",
+        Waits::Yields(Runner::Threads),
+    )?;
+    show_busy(&rt, alloc, "sleeps, by a clock", Waits::Sleeps(4))?;
+    let settings = Runner::Threads.settings();
+    show_loaded(&rt, alloc, 1, settings)?;
+    show_loaded(&rt, alloc, 4, settings)?;
+    let unfair = Settings {
+        entries: 10_000,
+        fair: false,
+        ..settings
+    };
+    show_loaded(&rt, alloc, 1, unfair)
 }

@@ -24,3 +24,8 @@ pub const BODIES: u16 = 64;
 
 /// The capacities of the channels that are there at the opening.
 pub const CAPACITIES: [u32; 4] = [0, 1, 2, 3];
+
+/// Whether the machines of the run of this seed are fair: of each second run they are.
+pub fn is_fair(seed: u64) -> bool {
+    seed % 2 == 1
+}

@@ -1,7 +1,7 @@
 //! `gmp_test_nonsense FIRST N T CUT [TAKEN]` tries what takes memory, and plays the N runs of the seeds from FIRST on: acts of drawn machines
-//! of the core with drawn choices, each run judged by the plain scheduler (docs/HACKING.md). The first 2,000 entries of each are cut, at each
-//! entry in the first CUT runs and at each 100th in the others: both parts are right, and joined they are the run again. Then T runs of drawn
-//! bodies in threads by each of three sizes.
+//! of the core with drawn choices, each run judged by the plain scheduler (docs/HACKING.md). In each second run the machines are fair. The
+//! first 2,000 entries of each are cut, at each entry in the first CUT runs and at each 100th in the others: both parts are right, and joined
+//! they are the run again. Then T runs of drawn bodies in threads by each of three sizes.
 //!
 //! With TAKEN memory is taken and given back so often before, so that of a program whose Nth allocation is refused another one is; and it
 //! says where that comes behind the trials.

@@ -4,7 +4,7 @@ use crate::cutting::cut;
 use crate::drawing::Draw;
 use crate::error::RunError;
 use crate::judging::judged;
-use crate::limits::{BODIES, CAPACITIES, LIMITS, PROCS};
+use crate::limits::{BODIES, CAPACITIES, LIMITS, PROCS, is_fair};
 use crate::tally::Ended;
 use crate::watching::Watch;
 use gmp_core::Core;
@@ -16,10 +16,10 @@ const ACTS: u32 = 100_000;
 /// A run that isn't cut at each of its entries is cut at one of so many.
 const EVERY: usize = 100;
 
-/// A core at its opening.
-fn opened(alloc: Global, run: u64) -> Result<Core<()>, RunError> {
+/// The core of this seed, at its opening.
+fn opened(alloc: Global, seed: u64) -> Result<Core<()>, RunError> {
     let bodies = vec![in alloc; (); BODIES as usize]?;
-    match Core::open(alloc, run, LIMITS, &CAPACITIES, bodies) {
+    match Core::open_fair(alloc, seed, LIMITS, &CAPACITIES, bodies, is_fair(seed)) {
         Ok(core) => Ok(core),
         Err(refused) => {
             let (why, _bodies) = refused.open();
@@ -31,7 +31,7 @@ fn opened(alloc: Global, run: u64) -> Result<Core<()>, RunError> {
 /// Makes drawn acts; where one falls short, with how many acts were made.
 fn act_all(core: &mut Core<()>, seed: u64) -> Result<(), (u32, RunError)> {
     let mut draw = Draw::new(seed, PROCS);
-    let mut watch = Watch::new();
+    let mut watch = Watch::new(is_fair(seed));
     for acts in 0..ACTS {
         let m = draw.machine();
         let choice = draw.choice();

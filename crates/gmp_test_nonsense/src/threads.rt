@@ -3,11 +3,11 @@
 use crate::drawing::Draw;
 use crate::error::RunError;
 use crate::judging::replay;
-use crate::limits::{BODIES, CAPACITIES, LIMITS};
+use crate::limits::{BODIES, CAPACITIES, LIMITS, is_fair};
 use crate::tally::Ended;
 use gmp_base::{Ask, Body, MNo, Woke};
 use gmp_driver::Act;
-use gmp_run::{Clock, Gate, Report, run};
+use gmp_run::{Clock, Gate, Report, run_fair};
 use gmp_seq::Limits;
 use gmp_worker::{Boxed, audit};
 use std::alloc::Global;
@@ -102,7 +102,7 @@ pub fn threaded<R: Threads + Wait + Sync>(
             return Err(RunError::OutOfMemory);
         }
     }
-    match run(
+    match run_fair(
         rt,
         alloc,
         seed,
@@ -112,6 +112,7 @@ pub fn threaded<R: Threads + Wait + Sync>(
         &Last,
         &Yields,
         seed,
+        is_fair(seed),
     ) {
         Ok(report) => judged(alloc, limits, &report),
         Err(unrun) => Err(RunError::NotBegun(unrun.why)),

@@ -12,11 +12,18 @@ use gmp_seq::{Call, Entry, Reply};
 const STORED: u8 = 15;
 
 /// How many acts a machine makes at most between this entry of its own and its next call. Steals that lose their race aren't counted.
-fn acts_before_call(entry: &Entry) -> u8 {
+fn acts_before_call(entry: &Entry, is_fair: bool) -> u8 {
     match (&entry.call, entry.reply) {
-        // A steal from each other queue, the last with a ticket to claim. Then for each ticket to store a steal and a push.
+        // A steal from each other queue, the last with a ticket to claim. Then for each ticket to store a steal and a push: a fair machine
+        // has none.
+        (Call::Spin, Reply::Answer(true)) if is_fair => PROCS - 1,
         (Call::Spin, Reply::Answer(true)) => PROCS - 1 + 2 * STORED,
+        // A pop, where a queue is drained.
+        (Call::Put(_), _) if is_fair => 1,
         (Call::Put(_), _) => 2 * (STORED - 1),
+        // A look aside at a queue, or at the shelf, and then a pop.
+        (Call::Keep, Reply::Answer(true)) if is_fair => 2,
+        (Call::Take, Reply::Nothing) if is_fair => 1,
         // A steal from each queue.
         (Call::Declare | Call::Bare, _) => PROCS,
         // A reading of the clock.
@@ -28,16 +35,18 @@ fn acts_before_call(entry: &Entry) -> u8 {
     }
 }
 
-/// What is known of the machines of a run: how many acts each may still make before its next call.
+/// What is known of the machines of a run: whether they are fair, and how many acts each may still make before its next call.
 #[derive(Drop)]
 pub struct Watch {
+    is_fair: bool,
     left: [u8; MACHINES],
 }
 
 impl Watch {
     /// Each machine's first act is a call.
-    pub fn new() -> Self {
+    pub fn new(is_fair: bool) -> Self {
         Watch {
+            is_fair,
             left: [0; MACHINES],
         }
     }
@@ -67,7 +76,7 @@ impl Watch {
     fn called(&mut self, m: MNo, wants: Want, entry: &Entry) -> Result<(), RunError> {
         match self.left.get_mut(m.0 as usize) {
             Some(left) if entry.m == m && wants == Want::Nothing => {
-                *left = acts_before_call(entry);
+                *left = acts_before_call(entry, self.is_fair);
                 Ok(())
             }
             _ => Err(RunError::OtherEntries(m.0)),

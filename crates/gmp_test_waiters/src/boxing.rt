@@ -18,7 +18,7 @@ macro_rules! ran {
         let bodies = crate::boxing::boxed!($alloc, script.bodies);
         let (capacities, limits, random) =
             (script.capacities, $settings.limits(), $settings.random);
-        let ran = gmp_run::run(
+        let ran = gmp_run::run_fair(
             $rt,
             $alloc,
             0,
@@ -28,6 +28,7 @@ macro_rules! ran {
             &crate::waiting::Stopped,
             $gate,
             random,
+            $settings.fair,
         );
         let Ok(report) = ran else {
             return Err(crate::wrong::Wrong::NotBegun);

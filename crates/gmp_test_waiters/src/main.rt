@@ -1,6 +1,6 @@
 //! Plays files of rows, and says of each whether all went well, or which row fell short and how: that machines in threads run at the same
-//! time, that one which minds a deadline hears of work, that machines left out aren't missed, that local queues keep what is put and give each
-//! ticket out once, and what `gmp run` writes, also where its input or its output fails.
+//! time, that one which minds a deadline hears of work, that machines left out aren't missed, that fair ones pass nobody over, that local
+//! queues keep what is put and give each ticket out once, and what `gmp run` writes, also where its input or its output fails.
 //!
 //! Each argument names a file (docs/HACKING.md). Its rows are parted by empty lines, and those whose lines begin with `#` say what the lines
 //! of the others are. The gate compares what is printed with `stdout`, which doesn't depend on how the machines go.
@@ -12,6 +12,7 @@
 mod audits;
 mod boxing;
 mod failing;
+mod fair;
 mod left_out;
 mod ordered;
 mod queues;
@@ -52,6 +53,7 @@ fn tried<R: Threads + Wait + Clock + Sync>(
         "failing" => failing::tried(rt, alloc, row),
         "left_out" => left_out::tried(rt, alloc, row),
         "ordered" => ordered::tried(rt, alloc, row),
+        "fair" => fair::tried(rt, alloc, row),
         _ => Err(Wrong::Unreadable),
     }
 }

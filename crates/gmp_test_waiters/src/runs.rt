@@ -5,7 +5,7 @@
 use crate::boxing::ran;
 use crate::row::Row;
 use crate::script::passes;
-use crate::waiting::{Stopped, TURNS};
+use crate::waiting::{Stopped, TURNS, bit};
 use crate::wrong::Wrong;
 use crossbeam_utils::Backoff;
 use gmp_base::MNo;
@@ -52,10 +52,6 @@ impl Together {
     }
 }
 
-fn bit(m: u8) -> u64 {
-    1u64.wrapping_shl(u32::from(m))
-}
-
 impl Gate for Together {
     fn before(&self, m: MNo, act: &Act) {
         let bit = bit(m.0);
@@ -69,7 +65,7 @@ impl Gate for Together {
 }
 
 /// All machines were started, and each made a call.
-fn are_all_in(report: &Report<Boxed>, machines: u8) -> Result<(), Wrong> {
+pub fn are_all_in(report: &Report<Boxed>, machines: u8) -> Result<(), Wrong> {
     if report.started != machines {
         return Err(Wrong::Number("machines that were started", u64::from(report.started)));
     }

@@ -1,4 +1,4 @@
-//! Flags that bodies and gates set and wait for, and a clock that stands still.
+//! Flags that bodies and gates set and wait for, bits of machines, and a clock that stands still.
 
 use crossbeam_utils::Backoff;
 use gmp_run::Clock;
@@ -58,6 +58,11 @@ impl Seen {
             self.set(pair);
         }
     }
+}
+
+/// The bit of this machine.
+pub fn bit(m: u8) -> u64 {
+    1u64.wrapping_shl(u32::from(m))
 }
 
 /// The flag that this letter names.

@@ -17,11 +17,13 @@ pub fn settings(alloc: Global, line: &str, out: &mut Vec<u8>) -> Result<(), Ende
         }
         Task::Run => {
             let segments = s.segments.map(|segments| (segments.entries, segments.room));
-            format!(in alloc; "{segments:?} {:?}", said.folder)?
+            format!(in alloc; "{segments:?} {:?} {}", said.folder, s.fair)?
         }
         _ => format!(in alloc;
             "{:?}",
-            (s.procs, s.machines, s.channels, s.entries, s.word, s.acts)
+            (
+                s.procs, s.machines, s.channels, s.entries, s.word, s.acts, s.fair
+            )
         )?,
     };
     Ok(put_line(out, &[text.as_str()])?)

@@ -1,7 +1,7 @@
 //! The gate of a scene and its clock in one (`Stage`). What the gate does is a list of rules (`Rule`).
 
 use crate::row::number;
-use crate::waiting::{Seen, flag_of};
+use crate::waiting::{Seen, bit, flag_of};
 use crate::wrong::Wrong;
 use crossbeam_utils::sync::Parker;
 use gmp_base::MNo;
@@ -172,7 +172,7 @@ impl<'a, R> Stage<'a, R> {
 
     /// Notes whether the machine is at work.
     fn note(&self, m: MNo, act: &Act) {
-        let bit = 1u64.wrapping_shl(u32::from(m.0));
+        let bit = bit(m.0);
         if Kind::Woken.has(act) || Kind::Mind.has(act) {
             self.works.fetch_and(!bit, Ordering::SeqCst);
         } else {

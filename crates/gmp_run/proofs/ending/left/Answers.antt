@@ -1,4 +1,4 @@
-use Rattle.std.proofs.Common.{ap, refl, sym, ◌∙◌, ◌++◌, List}
+use Rattle.std.proofs.Common.{ap, refl, sym, ◌++◌, List}
 use Rattle.std.proofs.lemmas.Bool.{false≢true}
 use Rattle.gmp_seq.specs.declared.call.Entry.{Entry}
 use Rattle.gmp_run.proofs.Desks.{all_in_first, none_of_length}

@@ -20,8 +20,8 @@ module _ (g : Over) (c : goal.After-drop-script-2 g) where
 pub returns-clause-written : goal.returns-clause-written
 returns-clause-written g c =
     let are : option_map (λ s. s.now) c.lent-against.result ≡ (if c.args.settings.now.scripted then Some c.args.script.bodies.items else None) = search rules in
-    let held = of_script_where c.args.settings.now.scripted c.args.script.capacities.items c.args.script.bodies.items c.lent-against.result c.told.result.said c.run-ran.result are (search rules) in
-    wrote c.args.settings.now c.args.script.capacities.items _ _ c.told.result.said c.run-ran.result (counted g c) (search rules) (search rules) c.told.ensures.unrun (search rules) held
+    let held = of_script_where c.args.settings.now.scripted c.args.script.capacities.items c.args.script.bodies.items c.lent-against.result c.told.result.said c.run_fair-ran.result are (search rules) in
+    wrote c.args.settings.now c.args.script.capacities.items _ _ c.told.result.said c.run_fair-ran.result (counted g c) (search rules) (search rules) c.told.ensures.unrun (search rules) held
     c.told.result.status _ _ (search rules)
 
 pub told-requires : goal.told-requires
@@ -32,16 +32,16 @@ told-requires g c =
 pub returns-clause-audit : goal.returns-clause-audit
 returns-clause-audit g c =
     let are : option_map (λ s. s.now) c.lent-against.result ≡ (if c.args.settings.now.scripted then Some c.args.script.bodies.items else None) = search rules in
-    none_where c.args.settings.now c.args.script.capacities.items _ c.args.script.bodies.items c.lent-against.result c.told.result.said c.run-ran.result (counted g c) are (search rules) (search rules) c.told.ensures.unrun (search rules)
+    none_where c.args.settings.now c.args.script.capacities.items _ c.args.script.bodies.items c.lent-against.result c.told.result.said c.run_fair-ran.result (counted g c) are (search rules) (search rules) c.told.ensures.unrun (search rules)
 
 pub returns-clause-limits : goal.returns-clause-limits
 returns-clause-limits g c =
-    out c.args.settings.now c.args.script.capacities.items _ _ c.told.result.said c.run-ran.result (counted g c) (search rules) (search rules) c.told.ensures.unrun
+    out c.args.settings.now c.args.script.capacities.items _ _ c.told.result.said c.run_fair-ran.result (counted g c) (search rules) (search rules) c.told.ensures.unrun
     c.told.ensures.limits
 
 pub returns-clause-failed : goal.returns-clause-failed
 returns-clause-failed g c =
-    tried_last c.args.settings.now c.args.script.capacities.items _ _ c.told.result.said c.run-ran.result (counted g c) (search rules) (search rules) c.told.ensures.unrun
+    tried_last c.args.settings.now c.args.script.capacities.items _ _ c.told.result.said c.run_fair-ran.result (counted g c) (search rules) (search rules) c.told.ensures.unrun
 
 pub loop-body-preserved : goal.loop-body-preserved
 loop-body-preserved g c = grind (arith, common_steps)

@@ -29,34 +29,34 @@ module _ (g : Over) (c : goal.After-drop-script-2 g) where
   -- this is what the run came to, under these limits and with these capacities
   abbrev RunsTo : Limits → List ℕ → Type 0
   RunsTo limits capacities =
-      IfOk c.run_into-ran.result.0
+      IfOk c.run_into_fair-ran.result.0
       (λ r. IsPiecesReport (takes g.O.Write.contents (λ s. s.0)) (refuses g.O.Write.contents (λ s. s.0)) limits capacities (length c.loop-body.boxed.items) (record { 0 = c.in-Ok-open.parts }) r
-      c.run_into-ran.result.1)
+      c.run_into_fair-ran.result.1)
 
   came_to : RunsTo (limits_in c.args.segments c.args.settings.now) c.args.script.capacities.items
   came_to =
       subst (λ (limits : Limits). RunsTo limits c.args.script.capacities.items) c.limits_in-limits.ensures
-      (subst (RunsTo c.limits_in-limits.result) c.deref-3.ensures.value c.run_into-ran.ensures.report)
+      (subst (RunsTo c.limits_in-limits.result) c.deref-3.ensures.value c.run_into_fair-ran.ensures.report)
 
 pub returns-clause-written : goal.returns-clause-written
 returns-clause-written g c = λ nothing.
     rw c.into_inner.ensures
     (wrote_run g.O.Write.contents (λ s. s.0) (limits_in c.args.segments c.args.settings.now) (length c.args.script.bodies.items) c.args.script.capacities.items c.args.outlet
-    (within g c) (record { 0 = c.in-Ok-open.parts }) c.run_into-ran.result.1 (first g c)
-    c.told_in_parts-ended.result.said c.told_in_parts-ended.result.status _ c.told_in_parts-ended.new.pieces.0 _ _ c.run_into-ran.result.0 (counted g c)
+    (within g c) (record { 0 = c.in-Ok-open.parts }) c.run_into_fair-ran.result.1 (first g c)
+    c.told_in_parts-ended.result.said c.told_in_parts-ended.result.status _ c.told_in_parts-ended.new.pieces.0 _ _ c.run_into_fair-ran.result.0 (counted g c)
     (came_to g c)
     (search rules) c.told_in_parts-ended.ensures.unrun c.told_in_parts-ended.ensures.told nothing)
 
 pub returns-clause-limits : goal.returns-clause-limits
 returns-clause-limits g c = λ bad are.
-    begun_within (limits_in c.args.segments c.args.settings.now) c.args.script.capacities.items _ _ c.told_in_parts-ended.result.said c.run_into-ran.result.0 (counted g c) are
+    begun_within (limits_in c.args.segments c.args.settings.now) c.args.script.capacities.items _ _ c.told_in_parts-ended.result.said c.run_into_fair-ran.result.0 (counted g c) are
     (search rules) c.told_in_parts-ended.ensures.unrun c.told_in_parts-ended.ensures.kinds bad
 
 pub returns-clause-audit : goal.returns-clause-audit
 returns-clause-audit g c = λ none.
     is_run g.O.Write.contents (λ s. s.0) (limits_in c.args.segments c.args.settings.now) (length c.args.script.bodies.items) c.args.script.capacities.items c.args.outlet
-    (within g c) (record { 0 = c.in-Ok-open.parts }) c.run_into-ran.result.1 (first g c) c.told_in_parts-ended.new.pieces.0
-    _ c.told_in_parts-ended.result.said c.run_into-ran.result.0 (counted g c) (came_to g c)
+    (within g c) (record { 0 = c.in-Ok-open.parts }) c.run_into_fair-ran.result.1 (first g c) c.told_in_parts-ended.new.pieces.0
+    _ c.told_in_parts-ended.result.said c.run_into_fair-ran.result.0 (counted g c) (came_to g c)
     (search rules) c.told_in_parts-ended.ensures.unrun c.told_in_parts-ended.ensures.no_run none
 
 pub loop-body-preserved : goal.loop-body-preserved

@@ -12,10 +12,10 @@ pub made-requires : goal.made-requires
 made-requires g c =
     let takes = g.S.Sink.takes in
     let refuses = g.S.Sink.refuses in
-    let mid = c.run_into-ran.result.1 in
+    let mid = c.run_into_fair-ran.result.1 in
     let bodies = length c.args.self.bodies.items in
     let ran : IsPiecesReport takes refuses c.limits.result c.as_slice.result.now bodies c.args.sink c.in-Ok.report mid =
-    subst (λ ran. IfOk ran (λ r. IsPiecesReport takes refuses c.limits.result c.as_slice.result.now bodies c.args.sink r mid)) c.in-Ok.is c.run_into-ran.ensures.report in
+    subst (λ ran. IfOk ran (λ r. IsPiecesReport takes refuses c.limits.result c.as_slice.result.now bodies c.args.sink r mid)) c.in-Ok.is c.run_into_fair-ran.ensures.report in
     record {
       few = subst (λ (logs : List PassLog). all_calls logs < 2 ^ 64) (sym c.deref.ensures.value) (few_calls takes refuses c.limits.result c.as_slice.result.now bodies c.args.sink c.in-Ok.report mid ran);
     }
@@ -25,11 +25,11 @@ pub returns-clause-ended : goal.returns-clause-ended
 returns-clause-ended g c =
     let takes = g.S.Sink.takes in
     let refuses = g.S.Sink.refuses in
-    let mid = c.run_into-ran.result.1 in
+    let mid = c.run_into_fair-ran.result.1 in
     let sink = c.hand_rest.new.sink in
     let bodies = length c.args.self.bodies.items in
     let ran : IsPiecesReport takes refuses c.limits.result c.as_slice.result.now bodies c.args.sink c.in-Ok.report mid =
-    subst (λ ran. IfOk ran (λ r. IsPiecesReport takes refuses c.limits.result c.as_slice.result.now bodies c.args.sink r mid)) c.in-Ok.is c.run_into-ran.ensures.report in
+    subst (λ ran. IfOk ran (λ r. IsPiecesReport takes refuses c.limits.result c.as_slice.result.now bodies c.args.sink r mid)) c.in-Ok.is c.run_into_fair-ran.ensures.report in
     let made : c.made.result ≡ all_calls c.in-Ok.report.logs.items = c.made.ensures ∙ ap all_calls c.deref.ensures.value in
     let took : TakesLeft takes mid c.in-Ok.report.history.list sink = search (rules, tests) in
     let ended : Ended = record { outcome = c.in-Some.outcome; entries = c.made.result; lost = c.first.result } in
@@ -42,10 +42,10 @@ pub returns-in_default-clause-stopped : goal.returns-in_default-clause-stopped
 returns-in_default-clause-stopped g c is =
     let takes = g.S.Sink.takes in
     let refuses = g.S.Sink.refuses in
-    let mid = c.run_into-ran.result.1 in
+    let mid = c.run_into_fair-ran.result.1 in
     let bodies = length c.args.self.bodies.items in
     let ran : IsPiecesReport takes refuses c.limits.result c.as_slice.result.now bodies c.args.sink c.in-Ok.report mid =
-    subst (λ ran. IfOk ran (λ r. IsPiecesReport takes refuses c.limits.result c.as_slice.result.now bodies c.args.sink r mid)) c.in-Ok.is c.run_into-ran.ensures.report in
+    subst (λ ran. IfOk ran (λ r. IsPiecesReport takes refuses c.limits.result c.as_slice.result.now bodies c.args.sink r mid)) c.in-Ok.is c.run_into_fair-ran.ensures.report in
     let none : c.in-Ok.report.outcome ≡ None = search (rules, tests) in
     let all = stopped_on_the_way takes refuses c.limits.result c.as_slice.result.now bodies c.args.sink c.in-Ok.report mid ran none in
     subst (λ (limits : Limits). StopsPieces takes refuses limits c.args.self.capacities.items bodies c.args.sink mid) c.limits.ensures
@@ -56,11 +56,11 @@ pub returns-then-is_err-clause-stopped : goal.returns-then-is_err-clause-stopped
 returns-then-is_err-clause-stopped g c is =
     let takes = g.S.Sink.takes in
     let refuses = g.S.Sink.refuses in
-    let mid = c.run_into-ran.result.1 in
+    let mid = c.run_into_fair-ran.result.1 in
     let sink = c.hand_rest.new.sink in
     let bodies = length c.args.self.bodies.items in
     let ran : IsPiecesReport takes refuses c.limits.result c.as_slice.result.now bodies c.args.sink c.in-Ok.report mid =
-    subst (λ ran. IfOk ran (λ r. IsPiecesReport takes refuses c.limits.result c.as_slice.result.now bodies c.args.sink r mid)) c.in-Ok.is c.run_into-ran.ensures.report in
+    subst (λ ran. IfOk ran (λ r. IsPiecesReport takes refuses c.limits.result c.as_slice.result.now bodies c.args.sink r mid)) c.in-Ok.is c.run_into_fair-ran.ensures.report in
     let refused : refuses mid c.in-Ok.report.history.list sink = search (rules, tests) in
     let some : c.in-Ok.report.history.list ≢ [] = search (rules, tests) in
     let all = stopped_at_last takes refuses c.limits.result c.as_slice.result.now bodies c.args.sink c.in-Ok.report mid ran sink c.in-Some.outcome c.in-Some.is refused some in
