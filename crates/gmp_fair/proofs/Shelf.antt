@@ -31,7 +31,8 @@ use Rattle.gmp_acts.specs.declared.made.Made.{Made}
 use Rattle.gmp_acts.specs.Acts.{Acts, Answers, DoesAct, MakesCall}
 use Rattle.gmp_acts.specs.Hands.{PlainMachine}
 use Rattle.gmp_acts.specs.System.{BookRun, System, machine_at, no_machine}
-use Rattle.gmp_fair.specs.Fair.{InTurn, IsBehind, IsWithin, Stands, Lists, WaitsOnShelf, claims_of, is_shelved_at, times}
+use Rattle.gmp_table.specs.Kept.{passes_at, times}
+use Rattle.gmp_fair.specs.Fair.{InTurn, IsBehind, IsWithin, Stands, Lists, WaitsOnShelf, claims_of}
 use Rattle.gmp_fair.proofs.Lines.{Nearer, is_number, nearer, number_self, stands_counts}
 use Rattle.gmp_fair.proofs.Shapes.{shape}
 use Rattle.gmp_fair.proofs.Weights.{Begins, is_at, weight}
@@ -57,23 +58,23 @@ shelf_begins procs None w f = absurd (false≢true f)
 
 -- Who is on the shelf
 
-shelved_one : (t : Table) (r : Readiness) (a : Woke) → IsReady t r Shelf a → ◌≡◌ {A = ℕ} (if is_shelved_at t.goroutines r.g.0 then 1 else 0) 1
+shelved_one : (t : Table) (r : Readiness) (a : Woke) → IsReady t r Shelf a → ◌≡◌ {A = ℕ} (if passes_at is_shelved t.goroutines r.g.0 then 1 else 0) 1
 shelved_one t r a ready = ap (λ (o : Option Goroutine). if option_map_or (λ (x : Goroutine). is_shelved x.status) o false then 1 else 0) ready
 
-taken_none : (old new : Table) (r : Readiness) (a : Woke) → IsReady old r Shelf a → new ≡ set_status old r.g (status.Ready Out a) → ◌≡◌ {A = ℕ} (if is_shelved_at new.goroutines r.g.0 then 1 else 0) 0
+taken_none : (old new : Table) (r : Readiness) (a : Woke) → IsReady old r Shelf a → new ≡ set_status old r.g (status.Ready Out a) → ◌≡◌ {A = ℕ} (if passes_at is_shelved new.goroutines r.g.0 then 1 else 0) 0
 taken_none old new r a ready is =
     let row : slice_get new.goroutines r.g.0 ≡ Some (record { status = status.Ready Out a; epoch = epoch_at old r.g }) =
     ap (λ (t : Table). slice_get t.goroutines r.g.0) is ∙ slice_get-set_same old.goroutines r.g.0 _ _ ready in
     ap (λ (o : Option Goroutine). if option_map_or (λ (x : Goroutine). is_shelved x.status) o false then 1 else 0) row
 
-some_shelved : (rows : List Goroutine) (i : ℕ) → list_any (λ (x : Goroutine). is_shelved x.status) rows ≡ false → ◌≡◌ {A = ℕ} (if is_shelved_at rows i then 1 else 0) 0
+some_shelved : (rows : List Goroutine) (i : ℕ) → list_any (λ (x : Goroutine). is_shelved x.status) rows ≡ false → ◌≡◌ {A = ℕ} (if passes_at is_shelved rows i then 1 else 0) 0
 some_shelved rows i none = by (slice_get rows i) refl where
   by : (o : Option Goroutine) → slice_get rows i ≡ o → ◌≡◌ {A = ℕ} (if option_map_or (λ (x : Goroutine). is_shelved x.status) o false then 1 else 0) 0
   by None at = refl
   by (Some x) at = ap (λ (b : Bool). if b then 1 else 0) (fails_at (λ (y : Goroutine). is_shelved y.status) rows i x none at)
 
-at_most_one : (rows : List Goroutine) (i : ℕ) → (if is_shelved_at rows i then 1 else 0) ≤ 1
-at_most_one rows i = by (is_shelved_at rows i) where
+at_most_one : (rows : List Goroutine) (i : ℕ) → (if passes_at is_shelved rows i then 1 else 0) ≤ 1
+at_most_one rows i = by (passes_at is_shelved rows i) where
   by : (b : Bool) → (if b then 1 else 0) ≤ 1
   by true = omega arith
   by false = omega arith
@@ -84,8 +85,8 @@ module _ (r : GNo) (k : System) (m : MNo) (inside : m.0 < length k.machines) (li
   At k' = (j ≡ suc i) ⊎ (of None 32 k.book.limits.procs shelf_done (shelf_few k.book.limits.procs) (shelf_begins k.book.limits.procs) (machine_at k' m) ≡ 32)
 
   -- who left was in the line
-  one_less : (k' : System) (t : ℕ) → Lists line k → Lists next k' → ◌≡◌ {A = ℕ} (if is_shelved_at k.book.state.table.goroutines t then 1 else 0) 1
-      → ◌≡◌ {A = ℕ} (if is_shelved_at k'.book.state.table.goroutines t then 1 else 0) 0 → j ≡ suc i
+  one_less : (k' : System) (t : ℕ) → Lists line k → Lists next k' → ◌≡◌ {A = ℕ} (if passes_at is_shelved k.book.state.table.goroutines t then 1 else 0) 1
+      → ◌≡◌ {A = ℕ} (if passes_at is_shelved k'.book.state.table.goroutines t then 1 else 0) 0 → j ≡ suc i
   one_less k' t lists lists' was now = elim near [
     | inl same ↦
         let a = lists.each t in let b = lists'.each t in

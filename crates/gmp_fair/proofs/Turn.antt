@@ -6,10 +6,8 @@ use Rattle.gmp_seq.specs.declared.call.Call.{Call}
 use Rattle.gmp_seq.specs.declared.call.Call.TheVariants as call
 use Rattle.gmp_seq.specs.declared.call.Reply.{Reply}
 use Rattle.gmp_seq.specs.declared.call.Reply.TheVariants as reply
-use Rattle.gmp_seq.specs.declared.status.Goroutine.{Goroutine}
-use Rattle.gmp_seq.specs.Table.{Table, is_shelved}
-use Rattle.gmp_table.specs.Kept.{IsListing}
-use Rattle.gmp_fair.specs.Fair.{InTurn, IsShelf}
+use Rattle.gmp_seq.specs.Table.{Table}
+use Rattle.gmp_fair.specs.Fair.{InTurn}
 use Rattle.gmp_goroutines.specs.Shelf.{Shelves}
 
 as_was : (old new : List GNo) → new ≡ old → InTurn old new
@@ -24,6 +22,3 @@ in_turn (call.Leave number) (reply.Shelved r) t now old new h = inl (r.g ∷ [],
 in_turn (call.Close (Some c)) (reply.Closed n) t now old new h = inl (h.0, h.2)
 in_turn (call.Tick moment) answer t now old new h = inl (h.0, h.2)
 in_turn _ answer t now old new h = as_was old new h
-
-pub lists : (rows : List Goroutine) (line : List GNo) → IsListing is_shelved rows line → IsShelf line rows
-lists rows line h = record { all = h.all; each = h.each }

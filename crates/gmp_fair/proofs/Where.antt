@@ -14,7 +14,8 @@ use Rattle.gmp_acts.specs.Hands.{PlainMachine}
 use Rattle.gmp_acts.specs.Sound.{IsSound}
 use Rattle.gmp_acts.specs.System.{System, in_hand, in_queue, is_same, machine_at, no_machine, on_shelf, queue_at}
 use Rattle.gmp_acts.proofs.Whole.{headline_of}
-use Rattle.gmp_fair.specs.Fair.{IsBehind, Lists, Stands, is_shelved_at, times}
+use Rattle.gmp_table.specs.Kept.{passes_at, times}
+use Rattle.gmp_fair.specs.Fair.{IsBehind, Lists, Stands}
 use Rattle.gmp_fair.specs.Waits.{IsWaiting}
 
 -- Rows of a list, and their sum
@@ -83,9 +84,9 @@ module _ (r : Readiness) (t : Table) where
   abbrev row_is : (Goroutine → Bool) → Bool
   row_is p = option_map_or p (slice_get t.goroutines r.g.0) false
 
-  shelved_row : on_shelf r t ≡ 1 → is_shelved_at t.goroutines r.g.0 ≡ true
+  shelved_row : on_shelf r t ≡ 1 → passes_at is_shelved t.goroutines r.g.0 ≡ true
   shelved_row h = by (slice_get t.goroutines r.g.0) refl where
-    by : (o : Option Goroutine) → slice_get t.goroutines r.g.0 ≡ o → is_shelved_at t.goroutines r.g.0 ≡ true
+    by : (o : Option Goroutine) → slice_get t.goroutines r.g.0 ≡ o → passes_at is_shelved t.goroutines r.g.0 ≡ true
     by None at = absurd (let none : on_shelf r t ≡ 0 = ap (λ (o : Option Goroutine). if option_map_or (λ (x : Goroutine). is_shelved x.status && (x.epoch == r.epoch)) o false then 1 else 0) at in omega (arith, none, h))
     by (Some x) at = ap (λ (o : Option Goroutine). option_map_or (λ (y : Goroutine). is_shelved y.status) o false) at ∙ by_test (is_shelved x.status) refl where
       by_test : (b : Bool) → is_shelved x.status ≡ b → is_shelved x.status ≡ true

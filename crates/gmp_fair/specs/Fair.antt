@@ -1,6 +1,5 @@
 -- Bounded bypass: how many tickets one machine may claim while another ticket waits, where all machines are fair.
-use Rattle.std.specs.Prelude.{◌≡◌, ◌⊎◌, ℕ, ◌==◌, ◌&&◌, ◌<◌, ◌≤◌, Bool, true, false, if◌then◌else◌, List, [], ◌∷◌, ◌++◌, Option, None, Some, count_by, is_some, length, slice_get}
-use Rattle.std.specs.Option.{option_map_or}
+use Rattle.std.specs.Prelude.{◌≡◌, ◌⊎◌, ℕ, ◌==◌, ◌&&◌, ◌<◌, ◌≤◌, Bool, true, false, List, [], ◌∷◌, ◌++◌, Option, None, Some, count_by, is_some, length, slice_get}
 use Rattle.gmp_base.specs.declared.number.GNo.{GNo}
 use Rattle.gmp_base.specs.declared.number.MNo.{MNo}
 use Rattle.gmp_base.specs.declared.number.PNo.{PNo}
@@ -8,8 +7,8 @@ use Rattle.gmp_base.specs.declared.number.Readiness.{Readiness}
 use Rattle.gmp_seq.specs.declared.call.Call.{Call}
 use Rattle.gmp_seq.specs.declared.call.Call.TheVariants as call
 use Rattle.gmp_seq.specs.declared.call.Entry.{Entry}
-use Rattle.gmp_seq.specs.declared.status.Goroutine.{Goroutine}
 use Rattle.gmp_seq.specs.Table.{is_shelved}
+use Rattle.gmp_table.specs.Kept.{IsListing}
 use Rattle.gmp_driver.specs.declared.place.Aside.{Aside}
 use Rattle.gmp_driver.specs.declared.place.Aside.TheVariants as aside
 use Rattle.gmp_driver.specs.declared.place.Place.{Place}
@@ -47,21 +46,9 @@ Stands x line = (j : ℕ) × IsBehind j x line
 abbrev pub InTurn : {A : Type 0} → List A → List A → Type 0
 InTurn {A = A} old new = ((came : List A) × (new ≡ old ++ came)) ⊎ ((first : A) × (old ≡ first ∷ new))
 
--- how often a goroutine stands in the line
-abbrev pub times : ℕ → List GNo → ℕ
-times i line = count_by (λ (x : GNo). x.0 == i) line
-
--- is the goroutine of this number on the shelf
-abbrev pub is_shelved_at : List Goroutine → ℕ → Bool
-is_shelved_at rows i = option_map_or (λ (x : Goroutine). is_shelved x.status) (slice_get rows i) false
-
 -- the line has each goroutine on the shelf once, and no other
-pub record IsShelf (line : List GNo) (rows : List Goroutine) : Type 0 where
-  pub all : length line ≡ count_by (λ (x : Goroutine). is_shelved x.status) rows
-  pub each : (i : ℕ) → times i line ≡ (if is_shelved_at rows i then 1 else 0)
-
 abbrev pub Lists : List GNo → System → Type 0
-Lists line k = IsShelf line k.book.state.table.goroutines
+Lists line k = IsListing is_shelved k.book.state.table.goroutines line
 
 -- Waits
 

@@ -7,17 +7,15 @@ ghost use Rattle.gmp_base.specs.declared.number.Readiness.{Readiness};
 ghost use Rattle.gmp_seq.specs.declared.call.Limits.{Limits};
 ghost use Rattle.gmp_seq.specs.declared.call.Call.{Call};
 ghost use Rattle.gmp_seq.specs.declared.call.Reply.{Reply};
-ghost use Rattle.gmp_seq.specs.declared.status.Goroutine.{Goroutine};
 ghost use Rattle.gmp_seq.specs.Fits.{AreLimits};
-ghost use Rattle.gmp_seq.specs.Table.{Table, is_shelved};
-ghost use Rattle.gmp_table.specs.Kept.{IsListing};
+ghost use Rattle.gmp_seq.specs.Table.{Table};
 ghost use Rattle.gmp_goroutines.specs.Shelf.{Shelves};
 ghost use Rattle.gmp_acts.specs.declared.choice.Choice.{Choice};
 ghost use Rattle.gmp_acts.specs.Acts.{Acts, ActsAll};
 ghost use Rattle.gmp_acts.specs.Headline.{opening_system};
 ghost use Rattle.gmp_acts.specs.Sound.{IsSound};
 ghost use Rattle.gmp_acts.specs.System.{System, machine_at, queue_at};
-ghost use Rattle.gmp_fair.specs.Fair.{AllSteady, InTurn, IsBehind, IsShelf, TicksNever, WaitsAtHome, WaitsInQueue, WaitsOnShelf, claims_of};
+ghost use Rattle.gmp_fair.specs.Fair.{AllSteady, InTurn, IsBehind, TicksNever, WaitsAtHome, WaitsInQueue, WaitsOnShelf, claims_of};
 ghost use Rattle.gmp_fair.specs.Waits.{Waits};
 
 /// Fair machines at their opening are steady, and each act keeps that.
@@ -82,8 +80,7 @@ pub fn whole_wait_is_bounded()
         → Waits m r shelf k moves count end → m.0 < limits.machines → count ≤ 32 * (limits.procs + 1) * bodies }
 {}
 
-/// The book's shelf is first in, first out, and lists who is shelved: so it is a shelf as these laws take it to be.
+/// The book's shelf is first in, first out: so it is a shelf as these laws take it to be.
 pub fn shelf_is_in_turn()
-    ensures turn { (call : Call) (answer : Reply) (t now : Table) (old new : List GNo) → Shelves call answer t now old new → InTurn old new }
-    ensures lists { (rows : List Goroutine) (line : List GNo) → IsListing is_shelved rows line → IsShelf line rows }
+    ensures { (call : Call) (answer : Reply) (t now : Table) (old new : List GNo) → Shelves call answer t now old new → InTurn old new }
 {}

@@ -1,4 +1,5 @@
-//! That runs of the core by a script's bodies are runs of the scheduler by these bodies, as the small system of the script knows them.
+//! That runs of the core by a script's bodies are runs of the scheduler by these bodies, as the small system of the script knows them, and that
+//! what `gmp step` plays of a script has one end.
 //!
 //! A body's ask is taken when its machine resumes it, and its call is made by a later act of the same machine. Between the two the body
 //! stands one ask ahead of the history (`laws`).
