@@ -46,7 +46,7 @@ fn tell(rt: &HostRuntime, json: bool) -> ExitCode {
     let mut line = Line::on(rt, rt.stderr().is_terminal());
     let explained = explain(rt.alloc(), json, &mut rt.reader(), &mut line);
     let code = finish(rt, &explained.ended);
-    match print!(rt; "{}", explained.facts) {
+    match print!(rt; "{}", explained.text()) {
         Ok(()) => code,
         Err(_) => finish(rt, &Ended::output_failed()),
     }

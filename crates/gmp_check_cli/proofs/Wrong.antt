@@ -41,6 +41,10 @@ wrong_text bytes b bad said says fault only is =
     no_memory : OutOfMemory ≡ BadTrace bad → ⊥
     no_memory h = cc
 
+-- what is named is the fault
+pub fault_of : (bytes : List ℕ) (b bad : Bad) (said : Said) → said ≡ said_for b.why b → IsFault bytes b.line b.why → said ≡ BadTrace bad → IsFault bytes bad.line bad.why
+fault_of bytes b bad said says fault is = subst (λ (x : Bad). IsFault bytes x.line x.why) (told_of b.why b bad (sym says ∙ is)) fault
+
 -- of the text of a trace that is judged
 pub wrong_trace : (bytes : List ℕ) (x : Content) (wrong : Option Bad) → HasText x → IsRead bytes x → ((y : Content) → HasText y → bytes ≡ text y → x ≡ y) → IsJudged x wrong
     → IfSome wrong (IsWrong bytes)

@@ -3,6 +3,7 @@
 ghost use Rattle.std.specs.Prelude.{◌≡◌, ◌||◌, None, true, IfErr, IfOk, IfSome, IsSomeAnd};
 ghost use Rattle.gmp_trace.specs.declared.bad.Bad.{Bad};
 ghost use Rattle.gmp_trace.specs.HasText.{HasText};
+ghost use Rattle.gmp_trace.specs.Reading.{IsFault};
 ghost use Rattle.gmp_trace.specs.Text.{content};
 ghost use Rattle.gmp_parts.specs.Parts.{IsRightTrace};
 ghost use Rattle.gmp_check_cli.specs.Check.{IsJudged, IsRead, IsWrong, SaysOfTrace, said_of};
@@ -70,6 +71,7 @@ fn judge<P: Progress>(alloc: Global, bytes: &[u8], progress: &mut P) -> Result<J
 
     ensures kinds { IfErr result (λ e. is_of_trace e.said ≡ true) }
     ensures bad { IfErr result (λ e. (bad : Bad) → e.said ≡ BadTrace bad → IsWrong bytes.now bad) }
+    ensures unread { IfErr result (λ e. (bad : Bad) → e.said ≡ BadTrace bad → IsFault bytes.now bad.line bad.why) }
 {
     progress.begin(bytes.len());
     let found = match read_watched(alloc, bytes, progress) {
@@ -105,6 +107,7 @@ pub fn read_trace<R: Read, P: Progress>(
 
     ensures kinds { IfErr result (λ e. (is_of_input e.said || is_of_trace e.said) ≡ true) }
     ensures says { IfErr result (λ e. SaysOfTrace (R.remaining reader.old) e.said) }
+    ensures unread { IfErr result (λ e. (bad : Bad) → e.said ≡ BadTrace bad → IfSome (R.remaining reader.old) (λ all. IsFault all bad.line bad.why)) }
 {
     let bytes = input(alloc, reader, MAX_TRACE)?;
     judge(alloc, &bytes, progress)

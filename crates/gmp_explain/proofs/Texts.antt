@@ -1,11 +1,14 @@
 -- Lines, one after another.
-use Rattle.std.proofs.Common.{◌≡◌, ◌⊎◌, ℕ, Option, None, Some, IfSome, inl, inr, List, [], ◌∷◌, ◌++◌, sym, ap, ◌∙◌, append_assoc}
+use Rattle.std.proofs.Common.{◌≡◌, ◌⊎◌, ℕ, Option, None, Some, IfSome, Result, Ok, Err, IfOk, subst, inl, inr, List, [], ◌∷◌, ◌++◌, sym, ap, ◌∙◌, append_assoc}
 use Rattle.std.proofs.lemmas.List.{append-nil}
 use Rattle.std.specs.List.{flat_map}
 use Rattle.gmp_seq.specs.declared.call.Entry.{Entry}
 use Rattle.gmp_seq.specs.declared.call.Limits.{Limits}
 use Rattle.gmp_seq.specs.State.{State}
 use Rattle.gmp_trace.specs.declared.bad.Bad.{Bad}
+use Rattle.gmp_trace.specs.declared.bad.Why.{Why}
+use Rattle.gmp_trace.specs.declared.bad.Why.TheVariants as why
+use Rattle.gmp_trace.specs.Reading.{IsFault}
 use Rattle.gmp_check_cli.specs.Check.{said_of}
 use Rattle.gmp_words.specs.declared.said.Said.{Said}
 use Rattle.gmp_words.specs.declared.said.Said.TheVariants as said
@@ -47,6 +50,17 @@ module _ {S : Type 0} (text : S → List ℕ) where
 pub if_some : {T : Type 0} (o : Option T) {P Q : T → Type 0} → ((x : T) → P x → Q x) → IfSome o P → IfSome o Q
 if_some (Some x) f p = f x p
 if_some None f p = p
+
+pub if_ok : {T E : Type 0} (r : Result T E) {P Q : T → Type 0} → ((x : T) → P x → Q x) → IfOk r P → IfOk r Q
+if_ok (Ok x) f p = f x p
+if_ok (Err e) f p = p
+
+-- a text that is no trace's is called neither no step nor of another end
+pub no_step_fault : (bytes : List ℕ) (line : ℕ) (what : Why) → what ≡ why.Step → IsFault bytes line what → ⊥
+no_step_fault bytes line what is fault = let found = subst (IsFault bytes line) is fault in found.fault.fault
+
+pub no_end_fault : (bytes : List ℕ) (line : ℕ) (what : Why) → what ≡ why.Outcome → IsFault bytes line what → ⊥
+no_end_fault bytes line what is fault = let found = subst (IsFault bytes line) is fault in found.fault.fault
 
 -- the line that is called bad is the one that was found
 pub found_bad : (wrong : Option Bad) (x : Said) (bad : Bad) → (x ≡ said_of wrong) ⊎ (x ≡ said.OutOfMemory) → x ≡ said.BadTrace bad → wrong ≡ Some bad

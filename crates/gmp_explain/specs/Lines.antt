@@ -1,5 +1,5 @@
 -- Facts as lines.
-use Rattle.std.specs.Prelude.{◌≡◌, ℕ, zero, suc, ◌+◌, ◌==◌, nat_le, Bool, Option, None, Some, IfSome, List, [], ◌∷◌, ◌++◌, All, length, map, slice_get, take, drop, codes, if◌then◌else◌}
+use Rattle.std.specs.Prelude.{◌≡◌, ℕ, zero, suc, ◌+◌, ◌==◌, nat_le, Bool, true, false, Option, None, Some, IfSome, List, [], ◌∷◌, ◌++◌, All, length, map, slice_get, take, drop, codes, if◌then◌else◌}
 use Rattle.std.specs.List.{filter_map, flat_map}
 use Rattle.std.specs.Option.{option_map, option_map_or}
 use Rattle.gmp_base.specs.declared.number.GNo.{GNo}
@@ -7,7 +7,11 @@ use Rattle.gmp_seq.specs.declared.call.Entry.{Entry}
 use Rattle.gmp_seq.specs.declared.call.Limits.{Limits}
 use Rattle.gmp_seq.specs.declared.call.Reply.{Reply}
 use Rattle.gmp_seq.specs.State.{State}
-use Rattle.gmp_trace.specs.Text.{Content}
+use Rattle.gmp_trace.specs.declared.bad.Why.{Why}
+use Rattle.gmp_trace.specs.declared.bad.Why.TheVariants.{Step, Outcome}
+use Rattle.gmp_trace.specs.Text.{Content, end_of}
+use Rattle.gmp_words.specs.declared.said.Said.{Said}
+use Rattle.gmp_words.specs.declared.said.Said.TheVariants.{Nothing, BadTrace}
 use Rattle.gmp_check_cli.specs.Check.{IsJudged, IsRead}
 use Rattle.gmp_walk.specs.Led.{IsWalked}
 use Rattle.gmp_explain.specs.declared.fact.Fact.{Fact}
@@ -55,6 +59,16 @@ lines_of (fact.Dealers c role who) = flat_map (λ some. dealers_text c role some
 lines_of (fact.Calls who calls) = flat_map (λ some. calls_text who some ++ codes "\n") (parts 6 calls.now)
 lines_of (fact.NoStep line) = flat_map (λ some. no_step_text some ++ codes "\n") (words_up_to (length line.now) line.now)
 lines_of x = fact_text x ++ codes "\n"
+
+-- are there facts where it is said that this is wrong: of a right trace, and where an entry is no step or the end is not that of the run
+abbrev pub has_facts : Said → Bool
+has_facts Nothing = true
+has_facts (BadTrace bad) = of bad.why where
+  of : Why → Bool
+  of Step = true
+  of Outcome = true
+  of _ = false
+has_facts _ = false
 
 -- the text has the lines of one fact more
 abbrev pub AddsLines : List ℕ → Fact → List ℕ → Type 0
@@ -116,3 +130,23 @@ pub record SolvesText (bytes text : List ℕ) : Type 0 where
   pub trace : Content
   pub read : IsRead bytes trace
   pub says : SaysRiddle trace text
+
+-- told was the end to which the trace's entries lead
+pub record TellsEnd {S : Type 0} (told : S → Fact → S → Type 0) (x : Content) (old new : S) : Type 0 where
+  pub n : ℕ
+  pub last : State
+  pub walked : IsWalked x n last
+  pub tells : told old (fact.Leads (end_of last.outcome)) new
+
+-- the text is the line of that end
+pub record SaysEnd (x : Content) (text : List ℕ) : Type 0 where
+  pub n : ℕ
+  pub last : State
+  pub walked : IsWalked x n last
+  pub line : text ≡ lines_of (fact.Leads (end_of last.outcome))
+
+-- the bytes are the text of a trace of which it is so
+pub record LeadsText (bytes text : List ℕ) : Type 0 where
+  pub trace : Content
+  pub read : IsRead bytes trace
+  pub says : SaysEnd trace text

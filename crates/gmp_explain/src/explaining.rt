@@ -1,9 +1,10 @@
 //! The command `explain` as a function: it reads and checks a trace as `check` does, and tells its facts.
-ghost use Rattle.std.specs.Prelude.{◌≡◌, ◌≢◌, ◌↔◌, ◌⊎◌, [], false, true, IfOk, IfSome, None, OnOk, Some, slice_get, string_bytes};
+ghost use Rattle.std.specs.Prelude.{◌≡◌, ◌≢◌, ◌↔◌, ◌⊎◌, [], false, true, IfOk, IfSome, IsOk, None, OnOk, Some, slice_get, string_bytes};
+ghost use Rattle.std.specs.Result.{MatchResult};
 ghost use Rattle.gmp_trace.specs.Text.{content};
 ghost use Rattle.gmp_trace.specs.declared.bad.Bad.{Bad};
 ghost use Rattle.gmp_trace.specs.declared.bad.Why.TheVariants as why;
-ghost use Rattle.gmp_explain.specs.Lines.{SaysRiddle, SolvesText, TellsRiddle, TellsState, TellsText, TellsTrace};
+ghost use Rattle.gmp_explain.specs.Lines.{LeadsText, SaysEnd, SaysRiddle, SolvesText, TellsEnd, TellsRiddle, TellsState, TellsText, TellsTrace, has_facts};
 ghost use Rattle.gmp_explain.specs.Told.{TellsAllowed};
 ghost use Rattle.gmp_check_cli.specs.Check.{HasRightTrace, SaysOfTrace, said_of};
 ghost use Rattle.gmp_words.specs.Said.{is_of_check};
@@ -27,8 +28,20 @@ use std::io::Read;
 #[derive(Drop)]
 pub struct Explained {
     pub ended: Ended,
-    /// The facts, or nothing.
-    pub facts: String,
+    /// The facts, of some inputs none, or that there was no memory to tell them.
+    pub facts: Result<String, OutOfMemory>,
+}
+
+impl Explained {
+    /// What is to be written: the facts, and without memory for them nothing.
+    pub fn text(&self) -> &str
+        ensures { MatchResult self.now.facts (λ facts. result.now ≡ string_bytes facts) (λ _. result.now ≡ []) }
+    {
+        match &self.facts {
+            Ok(facts) => facts.as_str(),
+            Err(OutOfMemory) => "",
+        }
+    }
 }
 
 /// Why the entry at which the story ends is no step, if there is one.
@@ -50,6 +63,7 @@ fn tell_next<S: Sink>(
 fn tell<S: Sink>(alloc: Global, judgement: &Judgement, sink: &mut S) -> Result<(), OutOfMemory>
     ensures right { OnOk result (judgement.now.wrong ≡ None → TellsState S.told (content judgement.now.trace) sink.old sink.new) }
     ensures riddle { OnOk result ((bad : Bad) → judgement.now.wrong ≡ Some bad → bad.why ≡ why.Step → TellsRiddle S.told (content judgement.now.trace) sink.old sink.new) }
+    ensures leads { OnOk result ((bad : Bad) → judgement.now.wrong ≡ Some bad → bad.why ≡ why.Outcome → TellsEnd S.told (content judgement.now.trace) sink.old sink.new) }
 {
     let Ok(story) = story_of(alloc, judgement.trace.view(), &mut ()) else {
         return Err(OutOfMemory);
@@ -63,8 +77,7 @@ fn tell<S: Sink>(alloc: Global, judgement: &Judgement, sink: &mut S) -> Result<(
 
 /// Whether there are facts: of a right trace, and where an entry is no step or the end is not that of the run.
 fn has_facts(judgement: &Judgement) -> bool
-    ensures right { judgement.now.wrong ≡ None → result ≡ true }
-    ensures riddle { (bad : Bad) → judgement.now.wrong ≡ Some bad → bad.why ≡ why.Step → result ≡ true }
+    ensures { result ≡ has_facts (said_of judgement.now.wrong) }
 {
     match judgement.wrong {
         None => true,
@@ -77,6 +90,9 @@ fn facts(alloc: Global, json: bool, judgement: &Judgement) -> Result<String, Out
     ensures told { IfOk result (λ text. json ≡ false → judgement.now.wrong ≡ None → TellsTrace (content judgement.now.trace) (string_bytes text)) }
     ensures riddle { IfOk result (λ text. json ≡ false → (bad : Bad) → judgement.now.wrong ≡ Some bad → bad.why ≡ why.Step
         → SaysRiddle (content judgement.now.trace) (string_bytes text)) }
+    ensures leads { IfOk result (λ text. json ≡ false → (bad : Bad) → judgement.now.wrong ≡ Some bad → bad.why ≡ why.Outcome
+        → SaysEnd (content judgement.now.trace) (string_bytes text)) }
+    ensures none { IfOk result (λ text. has_facts (said_of judgement.now.wrong) ≡ false → string_bytes text ≡ []) }
 {
     if !has_facts(judgement) {
         return Ok(String::new(alloc));
@@ -95,9 +111,13 @@ fn facts(alloc: Global, json: bool, judgement: &Judgement) -> Result<String, Out
 fn explain_trace(alloc: Global, json: bool, judgement: &Judgement) -> Explained
     ensures said { (result.ended.said ≡ said_of judgement.now.wrong) ⊎ (result.ended.said ≡ said.OutOfMemory) }
     ensures status { result.ended.status ≡ 0 ↔ result.ended.said ≡ Nothing }
-    ensures told { result.ended.said ≡ Nothing → json ≡ false → TellsTrace (content judgement.now.trace) (string_bytes result.facts) }
-    ensures riddle { json ≡ false → (bad : Bad) → judgement.now.wrong ≡ Some bad → bad.why ≡ why.Step
-        → (string_bytes result.facts ≡ []) ⊎ SaysRiddle (content judgement.now.trace) (string_bytes result.facts) }
+    ensures there { result.ended.said ≡ Nothing → IsOk result.facts }
+    ensures told { IfOk result.facts (λ text. result.ended.said ≡ Nothing → json ≡ false → TellsTrace (content judgement.now.trace) (string_bytes text)) }
+    ensures riddle { IfOk result.facts (λ text. json ≡ false → (bad : Bad) → judgement.now.wrong ≡ Some bad → bad.why ≡ why.Step
+        → SaysRiddle (content judgement.now.trace) (string_bytes text)) }
+    ensures leads { IfOk result.facts (λ text. json ≡ false → (bad : Bad) → judgement.now.wrong ≡ Some bad → bad.why ≡ why.Outcome
+        → SaysEnd (content judgement.now.trace) (string_bytes text)) }
+    ensures none { IfOk result.facts (λ text. has_facts result.ended.said ≡ false → string_bytes text ≡ []) }
 {
     let facts = facts(alloc, json, judgement);
     let ended = match (judgement.wrong, &facts) {
@@ -105,16 +125,15 @@ fn explain_trace(alloc: Global, json: bool, judgement: &Judgement) -> Explained
         (None, Ok(_)) => Ended::passed(),
         (None, Err(OutOfMemory)) => Ended::out_of_memory(),
     };
-    Explained {
-        ended,
-        facts: facts.unwrap_or(String::new(alloc)),
-    }
+    Explained { ended, facts }
 }
 
 /// Reads a trace, checks it, and tells its facts, as lines or as one JSON object.
 ///
 /// It ends as `check` does, but for the output, which it doesn't write: the facts of a right trace, and those that say why a step or an end
 /// is none, are to be written behind what is said of the end. What is told of its progress ends before that.
+///
+/// Facts that are not told are missed for want of memory alone: of a right trace it ends so, and a wrong line is named all the same.
 pub fn explain<R: Read, P: Progress>(
     alloc: Global,
     json: bool,
@@ -123,11 +142,18 @@ pub fn explain<R: Read, P: Progress>(
 ) -> Explained
     ensures passed { result.ended.said ≡ Nothing → IfSome (R.remaining reader.old) HasRightTrace }
     ensures status { result.ended.status ≡ 0 ↔ result.ended.said ≡ Nothing }
+    // Of a right trace there are facts, or it is said that memory was wanting.
+    ensures there { result.ended.said ≡ Nothing → IsOk result.facts }
     // Each goroutine has its line, by number, of what it does in the state to which the entries lead, and whether it is a leak.
-    ensures told { result.ended.said ≡ Nothing → json ≡ false → IfSome (R.remaining reader.old) (λ all. TellsText all (string_bytes result.facts)) }
-    // Where an entry is no step, the replies that are called allowed are, and of some calls they are all. Without memory no fact is told.
-    ensures riddle { json ≡ false → IfSome (R.remaining reader.old) (λ all. (bad : Bad) → result.ended.said ≡ said.BadTrace bad → bad.why ≡ why.Step
-        → (string_bytes result.facts ≡ []) ⊎ SolvesText all (string_bytes result.facts)) }
+    ensures told { IfOk result.facts (λ text. result.ended.said ≡ Nothing → json ≡ false → IfSome (R.remaining reader.old) (λ all. TellsText all (string_bytes text))) }
+    // Where an entry is no step, the replies that are called allowed are, and of some calls they are all.
+    ensures riddle { IfOk result.facts (λ text. json ≡ false → IfSome (R.remaining reader.old) (λ all. (bad : Bad) → result.ended.said ≡ said.BadTrace bad → bad.why ≡ why.Step
+        → SolvesText all (string_bytes text))) }
+    // Where the end is not that of the run, the end to which the entries lead.
+    ensures leads { IfOk result.facts (λ text. json ≡ false → IfSome (R.remaining reader.old) (λ all. (bad : Bad) → result.ended.said ≡ said.BadTrace bad → bad.why ≡ why.Outcome
+        → LeadsText all (string_bytes text))) }
+    // Where anything else is said there are none.
+    ensures none { IfOk result.facts (λ text. has_facts result.ended.said ≡ false → string_bytes text ≡ []) }
 
     // What is wrong is said by one of the program's own texts.
     ensures kinds { is_of_check result.ended.said ≡ true }
@@ -139,7 +165,7 @@ pub fn explain<R: Read, P: Progress>(
         Ok(judgement) => explain_trace(alloc, json, &judgement),
         Err(ended) => Explained {
             ended,
-            facts: String::new(alloc),
+            facts: Ok(String::new(alloc)),
         },
     }
 }

@@ -192,7 +192,7 @@ fn held<R: Threads + Wait + Sync>(rt: &R, alloc: Global, output: &mut &mut [u8])
 /// What `explain` tells goes to `output`.
 fn told(alloc: Global, output: &mut &mut [u8]) -> Ended {
     let explained = explain(alloc, false, &mut TRACE.as_bytes(), &mut ());
-    match output.write_all(explained.facts.as_bytes()) {
+    match output.write_all(explained.text().as_bytes()) {
         Ok(()) => explained.ended,
         Err(_) => Ended::output_failed(),
     }

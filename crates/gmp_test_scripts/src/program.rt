@@ -72,7 +72,7 @@ pub fn checked(alloc: Global, trace: &[u8]) -> Result<Ran, AllocError> {
 /// `gmp explain` on a trace, or with `--json`.
 pub fn explained(alloc: Global, trace: &[u8], json: bool) -> Result<Ran, AllocError> {
     let explained = explain(alloc, json, &mut &trace[..], &mut ());
-    let written = explained.facts.as_bytes().to_vec(alloc)?;
+    let written = explained.text().as_bytes().to_vec(alloc)?;
     done(
         alloc,
         written,

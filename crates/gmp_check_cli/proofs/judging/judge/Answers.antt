@@ -2,8 +2,9 @@ use Rattle.std.proofs.Common.{◌≡◌, ◌∙◌, ℕ, List, Result, Ok, Err, 
 use Rattle.gmp_trace.specs.declared.bad.Bad.{Bad}
 use Rattle.gmp_trace.specs.declared.trace.Trace.{Trace}
 use Rattle.gmp_trace.specs.HasText.{HasText}
+use Rattle.gmp_trace.specs.Reading.{IsFault}
 use Rattle.gmp_trace.specs.Text.{Content, content, text}
-use Rattle.gmp_check_cli.proofs.Wrong.{wrong_text, wrong_trace}
+use Rattle.gmp_check_cli.proofs.Wrong.{fault_of, wrong_text, wrong_trace}
 use Rattle.gmp_check_cli.specs.Check.{IsJudged, IsRead, IsWrong}
 use Rattle.gmp_check_cli.specs.declared.judging.Judgement.{Judgement}
 use Rattle.gmp_words.specs.declared.ended.Ended.{Ended}
@@ -49,4 +50,23 @@ returns-clause-wrong g c =
           (of_judged c.args.bytes.now (content w.in-Ok.trace) w.of-found.result w.in-Ok.ensures.found.0 w.in-Ok.ensures.found.1 w.in-Ok.ensures.only
           w.of-found.ensures.judged)
       | in-Err w ↦ subst (Finds c.args.bytes.now) (sym w.found-is) tt
+    ]
+
+-- a line that is named is one that was not read
+Unread : List ℕ → Result Judgement Ended → Type 0
+Unread bytes r = IfErr r (λ e. (bad : Bad) → e.said ≡ BadTrace bad → IsFault bytes bad.line bad.why)
+
+memory_unread : (bytes : List ℕ) (r : Result Judgement Ended) → IfErr r (λ e. e.said ≡ OutOfMemory) → Unread bytes r
+unfolding Unread
+memory_unread bytes (Ok found) is = tt
+memory_unread bytes (Err e) is = λ bad told. let both : OutOfMemory ≡ BadTrace bad = sym is ∙ told in absurd cc
+
+pub returns-clause-unread : goal.returns-clause-unread
+unfolding Unread
+returns-clause-unread g c =
+    elim c.match-read_watched.branch [
+      | in-Ok w ↦ subst (Unread c.args.bytes.now) (sym w.found-is) (memory_unread c.args.bytes.now w.of-found.result w.of-found.ensures.memory)
+      | in-Err w ↦
+          subst (Unread c.args.bytes.now) (sym w.found-is)
+          (λ bad told. fault_of c.args.bytes.now w.in-Err.bad bad w.from.result.said w.from.ensures w.in-Err.ensures.fault told)
     ]

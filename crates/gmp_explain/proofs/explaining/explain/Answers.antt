@@ -1,14 +1,33 @@
-use Rattle.std.proofs.Common.{inl, inr}
 use Rattle.gmp_trace.specs.Text.{content}
-use Rattle.gmp_explain.proofs.Texts.{found_bad, if_some}
+use Rattle.gmp_explain.proofs.Texts.{found_bad, if_ok, if_some, no_end_fault, no_step_fault}
 use Rattle.gmp_explain.proofs.explaining.explain.Goals as goal
 
 pub returns-in-Ok-clause-riddle : goal.returns-in-Ok-clause-riddle
-returns-in-Ok-clause-riddle g c plain =
+returns-in-Ok-clause-riddle g c =
     let found = c.in-Ok.judgement in
     let told = c.explain_trace.ensures in
-    if_some (g.R.Read.remaining c.args.reader.now) (λ all read bad is step.
-    elim (told.riddle plain bad (found_bad found.wrong c.explain_trace.result.ended.said bad told.said is) step) [
-      | inl none ↦ inl none
-      | inr says ↦ inr (record { trace = content found.trace; read = read; says = says })
-    ]) c.in-Ok.ensures.read
+    if_ok c.explain_trace.result.facts (λ text says plain.
+    if_some (g.R.Read.remaining c.args.reader.now) (λ all read bad is step. record {
+      trace = content found.trace;
+      read = read;
+      says = says plain bad (found_bad found.wrong c.explain_trace.result.ended.said bad told.said is) step;
+    }) c.in-Ok.ensures.read) told.riddle
+
+pub returns-in-Ok-clause-leads : goal.returns-in-Ok-clause-leads
+returns-in-Ok-clause-leads g c =
+    let found = c.in-Ok.judgement in
+    let told = c.explain_trace.ensures in
+    if_ok c.explain_trace.result.facts (λ text says plain.
+    if_some (g.R.Read.remaining c.args.reader.now) (λ all read bad is end. record {
+      trace = content found.trace;
+      read = read;
+      says = says plain bad (found_bad found.wrong c.explain_trace.result.ended.said bad told.said is) end;
+    }) c.in-Ok.ensures.read) told.leads
+
+pub returns-in-Err-clause-riddle : goal.returns-in-Err-clause-riddle
+returns-in-Err-clause-riddle g c plain =
+    if_some (g.R.Read.remaining c.args.reader.now) (λ all unread bad is step. absurd (no_step_fault all bad.line bad.why step (unread bad is))) c.in-Err.ensures.unread
+
+pub returns-in-Err-clause-leads : goal.returns-in-Err-clause-leads
+returns-in-Err-clause-leads g c plain =
+    if_some (g.R.Read.remaining c.args.reader.now) (λ all unread bad is end. absurd (no_end_fault all bad.line bad.why end (unread bad is))) c.in-Err.ensures.unread
