@@ -11,7 +11,7 @@ use Rattle.gmp_seq.specs.declared.status.Goroutine.{Goroutine}
 use Rattle.gmp_seq.specs.declared.status.Status.{Status}
 use Rattle.gmp_seq.specs.Table.{Table, status_at}
 use Rattle.gmp_explain.specs.declared.fact.Fact.{Fact}
-use Rattle.gmp_explain.specs.Spoken.{Does, Tells, TellsOf, TellsThese, called_allowed, does, doing_at, doing_from, doing_of, spoken}
+use Rattle.gmp_explain.specs.Spoken.{Clue, Does, Tells, TellsOf, TellsThese, clue, does, doing_at, doing_from, doing_of, spoken}
 
 module _ {S : Type 0} (told : S → Fact → S → Type 0) where
   tells_join : (old mid new : S) (a b : List Fact) → Tells told old a mid → Tells told mid b new → Tells told old (a ++ b) new
@@ -43,13 +43,13 @@ module _ {S : Type 0} (told : S → Fact → S → Type 0) where
   pub one : (old new : S) (d : Does) {x : Fact} → told old x new → spoken x ≡ Some d → TellsOf told (d ∷ []) old new
   one old new d {x} is says = record { said = x ∷ []; tells = (new, is, refl); picked = ap (λ (o : Option Does). cons_option o []) says }
 
-  -- one fact that calls no reply allowed
-  pub no_reply : (old new : S) {x : Fact} → told old x new → called_allowed x ≡ None → TellsThese told called_allowed [] old new
-  no_reply old new {x} is else = record { said = x ∷ []; tells = (new, is, refl); picked = ap (λ (o : Option (List ℕ)). cons_option o []) else }
+  -- one fact that is no clue
+  pub no_clue : (old new : S) {x : Fact} → told old x new → clue x ≡ None → TellsThese told clue [] old new
+  no_clue old new {x} is else = record { said = x ∷ []; tells = (new, is, refl); picked = ap (λ (o : Option Clue). cons_option o []) else }
 
-  -- one that does
-  pub a_reply : (old new : S) (words : List ℕ) {x : Fact} → told old x new → called_allowed x ≡ Some words → TellsThese told called_allowed (words ∷ []) old new
-  a_reply old new words {x} is says = record { said = x ∷ []; tells = (new, is, refl); picked = ap (λ (o : Option (List ℕ)). cons_option o []) says }
+  -- one that is
+  pub one_clue : (old new : S) (y : Clue) {x : Fact} → told old x new → clue x ≡ Some y → TellsThese told clue (y ∷ []) old new
+  one_clue old new y {x} is says = record { said = x ∷ []; tells = (new, is, refl); picked = ap (λ (o : Option Clue). cons_option o []) says }
 
 -- one goroutine more
 doing_next : (o : Option Outcome) (g n : ℕ) (rows : List Goroutine) (row : Goroutine) → n ≡ g + length rows

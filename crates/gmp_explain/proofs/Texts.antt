@@ -13,9 +13,9 @@ use Rattle.gmp_check_cli.specs.Check.{said_of}
 use Rattle.gmp_words.specs.declared.said.Said.{Said}
 use Rattle.gmp_words.specs.declared.said.Said.TheVariants as said
 use Rattle.gmp_explain.specs.declared.fact.Fact.{Fact}
-use Rattle.gmp_explain.specs.Lines.{AddsLines, SaysAllowed, SaysDoing, lines_of}
+use Rattle.gmp_explain.specs.Lines.{AddsLines, SaysDoing, SaysEntry, lines_of}
 use Rattle.gmp_explain.specs.Spoken.{Does, Tells, TellsOf}
-use Rattle.gmp_explain.specs.Told.{TellsAllowed}
+use Rattle.gmp_explain.specs.Told.{TellsEntry}
 
 -- what was told behind these bytes has its lines there
 module _ {S : Type 0} (text : S → List ℕ) where
@@ -35,15 +35,12 @@ module _ {S : Type 0} (text : S → List ℕ) where
     doing = told.picked;
   }
 
-  -- the same of what is called allowed
-  pub says_allowed : (limits : Limits) (s : State) (e : Entry) (old new : S) → text old ≡ [] → TellsAllowed adds limits s e old new → SaysAllowed limits s e (text new)
-  says_allowed limits s e old new none told = record {
-    said = told.tells.said;
-    lines = told_lines old new told.tells.said told.tells.tells ∙ ap (λ (l : List ℕ). l ++ flat_map lines_of told.tells.said) none;
-    replies = told.replies;
+  -- the same of an entry
+  pub says_entry : (limits : Limits) (s : State) (e : Entry) (old new : S) → text old ≡ [] → TellsEntry adds limits s e old new → SaysEntry limits s e (text new)
+  says_entry limits s e old new none told = record {
+    said = told.said;
+    lines = told_lines old new told.said told.tells ∙ ap (λ (l : List ℕ). l ++ flat_map lines_of told.said) none;
     right = told.right;
-    whole = told.whole;
-    called = told.tells.picked;
   }
 
 -- what follows of a value, where there is one

@@ -15,14 +15,12 @@ use Rattle.gmp_seq.specs.declared.call.Reply.TheVariants as reply
 use Rattle.gmp_seq.specs.Fits.{FitsReadiness, FitsReply}
 use Rattle.gmp_seq.specs.Machines.{Machines, Bares, Looks, MayKeep, Sets, Spins, Unspins}
 use Rattle.gmp_seq.specs.declared.call.Outcome.{Outcome}
-use Rattle.gmp_seq.specs.Needs.{Needs}
 use Rattle.gmp_seq.specs.State.{State}
 use Rattle.gmp_seq.specs.Step.{Claims, Effect, Exits, Goparks, Puts, Readies, Sleeps, Starts}
 use Rattle.gmp_seq.specs.Table.{Table, epoch_at, next_of}
 use Rattle.gmp_explain.specs.Told.{AreThoseAllowed, IsAllowed, IsWhole}
 use Rattle.gmp_explain.specs.Tried.{next_word, readied_replies, tried_of}
 use Rattle.gmp_explain.proofs.Alike.{those_all}
-use Rattle.gmp_seq.proofs.Needed.{step_needs}
 
 here : (r : Reply) (rest : List Reply) → Contains (r ∷ rest) r
 here r rest = (0, omega arith, refl)
@@ -147,7 +145,3 @@ whole_of limits s e tried found last table machines known those =
 pub over_whole : (limits : Limits) (s : State) (e : Entry) (o : Option Outcome) → o ≡ s.outcome → is_some o ≡ true → IsWhole limits s e []
 over_whole limits s e None is over has r fits allowed = absurd cc
 over_whole limits s e (Some outcome) is over has r fits allowed = let lasts : s.outcome ≡ None = allowed.1.1.0 in absurd cc
-
--- nor where the call lacks what it needs
-pub lacking_whole : (limits : Limits) (s : State) (e : Entry) → (Needs e.m e.call s → ⊥) → IsWhole limits s e []
-lacking_whole limits s e lacks has r fits allowed = absurd (lacks (step_needs limits e.m e.call r s allowed.0 allowed.1.1))

@@ -1,11 +1,10 @@
 -- Facts as lines.
-use Rattle.std.specs.Prelude.{◌≡◌, ℕ, zero, suc, ◌+◌, ◌==◌, nat_le, Bool, true, false, Option, None, Some, IfSome, List, [], ◌∷◌, ◌++◌, All, length, map, slice_get, take, drop, codes, if◌then◌else◌}
-use Rattle.std.specs.List.{filter_map, flat_map}
+use Rattle.std.specs.Prelude.{◌≡◌, ℕ, zero, suc, ◌+◌, ◌==◌, nat_le, Bool, true, false, Option, None, Some, IfSome, List, [], ◌∷◌, ◌++◌, length, slice_get, take, drop, codes, if◌then◌else◌}
+use Rattle.std.specs.List.{flat_map}
 use Rattle.std.specs.Option.{option_map, option_map_or}
 use Rattle.gmp_base.specs.declared.number.GNo.{GNo}
 use Rattle.gmp_seq.specs.declared.call.Entry.{Entry}
 use Rattle.gmp_seq.specs.declared.call.Limits.{Limits}
-use Rattle.gmp_seq.specs.declared.call.Reply.{Reply}
 use Rattle.gmp_seq.specs.State.{State}
 use Rattle.gmp_trace.specs.declared.bad.Why.{Why}
 use Rattle.gmp_trace.specs.declared.bad.Why.TheVariants.{Step, Outcome}
@@ -16,8 +15,8 @@ use Rattle.gmp_check_cli.specs.Check.{IsJudged, IsRead}
 use Rattle.gmp_walk.specs.Led.{IsWalked}
 use Rattle.gmp_explain.specs.declared.fact.Fact.{Fact}
 use Rattle.gmp_explain.specs.declared.fact.Fact.TheVariants as fact
-use Rattle.gmp_explain.specs.Spoken.{Does, TellsOf, called_allowed, doing_from, doings}
-use Rattle.gmp_explain.specs.Told.{IsAllowed, IsWhole, TellsAllowed, reply_text}
+use Rattle.gmp_explain.specs.Spoken.{Does, TellsOf, doing_from, doings}
+use Rattle.gmp_explain.specs.Told.{AreOfEntry, TellsEntry}
 use Rattle.gmp_explain.specs.Text.{calls_text, dealers_text, fact_text, no_step_text, values_text}
 
 -- a list in parts of n, k at most
@@ -101,29 +100,25 @@ pub record TellsText (bytes text : List ℕ) : Type 0 where
   pub read : IsRead bytes trace
   pub tells : TellsTrace trace text
 
--- told was which replies are allowed at the entry to which the trace's steps lead, if there is one
+-- told was the entry to which the trace's steps lead, if there is one, and what is to be said of its replies
 pub record TellsRiddle {S : Type 0} (told : S → Fact → S → Type 0) (x : Content) (old new : S) : Type 0 where
   pub n : ℕ
   pub last : State
   pub walked : IsWalked x n last
-  pub tells : IfSome (slice_get x.entries n) (λ e. TellsAllowed told x.limits last e old new)
+  pub tells : IfSome (slice_get x.entries n) (λ e. TellsEntry told x.limits last e old new)
 
--- the text is the lines of facts, and of replies these and no others are called allowed, each in its words; each is allowed, and of some calls
--- none that is allowed is left out
-pub record SaysAllowed (limits : Limits) (s : State) (e : Entry) (text : List ℕ) : Type 0 where
+-- the text is the lines of such facts
+pub record SaysEntry (limits : Limits) (s : State) (e : Entry) (text : List ℕ) : Type 0 where
   pub said : List Fact
   pub lines : text ≡ flat_map lines_of said
-  pub replies : List Reply
-  pub right : All (IsAllowed limits s e) replies
-  pub whole : IsWhole limits s e replies
-  pub called : filter_map called_allowed said ≡ map reply_text replies
+  pub right : AreOfEntry limits s e said
 
 -- it says so of the entry to which the trace's steps lead, if there is one
 pub record SaysRiddle (x : Content) (text : List ℕ) : Type 0 where
   pub n : ℕ
   pub last : State
   pub walked : IsWalked x n last
-  pub says : IfSome (slice_get x.entries n) (λ e. SaysAllowed x.limits last e text)
+  pub says : IfSome (slice_get x.entries n) (λ e. SaysEntry x.limits last e text)
 
 -- the bytes are the text of a trace of which it does so
 pub record SolvesText (bytes text : List ℕ) : Type 0 where

@@ -8,6 +8,7 @@ use Rattle.gmp_seq.specs.declared.status.Goroutine.{Goroutine}
 use Rattle.gmp_seq.specs.declared.status.Status.{Status}
 use Rattle.gmp_seq.specs.declared.status.Status.TheVariants.{Waiting}
 use Rattle.gmp_seq.specs.Table.{Table, status_at}
+use Rattle.gmp_check.specs.declared.state.needs.Need.{Need}
 use Rattle.gmp_explain.specs.declared.fact.Fact.{Fact}
 use Rattle.gmp_explain.specs.declared.fact.Fact.TheVariants as fact
 
@@ -48,10 +49,20 @@ doing_of o g None = []
 abbrev pub doing_at : Option Outcome → Table → GNo → List Does
 doing_at o t g = doing_of o g (status_at t g)
 
--- the words of a reply that a fact calls allowed, if it does
-abbrev pub called_allowed : Fact → Option (List ℕ)
-called_allowed (fact.Allowed reply) = Some reply.now
-called_allowed _ = None
+-- what is said of an entry that is no step: its line, a reply that is allowed there in its words, or why none is
+pub data Clue : Type 0 where
+  Line : List ℕ → Clue
+  May : List ℕ → Clue
+  Lacking : Need → Clue
+  Past : Clue
+
+-- what a fact says of it, if it does
+abbrev pub clue : Fact → Option Clue
+clue (fact.NoStep line) = Some (Line line.now)
+clue (fact.Allowed reply) = Some (May reply.now)
+clue (fact.Lacks need) = Some (Lacking need)
+clue fact.Over = Some Past
+clue _ = None
 
 module _ {S : Type 0} (told : S → Fact → S → Type 0) where
   -- these facts were told, one after another

@@ -1,20 +1,25 @@
 -- What is told of a trace is true of the state to which its entries lead.
-use Rattle.std.specs.Prelude.{◌≡◌, ◌⊎◌, ℕ, ◌+◌, true, None, List, [], ◌∷◌, ◌++◌, All, Contains, is_some, codes, decimal, drop, length, map}
+use Rattle.std.specs.Prelude.{◌≡◌, ◌⊎◌, ℕ, ◌+◌, true, Option, None, Some, List, [], ◌∷◌, ◌++◌, All, Contains, is_some, codes, decimal, drop, length, map}
+use Rattle.std.specs.List.{filter_map}
 use Rattle.gmp_seq.specs.declared.call.Entry.{Entry}
 use Rattle.gmp_seq.specs.declared.call.Limits.{Limits}
+use Rattle.gmp_seq.specs.declared.call.Outcome.{Outcome}
 use Rattle.gmp_seq.specs.declared.call.Reply.{Reply}
 use Rattle.gmp_seq.specs.Fits.{FitsReply}
+use Rattle.gmp_seq.specs.Needs.{Needs}
 use Rattle.gmp_seq.specs.Run.{IsStep}
 use Rattle.gmp_seq.specs.State.{State}
 use Rattle.gmp_start.specs.declared.start.Start.{Start}
 use Rattle.gmp_start.specs.Start.{state_of}
-use Rattle.gmp_trace.specs.Pieces.{Pair, Word, call_pieces, fields, reply_pieces}
+use Rattle.gmp_trace.specs.Pieces.{Pair, Word, call_pieces, entry_pieces, fields, reply_pieces}
 use Rattle.gmp_trace.specs.Text.{Content}
+use Rattle.gmp_check.specs.declared.state.needs.Need.{Need}
 use Rattle.gmp_check.specs.Decides.{Leads}
+use Rattle.gmp_check.specs.Missing.{Lacks}
 use Rattle.gmp_walk.specs.Led.{IsWalked}
 use Rattle.gmp_explain.specs.declared.fact.Fact.{Fact}
 use Rattle.gmp_explain.specs.Tried.{tried_of}
-use Rattle.gmp_explain.specs.Spoken.{TellsThese, called_allowed}
+use Rattle.gmp_explain.specs.Spoken.{Clue, Lacking, Line, May, Past, Tells, TellsThese, clue}
 
 -- the first n entries lead to this state, which is told by its parts; they are all, or no step follows by the next
 pub record IsTold (x : Content) (n : ℕ) (s : State) (last : Start) : Type 0 where
@@ -56,9 +61,44 @@ IsReplyPlace e place = place ≡ length (before_reply 0 e) + 1
 abbrev pub reply_text : Reply → List ℕ
 reply_text reply = drop 1 (fields (reply_pieces reply))
 
--- told was of replies that are allowed, each in its words, and no other was called so; of some calls none is left out
+-- that it is allowed
+abbrev pub may : Reply → Clue
+may reply = May (reply_text reply)
+
+-- Told was of replies that are allowed, each in its words, and of no other; of some calls none is left out.
 pub record TellsAllowed {S : Type 0} (told : S → Fact → S → Type 0) (limits : Limits) (s : State) (e : Entry) (old new : S) : Type 0 where
   pub replies : List Reply
   pub right : All (IsAllowed limits s e) replies
   pub whole : IsWhole limits s e replies
-  pub tells : TellsThese told called_allowed (map reply_text replies) old new
+  pub tells : TellsThese told clue (map may replies) old new
+
+-- while the run lasts, by what the call lacks: that, or each reply that is allowed
+abbrev pub AnswersCall : Limits → State → Entry → Option Need → List Clue → Type 0
+AnswersCall limits s e (Some need) clues = clues ≡ Lacking need ∷ []
+AnswersCall limits s e None clues = (replies : List Reply) × All (IsAllowed limits s e) replies × IsWhole limits s e replies × (clues ≡ map may replies)
+
+-- what is to be said of the replies at an entry, by how the run ended before it
+abbrev pub AnswersEntry : Limits → State → Entry → Option Outcome → List Clue → Type 0
+AnswersEntry limits s e (Some outcome) clues = clues ≡ Past ∷ []
+AnswersEntry limits s e None clues = (lacks : Option Need) × Lacks e.m e.call s (Needs e.m e.call s) lacks × AnswersCall limits s e lacks clues
+
+-- told was that
+pub record TellsAnswer {S : Type 0} (told : S → Fact → S → Type 0) (limits : Limits) (s : State) (e : Entry) (old new : S) : Type 0 where
+  pub clues : List Clue
+  pub right : AnswersEntry limits s e s.outcome clues
+  pub tells : TellsThese told clue clues old new
+
+-- these facts are of the entry: first its line, under some number, and then what is to be said of the replies
+pub record AreOfEntry (limits : Limits) (s : State) (e : Entry) (said : List Fact) : Type 0 where
+  pub first : Fact
+  pub rest : List Fact
+  pub parts : said ≡ first ∷ rest
+  pub number : ℕ
+  pub line : clue first ≡ Some (Line (decimal number ++ fields (entry_pieces e)))
+  pub answer : AnswersEntry limits s e s.outcome (filter_map clue rest)
+
+-- such facts were told
+pub record TellsEntry {S : Type 0} (told : S → Fact → S → Type 0) (limits : Limits) (s : State) (e : Entry) (old new : S) : Type 0 where
+  pub said : List Fact
+  pub tells : Tells told old said new
+  pub right : AreOfEntry limits s e said

@@ -5,7 +5,7 @@ ghost use Rattle.gmp_trace.specs.Text.{content};
 ghost use Rattle.gmp_trace.specs.declared.bad.Bad.{Bad};
 ghost use Rattle.gmp_trace.specs.declared.bad.Why.TheVariants as why;
 ghost use Rattle.gmp_explain.specs.Lines.{LeadsText, SaysEnd, SaysRiddle, SolvesText, TellsEnd, TellsRiddle, TellsState, TellsText, TellsTrace, has_facts};
-ghost use Rattle.gmp_explain.specs.Told.{TellsAllowed};
+ghost use Rattle.gmp_explain.specs.Told.{TellsEntry};
 ghost use Rattle.gmp_check_cli.specs.Check.{HasRightTrace, SaysOfTrace, said_of};
 ghost use Rattle.gmp_words.specs.Said.{is_of_check};
 ghost use Rattle.gmp_words.specs.declared.said.Said.TheVariants as said;
@@ -51,7 +51,7 @@ fn tell_next<S: Sink>(
     story: &Story,
     sink: &mut S,
 ) -> Result<(), OutOfMemory>
-    ensures { OnOk result (IfSome (slice_get trace.now.entries.list story.now.steps) (λ e. TellsAllowed S.told story.now.replay.limits story.now.replay.state e sink.old sink.new)) }
+    ensures { OnOk result (IfSome (slice_get trace.now.entries.list story.now.steps) (λ e. TellsEntry S.told story.now.replay.limits story.now.replay.state e sink.old sink.new)) }
 {
     match trace.entries.get(story.steps) {
         Some(entry) => tell_riddle(alloc, story, entry, sink),
@@ -146,7 +146,8 @@ pub fn explain<R: Read, P: Progress>(
     ensures there { result.ended.said ≡ Nothing → IsOk result.facts }
     // Each goroutine has its line, by number, of what it does in the state to which the entries lead, and whether it is a leak.
     ensures told { IfOk result.facts (λ text. result.ended.said ≡ Nothing → json ≡ false → IfSome (R.remaining reader.old) (λ all. TellsText all (string_bytes text))) }
-    // Where an entry is no step, the replies that are called allowed are, and of some calls they are all.
+    // Where an entry is no step, first its line, and then that the run was over, what its call lacks, or which replies are allowed: those that
+    // are called so are, and of some calls they are all.
     ensures riddle { IfOk result.facts (λ text. json ≡ false → IfSome (R.remaining reader.old) (λ all. (bad : Bad) → result.ended.said ≡ said.BadTrace bad → bad.why ≡ why.Step
         → SolvesText all (string_bytes text))) }
     // Where the end is not that of the run, the end to which the entries lead.

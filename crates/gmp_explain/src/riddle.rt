@@ -1,8 +1,8 @@
 //! Why an entry is no step: the entry, its machine and goroutine before it, and the replies that are allowed, or what is missing.
 ghost use Rattle.std.specs.Prelude.{◌≡◌, [], ◌∷◌, ◌++◌, IfOk, OnOk, decimal, drop};
 ghost use Rattle.gmp_trace.specs.Pieces.{entry_pieces, fields};
-ghost use Rattle.gmp_explain.specs.Spoken.{TellsThese, called_allowed};
-ghost use Rattle.gmp_explain.specs.Told.{AreAlike, IsReplyPlace, TellsAllowed, reply_text};
+ghost use Rattle.gmp_explain.specs.Spoken.{TellsThese, clue};
+ghost use Rattle.gmp_explain.specs.Told.{AreAlike, IsReplyPlace, TellsAllowed, TellsAnswer, TellsEntry, may};
 
 use crate::allowing::allowed;
 use crate::fact::{Fact, Sink, Told};
@@ -58,7 +58,7 @@ fn tell_reply<S: Sink>(
     sink: &mut S,
 ) -> Result<(), AllocError>
     requires { IsReplyPlace entry.old place }
-    ensures tells { OnOk result (TellsThese S.told called_allowed (reply_text reply ∷ []) sink.old sink.new) }
+    ensures tells { OnOk result (TellsThese S.told clue (may reply ∷ []) sink.old sink.new) }
     ensures reply { entry.new ≡ record entry.old { reply = reply } }
 {
     entry.reply = reply;
@@ -69,7 +69,7 @@ fn tell_reply<S: Sink>(
 
 /// What a goroutine did before the entry.
 fn tell_goroutine<S: Sink>(story: &Story, g: GNo, sink: &mut S) -> Result<(), AllocError>
-    ensures { OnOk result (TellsThese S.told called_allowed [] sink.old sink.new) }
+    ensures { OnOk result (TellsThese S.told clue [] sink.old sink.new) }
 {
     let Some(status) = story.does(g) else {
         return Ok(());
@@ -85,7 +85,7 @@ fn tell_goroutine<S: Sink>(story: &Story, g: GNo, sink: &mut S) -> Result<(), Al
 
 /// What the machine did before the entry.
 fn tell_machine<S: Sink>(story: &Story, m: MNo, sink: &mut S) -> Result<(), AllocError>
-    ensures { OnOk result (TellsThese S.told called_allowed [] sink.old sink.new) }
+    ensures { OnOk result (TellsThese S.told clue [] sink.old sink.new) }
 {
     let last = &story.last;
     let i = usize::from(m.0);
@@ -103,7 +103,7 @@ fn tell_machine<S: Sink>(story: &Story, m: MNo, sink: &mut S) -> Result<(), Allo
 
 /// What the goroutine at the machine did before the entry.
 fn tell_runner<S: Sink>(story: &Story, m: MNo, sink: &mut S) -> Result<(), AllocError>
-    ensures { OnOk result (TellsThese S.told called_allowed [] sink.old sink.new) }
+    ensures { OnOk result (TellsThese S.told clue [] sink.old sink.new) }
 {
     match at_machine(&story.last.goroutines, m) {
         Some(g) => tell_goroutine(story, g, sink),
@@ -123,7 +123,7 @@ fn named(entry: &Entry) -> Option<GNo> {
 
 /// The latest ticket of a goroutine.
 fn tell_latest<S: Sink>(story: &Story, g: GNo, sink: &mut S) -> Result<(), AllocError>
-    ensures { OnOk result (TellsThese S.told called_allowed [] sink.old sink.new) }
+    ensures { OnOk result (TellsThese S.told clue [] sink.old sink.new) }
 {
     let Some(row) = story.last.goroutines.get(usize::from(g.0)) else {
         return Ok(());
@@ -140,7 +140,7 @@ fn tell_latest<S: Sink>(story: &Story, g: GNo, sink: &mut S) -> Result<(), Alloc
 
 /// The goroutine that the entry names, and its latest ticket.
 fn tell_named<S: Sink>(story: &Story, entry: &Entry, sink: &mut S) -> Result<(), AllocError>
-    ensures { OnOk result (TellsThese S.told called_allowed [] sink.old sink.new) }
+    ensures { OnOk result (TellsThese S.told clue [] sink.old sink.new) }
 {
     let Some(g) = named(entry) else {
         return Ok(());
@@ -151,7 +151,7 @@ fn tell_named<S: Sink>(story: &Story, entry: &Entry, sink: &mut S) -> Result<(),
 
 /// A channel that the call names.
 fn tell_one<S: Sink>(story: &Story, c: Option<CNo>, sink: &mut S) -> Result<(), AllocError>
-    ensures { OnOk result (TellsThese S.told called_allowed [] sink.old sink.new) }
+    ensures { OnOk result (TellsThese S.told clue [] sink.old sink.new) }
 {
     let Some(c) = c else {
         return Ok(());
@@ -165,7 +165,7 @@ fn tell_one<S: Sink>(story: &Story, c: Option<CNo>, sink: &mut S) -> Result<(), 
 
 /// The channels that the cases name.
 fn tell_cases<S: Sink>(story: &Story, cases: &[Case], sink: &mut S) -> Result<(), AllocError>
-    ensures { OnOk result (TellsThese S.told called_allowed [] sink.old sink.new) }
+    ensures { OnOk result (TellsThese S.told clue [] sink.old sink.new) }
 {
     for case in cases {
         tell_one(story, channel_of(*case), sink)?;
@@ -175,7 +175,7 @@ fn tell_cases<S: Sink>(story: &Story, cases: &[Case], sink: &mut S) -> Result<()
 
 /// The channels that the call names.
 fn tell_channels<S: Sink>(story: &Story, call: &Call, sink: &mut S) -> Result<(), AllocError>
-    ensures { OnOk result (TellsThese S.told called_allowed [] sink.old sink.new) }
+    ensures { OnOk result (TellsThese S.told clue [] sink.old sink.new) }
 {
     match call {
         Call::Send(c, _) => tell_one(story, *c, sink),
@@ -209,7 +209,7 @@ fn tell_allowed<S: Sink>(
     entry: &mut Entry,
     sink: &mut S,
 ) -> Result<(), OutOfMemory>
-    ensures { OnOk result (TellsAllowed S.told story.now.replay.limits story.now.replay.state entry.old sink.old sink.new) }
+    ensures { OnOk result (TellsAnswer S.told story.now.replay.limits story.now.replay.state entry.old sink.old sink.new) }
 {
     if story.replay.outcome().is_some() {
         sink.tell(&Fact::Over)?;
@@ -229,7 +229,7 @@ pub fn tell_riddle<S: Sink>(
     mut entry: Entry,
     sink: &mut S,
 ) -> Result<(), OutOfMemory>
-    ensures { OnOk result (TellsAllowed S.told story.now.replay.limits story.now.replay.state entry sink.old sink.new) }
+    ensures { OnOk result (TellsEntry S.told story.now.replay.limits story.now.replay.state entry sink.old sink.new) }
 {
     let number = story.first.unwrap_or(0).wrapping_add(story.steps as u64);
     let line = line_of(alloc, number, &entry)?;

@@ -5,7 +5,7 @@ use Rattle.gmp_explain.specs.declared.fact.Fact.TheVariants as fact
 use Rattle.gmp_explain.specs.declared.lines.Lines.{Lines}
 use Rattle.gmp_explain.specs.Lines.{lines_of}
 use Rattle.gmp_explain.specs.Spoken.{doing_from}
-use Rattle.gmp_explain.proofs.Texts.{if_some, says_allowed, says_doing}
+use Rattle.gmp_explain.proofs.Texts.{if_some, says_entry, says_doing}
 use Rattle.gmp_explain.proofs.explaining.facts.Goals as goal
 
 pub returns-clause-told : goal.returns-clause-told
@@ -26,7 +26,7 @@ returns-clause-riddle c plain bad is step =
       n = state.n;
       last = state.last;
       walked = state.walked;
-      says = if_some (slice_get x.entries state.n) (λ e. says_allowed (λ (l : Lines). string_bytes l.text) x.limits state.last e c.new-lines.result c.tell-2.new.sink c.new-lines.ensures) state.tells;
+      says = if_some (slice_get x.entries state.n) (λ e. says_entry (λ (l : Lines). string_bytes l.text) x.limits state.last e c.new-lines.result c.tell-2.new.sink c.new-lines.ensures) state.tells;
     }
 
 pub returns-clause-leads : goal.returns-clause-leads

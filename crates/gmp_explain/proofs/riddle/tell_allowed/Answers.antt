@@ -1,20 +1,29 @@
-use Rattle.std.proofs.Common.{refl, rules}
-use Rattle.gmp_explain.proofs.ReplyWords.{allowed_none}
-use Rattle.gmp_explain.proofs.Spoken.{no_reply}
-use Rattle.gmp_explain.proofs.Tries.{lacking_whole, over_whole}
+use Rattle.std.proofs.Common.{refl, sym, ◌∙◌}
+use Rattle.gmp_explain.specs.Spoken.{Lacking, Past}
+use Rattle.gmp_explain.proofs.Parts.{on_ok}
+use Rattle.gmp_explain.proofs.ReplyWords.{answer_allowed, answer_lacking, answer_over}
+use Rattle.gmp_explain.proofs.Spoken.{one_clue}
 use Rattle.gmp_explain.proofs.riddle.tell_allowed.Goals as goal
 
 pub returns-then-is_some : goal.returns-then-is_some
 returns-then-is_some g c =
     let told = g.S.Sink.told in
     let replay = c.args.story.now.replay in
-    allowed_none told replay.limits replay.state c.args.entry.now c.args.sink.now c.tell.new.self (no_reply told c.args.sink.now c.tell.new.self c.in_ok-tell.ensures refl)
-    (over_whole replay.limits replay.state c.args.entry.now c.outcome.result c.outcome.ensures.value (search rules))
+    answer_over told replay.limits replay.state c.args.entry.now c.outcome.result c.args.sink.now c.tell.new.self c.outcome.ensures.value (sym c.is_some.ensures ∙ c.if-is_some.true)
+    (one_clue told c.args.sink.now c.tell.new.self Past c.in_ok-tell.ensures refl)
 
 pub returns-in-Some : goal.returns-in-Some
 returns-in-Some g c =
     let told = g.S.Sink.told in
     let replay = c.args.story.now.replay in
     let new = c.tell-in-Some.new.self in
-    allowed_none told replay.limits replay.state c.args.entry.now c.args.sink.now new (no_reply told c.args.sink.now new c.in_ok-tell-2.ensures refl)
-    (lacking_whole replay.limits replay.state c.args.entry.now c.in-Some.ensures.1)
+    answer_lacking told replay.limits replay.state c.args.entry.now c.outcome.result c.in-Some.need c.args.sink.now new c.outcome.ensures.value (sym c.is_some.ensures ∙ c.if-is_some.false)
+    c.in-Some.ensures (one_clue told c.args.sink.now new (Lacking c.in-Some.need) c.in_ok-tell-2.ensures refl)
+
+pub returns : goal.returns
+returns g c =
+    let told = g.S.Sink.told in
+    let replay = c.args.story.now.replay in
+    on_ok c.tell_replies.result
+    (answer_allowed told replay.limits replay.state c.args.entry.now c.outcome.result c.args.sink.now c.tell_replies.new.sink c.outcome.ensures.value (sym c.is_some.ensures ∙ c.if-is_some.false)
+    c.in-None.ensures) c.tell_replies.ensures

@@ -1,8 +1,8 @@
 use Rattle.std.proofs.Common.{◌≡◌, List, map, take, ap, sym, subst, ◌∙◌}
 use Rattle.std.proofs.lemmas.List.{take_all}
 use Rattle.gmp_seq.specs.declared.call.Reply.{Reply}
-use Rattle.gmp_explain.specs.Spoken.{TellsThese, called_allowed}
-use Rattle.gmp_explain.specs.Told.{reply_text}
+use Rattle.gmp_explain.specs.Spoken.{TellsThese, clue}
+use Rattle.gmp_explain.specs.Told.{may}
 use Rattle.gmp_seq.specs.declared.call.Entry.{Entry}
 use Rattle.gmp_explain.proofs.ReplyWords.{alike_place, reply_told}
 use Rattle.gmp_explain.proofs.Spoken.{none}
@@ -36,5 +36,5 @@ returns g c =
       replies = c.in_ok-replies.replies.items;
       right = c.in_ok-replies.ensures.right;
       whole = c.in_ok-replies.ensures.whole;
-      tells = subst (λ (l : List Reply). TellsThese g.S.Sink.told called_allowed (map reply_text l) c.args.sink.now c.loop-reply.sink) all c.loop-reply.invariant.tells;
+      tells = subst (λ (l : List Reply). TellsThese g.S.Sink.told clue (map may l) c.args.sink.now c.loop-reply.sink) all c.loop-reply.invariant.tells;
     }
