@@ -35,7 +35,7 @@ pub trait Gate {
     fn before(&self, m: MNo, act: &Act);
 
     /// Whether it holds nobody up, whatever the act, throughout the run. Then acts may be made of which it isn't told, several under one
-    /// hold of the lock.
+    /// hold of the lock, and bodies be resumed under it where all other machines are parked.
     fn is_open(&self) -> bool {
         false
     }

@@ -92,7 +92,8 @@ impl<T: Drop, L: SinkLedger<S>, S: Sink> Shared<T, L, S> {
     }
 
     /// Waits for the lock: at first it looks at the hint, and tries where that says free; after so many looks it sleeps on the mutex. Each
-    /// wait ends by the holder's `let_go`, and a holder waits for nothing: under the lock no body runs and nobody parks.
+    /// wait ends by the holder's `let_go`, and a holder waits for nothing: under the lock nobody parks, and a body runs only where all
+    /// other machines are parked. Whoever waits then was unparked for nothing.
     fn awaited<R: Wait>(&self, rt: &R) -> MutexGuard<'_, CachePadded<Bench<T, L, S>>> {
         for _ in 0..MOST_LOOKS {
             if self.is_free() {

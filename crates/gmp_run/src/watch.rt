@@ -37,7 +37,7 @@ use crate::processors::Processors;
 use crate::set::Set;
 use gmp_base::{GNo, MNo};
 use gmp_history::{BriefCall, BriefReply, History};
-use gmp_seq::Call;
+use gmp_seq::{Call, Limits};
 use std::alloc::{AllocError, Global};
 
 /// What a machine at Mind does.
@@ -88,6 +88,8 @@ pub(crate) struct Watch {
     looks: Set,
     /// Who runs a goroutine, with a processor.
     runs: Set,
+    /// Who isn't parked: awake to the book, or in a blocking call.
+    unparked: Set,
     /// Who is at Mind, and isn't called.
     waits: Set,
     /// Who has been given a ticket, which isn't stored yet.
@@ -105,20 +107,21 @@ pub(crate) struct Watch {
 }
 
 impl Watch {
-    /// What stands at the opening: one ticket, main's, is on the shelf.
-    pub fn new(alloc: Global, procs: u8, bodies: usize) -> Result<Self, AllocError> {
+    /// What stands at the opening: one ticket, main's, is on the shelf, and nobody is parked.
+    pub fn new(alloc: Global, limits: Limits, bodies: usize) -> Result<Self, AllocError> {
         let mut deadlines = Vec::with_capacity(alloc, bodies)?;
         for _ in 0..bodies {
             deadlines.push(None)?;
         }
         Ok(Watch {
             noted: 0,
-            processors: Processors::idle(procs),
+            processors: Processors::idle(limits.procs),
             given: 1,
             claims: 0,
             shelved: 1,
             looks: Set::none(),
             runs: Set::none(),
+            unparked: Set::first(limits.machines),
             waits: Set::none(),
             owes: Set::none(),
             claimed: [0; 64],
@@ -157,6 +160,12 @@ impl Watch {
         self.looks = self.looks.with(m);
     }
 
+    /// m, which was parked, looks for work from now on.
+    fn wake(&mut self, m: MNo) {
+        self.look(m);
+        self.unparked = self.unparked.with(m);
+    }
+
     /// m runs a goroutine from now on.
     #[inline(always)]
     fn run(&mut self, m: MNo) {
@@ -178,6 +187,12 @@ impl Watch {
     /// Whether whoever lies in wait for a queue is to come out: a ticket is on the shelf, or the run is over.
     pub fn calls_hunters(&self) -> bool {
         self.over || self.shelved > 0
+    }
+
+    /// Whether all machines but m are parked: then none of them wants the lock until m wakes it. One in a blocking call wants it at the
+    /// call's end; one that minds a deadline is awake, and one that was left out never parks.
+    pub fn is_alone(&self, m: MNo) -> bool {
+        self.unparked.without(m).is_empty()
     }
 
     /// The deadline of the goroutine that m claimed last.
@@ -299,11 +314,14 @@ impl Watch {
                 self.goes(m);
                 self.processors.release(p);
                 if let Some(n) = woken {
-                    self.look(n);
+                    self.wake(n);
                 }
             }
-            (BriefReply::Wakes(n), _) => self.look(n),
-            (BriefReply::Parked, _) => self.goes(m),
+            (BriefReply::Wakes(n), _) => self.wake(n),
+            (BriefReply::Parked, _) => {
+                self.goes(m);
+                self.unparked = self.unparked.without(m);
+            }
             (BriefReply::Mind(until), _) => {
                 self.goes(m);
                 self.waits = self.waits.with(m);

@@ -21,8 +21,11 @@ use gmp_seq::Call;
 use std::alloc::Global;
 use std::sync::{Mutex, Wait};
 
-/// The most acts after the first that are made under one hold of the lock.
+/// The most acts after the first that are made under one hold of the lock, where another machine isn't parked.
 const MOST_MORE: u32 = 8;
+
+/// The same where all others are parked; bodies count.
+const MOST_ALONE: u32 = 63;
 
 /// Where a machine waits for its thread, and where its thread leaves it.
 pub(crate) type Seat<T, L> = Mutex<Option<Machine<T, L>>>;
@@ -39,7 +42,7 @@ pub(crate) struct Floor<'a, T, C, G, L: SinkLedger<S>, S: Sink> {
     pub gate: &'a G,
 }
 
-impl<'a, T: Drop, C: Clock, G: Gate, L: SinkLedger<S>, S: Sink> Floor<'a, T, C, G, L, S> {
+impl<'a, T: Runs, C: Clock, G: Gate, L: SinkLedger<S>, S: Sink> Floor<'a, T, C, G, L, S> {
     /// Wakes these machines. With no lock held: who is woken wants it at once.
     fn wake(&self, machines: Set) {
         let mut left = machines;
@@ -53,11 +56,23 @@ impl<'a, T: Drop, C: Clock, G: Gate, L: SinkLedger<S>, S: Sink> Floor<'a, T, C, 
         }
     }
 
+    /// How many acts may follow the first one under one hold of the lock, where all other machines are parked, or one isn't.
+    fn most_more(&self, is_alone: bool) -> u32 {
+        if is_alone {
+            MOST_ALONE
+        } else if self.gate.is_open() {
+            MOST_MORE
+        } else {
+            0
+        }
+    }
+
     /// Makes the act at the book under the lock, and then wakes whom its answer names and who is called.
     ///
     /// Where the gate is open, the acts that follow are made under the same hold, as long as they are at the book or at the own queue and
-    /// nobody is to be woken. A make alone is handed memory.
-    /// What keeps the others waiting is bounded: nine acts, none of which runs a body, steals or parks.
+    /// nobody is to be woken. Where all other machines are parked too, bodies are resumed under it. A make alone is handed memory.
+    /// What keeps the others waiting is bounded: nine acts, none of which runs a body, steals or parks. Where they are parked nobody waits,
+    /// but a thread that was unparked for nothing: for it the lock is let go once in so many acts.
     fn at_book<R: Wait>(
         &self,
         rt: &R,
@@ -68,17 +83,19 @@ impl<'a, T: Drop, C: Clock, G: Gate, L: SinkLedger<S>, S: Sink> Floor<'a, T, C, 
         requires act { IsAtBook (next_act machine.old.driver) }
         requires memory { HasMemory (next_act machine.old.driver) memory }
     {
-        let more = if self.gate.is_open() { MOST_MORE } else { 0 };
         let mut bench = self.shared.take(rt);
+        // It stays so: who is parked is woken by an act of this hold alone, which is its last then.
+        let is_alone = self.gate.is_open() && bench.watch.is_alone(machine.m);
         let mut woken = bench.turn(memory, machine);
-        for _ in 0..more {
+        for _ in 0..self.most_more(is_alone) {
             if woken.is_some() {
                 break;
             }
             match machine.driver.frequent() {
                 Frequent::Pop | Frequent::Push => machine.queue_turn(),
-                // A body may take its time, and runs with no lock held.
-                Frequent::Resume => break,
+                // A body may take its time, and nothing can take the lock from it.
+                Frequent::Resume if !is_alone => break,
+                Frequent::Resume => machine.local_turn(0),
                 Frequent::Other => match machine.driver.next() {
                     // At Rest a machine waits first, and no thread waits with the lock.
                     Act::Call(Call::Woken) => break,
@@ -113,9 +130,7 @@ impl<'a, T: Drop, C: Clock, G: Gate, L: SinkLedger<S>, S: Sink> Floor<'a, T, C, 
         }
         now
     }
-}
 
-impl<'a, T: Runs, C: Clock, G: Gate, L: SinkLedger<S>, S: Sink> Floor<'a, T, C, G, L, S> {
     /// Makes the act that comes next, if it is one of those that come most often, and tells whether it is. No wide act is made for it.
     #[inline(always)]
     fn make_frequent<R: Wait>(&self, rt: &R, alloc: Global, machine: &mut Machine<T, L>) -> bool {
