@@ -92,8 +92,8 @@ impl<T: Drop, L: SinkLedger<S>, S: Sink> Shared<T, L, S> {
     }
 
     /// Waits for the lock: at first it looks at the hint, and tries where that says free; after so many looks it sleeps on the mutex. Each
-    /// wait ends by the holder's `let_go`, and a holder waits for nothing: under the lock nobody parks, and a body runs only where all
-    /// other machines are parked. Whoever waits then was unparked for nothing.
+    /// wait ends by the holder's `let_go`. Under the lock nobody parks; what takes its time there is a sink that is slow, or a body where all
+    /// other machines are parked. Whoever waits for a body was unparked for nothing.
     fn awaited<R: Wait>(&self, rt: &R) -> MutexGuard<'_, CachePadded<Bench<T, L, S>>> {
         for _ in 0..MOST_LOOKS {
             if self.is_free() {

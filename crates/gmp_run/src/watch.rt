@@ -189,7 +189,7 @@ impl Watch {
         self.over || self.shelved > 0
     }
 
-    /// Whether all machines but m are parked: then none of them wants the lock until m wakes it. One in a blocking call wants it at the
+    /// Whether all machines but m are parked: then none of them needs the lock until m wakes it. One in a blocking call needs it at the
     /// call's end; one that minds a deadline is awake, and one that was left out never parks.
     pub fn is_alone(&self, m: MNo) -> bool {
         self.unparked.without(m).is_empty()

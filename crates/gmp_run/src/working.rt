@@ -27,6 +27,18 @@ const MOST_MORE: u32 = 8;
 /// The same where all others are parked; bodies count.
 const MOST_ALONE: u32 = 63;
 
+/// How many acts may follow the first one under one hold of the lock, by whether the gate is open, and whether all other machines are parked
+/// too.
+fn most_more(is_open: bool, is_alone: bool) -> u32 {
+    if is_alone {
+        MOST_ALONE
+    } else if is_open {
+        MOST_MORE
+    } else {
+        0
+    }
+}
+
 /// Where a machine waits for its thread, and where its thread leaves it.
 pub(crate) type Seat<T, L> = Mutex<Option<Machine<T, L>>>;
 
@@ -56,23 +68,12 @@ impl<'a, T: Runs, C: Clock, G: Gate, L: SinkLedger<S>, S: Sink> Floor<'a, T, C, 
         }
     }
 
-    /// How many acts may follow the first one under one hold of the lock, where all other machines are parked, or one isn't.
-    fn most_more(&self, is_alone: bool) -> u32 {
-        if is_alone {
-            MOST_ALONE
-        } else if self.gate.is_open() {
-            MOST_MORE
-        } else {
-            0
-        }
-    }
-
     /// Makes the act at the book under the lock, and then wakes whom its answer names and who is called.
     ///
     /// Where the gate is open, the acts that follow are made under the same hold, as long as they are at the book or at the own queue and
     /// nobody is to be woken. Where all other machines are parked too, bodies are resumed under it. A make alone is handed memory.
     /// What keeps the others waiting is bounded: nine acts, none of which runs a body, steals or parks. Where they are parked nobody waits,
-    /// but a thread that was unparked for nothing: for it the lock is let go once in so many acts.
+    /// but a thread that was unparked for nothing: for it the lock is let go once in so many acts, if bodies come back.
     fn at_book<R: Wait>(
         &self,
         rt: &R,
@@ -83,11 +84,13 @@ impl<'a, T: Runs, C: Clock, G: Gate, L: SinkLedger<S>, S: Sink> Floor<'a, T, C, 
         requires act { IsAtBook (next_act machine.old.driver) }
         requires memory { HasMemory (next_act machine.old.driver) memory }
     {
+        // Asked with no lock held.
+        let is_open = self.gate.is_open();
         let mut bench = self.shared.take(rt);
         // It stays so: who is parked is woken by an act of this hold alone, which is its last then.
-        let is_alone = self.gate.is_open() && bench.watch.is_alone(machine.m);
+        let is_alone = is_open && bench.watch.is_alone(machine.m);
         let mut woken = bench.turn(memory, machine);
-        for _ in 0..self.most_more(is_alone) {
+        for _ in 0..most_more(is_open, is_alone) {
             if woken.is_some() {
                 break;
             }
