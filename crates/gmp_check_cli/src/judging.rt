@@ -67,6 +67,7 @@ impl Judgement {
 fn judge<P: Progress>(alloc: Global, bytes: &[u8], progress: &mut P) -> Result<Judgement, Ended>
     ensures judged { IfOk result (λ found. IsJudged (content found.trace) found.wrong) }
     ensures read { IfOk result (λ found. IsRead bytes.now (content found.trace)) }
+    ensures text { IfOk result (λ found. HasText (content found.trace)) }
     ensures wrong { IfOk result (λ found. IfSome found.wrong (IsWrong bytes.now)) }
 
     ensures kinds { IfErr result (λ e. is_of_trace e.said ≡ true) }
@@ -103,6 +104,8 @@ pub fn read_trace<R: Read, P: Progress>(
 ) -> Result<Judgement, Ended>
     ensures judged { IfOk result (λ found. IsJudged (content found.trace) found.wrong) }
     ensures read { IfOk result (λ found. IfSome (R.remaining reader.old) (λ all. IsRead all (content found.trace))) }
+    // No other trace has that text.
+    ensures text { IfOk result (λ found. HasText (content found.trace)) }
     ensures wrong { IfOk result (λ found. SaysOfTrace (R.remaining reader.old) (said_of found.wrong)) }
 
     ensures kinds { IfErr result (λ e. (is_of_input e.said || is_of_trace e.said) ≡ true) }
