@@ -21,7 +21,7 @@ pub struct Settings {
     /// The words that choose among cases and victims are drawn from it on.
     pub random: u64,
     /// Whether machines look aside every 16 claims, so that no ready goroutine is passed over for ever: also where others wake one another
-    /// without end. It costs some 1 % more entries a claim.
+    /// without end. It changes the number of entries by a few per cent.
     pub fair: bool,
 }
 
