@@ -30,6 +30,14 @@ AsksSo resumed shown before told asked shown' after = resumed before told asked 
 abbrev pub AnswersSo : {T : Type 0} → (T → ℕ → T → Type 0) → ℕ → T → ℕ → ℕ → T → Type 0
 AnswersSo called shown before number shown' after = called before number after × (shown' ≡ shown)
 
+-- The body in a box asks so when it is resumed, and the same box holds it afterwards: `holding` is the box with this body in it.
+abbrev pub BoxAsks : {B : Type 0} {In : B → Type 0} → ((box : B) → In box → B) → ((box : B) → Woke → Ask → In box → Type 0) → B → Woke → Ask → B → Type 0
+BoxAsks {B} {In} holding resumed before told asked after = (left : In before) × (after ≡ holding before left) × resumed before told asked left
+
+-- and answers so by its blocking call
+abbrev pub BoxAnswers : {B : Type 0} {In : B → Type 0} → ((box : B) → In box → B) → ((box : B) → ℕ → In box → Type 0) → B → ℕ → B → Type 0
+BoxAnswers {B} {In} holding called before number after = (left : In before) × (after ≡ holding before left) × called before number left
+
 -- By what bodies ask when they are resumed, and answer by their blocking calls.
 module _ {T : Type 0} (resumed : T → Woke → Ask → T → Type 0) (called : T → ℕ → T → Type 0) where
   -- the bodies were played so far, by machines that are all fair, or all not
@@ -47,10 +55,3 @@ module _ {T : Type 0} (resumed : T → Woke → Ask → T → Type 0) (called : 
     pub last : Stage T ℕ
     pub played : IsPlayedTo is_fair limits capacities bodies last
     pub none : last.core.system.book.state.outcome ≡ None
-
--- the same, whatever the bodies do
-abbrev pub IsPlayedByAny : {T : Type 0} → Bool → Limits → List ℕ → List T → Ended → Type 0
-IsPlayedByAny is_fair limits capacities bodies ended = IsPlayedOut (λ before told asked after. Unit {0}) (λ before number after. Unit {0}) is_fair limits capacities bodies ended
-
-abbrev pub HasNoEndByAny : {T : Type 0} → Bool → Limits → List ℕ → List T → Type 0
-HasNoEndByAny is_fair limits capacities bodies = HasNoEnd (λ before told asked after. Unit {0}) (λ before number after. Unit {0}) is_fair limits capacities bodies

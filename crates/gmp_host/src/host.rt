@@ -4,7 +4,7 @@ ghost use Rattle.gmp_turn.specs.Whole.{IsWholeRun};
 ghost use Rattle.gmp_seq.specs.Fits.{AreLimits};
 ghost use Rattle.gmp_host.specs.Ends.{IsOfLegalRun, IsOfPieces, StopsPieces, TakesLeft};
 ghost use Rattle.gmp_host.specs.Openings.{limits_of};
-ghost use Rattle.gmp_host.specs.Played.{HasNoEndByAny, IsPlayedByAny};
+ghost use Rattle.gmp_host.specs.Played.{BoxAnswers, BoxAsks, HasNoEnd, IsPlayedOut};
 ghost use Rattle.gmp_run.specs.Counts.{all_calls};
 
 use crate::channel::Channel;
@@ -178,9 +178,13 @@ impl Host {
     /// Runs the goroutines by a core in this thread, the same every time. All entries have to be kept.
     pub fn step(self) -> Result<Ended, Short>
         ensures ended { IfOk result (IsOfLegalRun (limits_of self.settings) self.capacities.items (length self.bodies.items)) }
-        // Its machines, which are fair as the settings say, act in turn, and each choice is the first.
-        ensures played { IfOk result (IsPlayedByAny self.settings.fair (limits_of self.settings) self.capacities.items self.bodies.items) }
-        ensures endless { IfErr result (λ e. e ≡ Short.NoEnd → HasNoEndByAny self.settings.fair (limits_of self.settings) self.capacities.items self.bodies.items) }
+        // Its machines, which are fair as the settings say, act in turn, and each choice is the first. What a body asks when it is resumed, and
+        // what its blocking call answers, is what the body in the box says of itself.
+        ensures played { IfOk result (IsPlayedOut (BoxAsks (λ box body. record box { value = body }) resumed) (BoxAnswers (λ box body. record box { value = body }) blocked)
+            self.settings.fair (limits_of self.settings) self.capacities.items self.bodies.items) }
+        ensures endless { IfErr result (λ e. e ≡ Short.NoEnd
+            → HasNoEnd (BoxAsks (λ box body. record box { value = body }) resumed) (BoxAnswers (λ box body. record box { value = body }) blocked)
+            self.settings.fair (limits_of self.settings) self.capacities.items self.bodies.items) }
         ensures whole { OnOk result (self.settings.entries ≤ self.settings.room) }
         ensures limits { IfErr result (λ e. e ≡ Short.BadLimits
             → IsWholeRun (limits_of self.settings) (length self.bodies.items) self.capacities.items → ⊥) }

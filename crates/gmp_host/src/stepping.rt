@@ -16,8 +16,7 @@ use std::marker::Model;
 /// The most acts, for each machine.
 const MOST_ACTS: u32 = 1_000_000;
 
-/// A body that a machine of a core has in hand. Each says by two relations of its own what it does. A run has it as a parameter, and no box:
-/// what a box's goroutine does, no contract here says.
+/// A body that a machine of a core has in hand. Each says by two relations of its own what it does. A run has it as a parameter, and no box.
 pub(crate) trait InHand: Drop {
     ghost use Rattle.std.specs.Prelude.{ℕ};
     ghost use Rattle.gmp_base.specs.declared.ask.Ask.{Ask};
@@ -38,10 +37,13 @@ pub(crate) trait InHand: Drop {
         ensures { called self.old result self.new };
 }
 
+/// A box does what the body in it says of itself, and is the same box afterwards.
 impl InHand for Boxed {
-    ghost resumed = { λ _ _ _ _. Unit {0} };
+    ghost use Rattle.gmp_host.specs.Played.{BoxAnswers, BoxAsks};
 
-    ghost called = { λ _ _ _. Unit {0} };
+    ghost resumed = { BoxAsks (λ box body. record box { value = body }) (λ box. (Body-box box).resumed box.value) };
+
+    ghost called = { BoxAnswers (λ box body. record box { value = body }) (λ box. (Body-box box).blocked box.value) };
 
     fn goes_on(&mut self, woke: Woke) -> Ask {
         resume_boxed(self, woke)
