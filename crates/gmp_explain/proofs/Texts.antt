@@ -9,7 +9,9 @@ use Rattle.gmp_trace.specs.declared.bad.Bad.{Bad}
 use Rattle.gmp_trace.specs.declared.bad.Why.{Why}
 use Rattle.gmp_trace.specs.declared.bad.Why.TheVariants as why
 use Rattle.gmp_trace.specs.Reading.{IsFault}
-use Rattle.gmp_check_cli.specs.Check.{said_of}
+use Rattle.gmp_trace.specs.Text.{Content}
+use Rattle.gmp_check.specs.Checked.{IsFirstBad}
+use Rattle.gmp_check_cli.specs.Check.{IsJudged, said_of}
 use Rattle.gmp_words.specs.declared.said.Said.{Said}
 use Rattle.gmp_words.specs.declared.said.Said.TheVariants as said
 use Rattle.gmp_explain.specs.declared.fact.Fact.{Fact}
@@ -58,6 +60,17 @@ no_step_fault bytes line what is fault = let found = subst (IsFault bytes line) 
 
 pub no_end_fault : (bytes : List ℕ) (line : ℕ) (what : Why) → what ≡ why.Outcome → IsFault bytes line what → ⊥
 no_end_fault bytes line what is fault = let found = subst (IsFault bytes line) is fault in found.fault.fault
+
+-- and so nothing is to be shown of such a line
+pub unread_never : (o : Option (List ℕ)) (x : Said) (what : Why) (P : Bad → List ℕ → Type 0) → ((bytes : List ℕ) (line : ℕ) (w : Why) → w ≡ what → IsFault bytes line w → ⊥)
+    → ((bad : Bad) → x ≡ said.BadTrace bad → IfSome o (λ all. IsFault all bad.line bad.why)) → IfSome o (λ all. (bad : Bad) → x ≡ said.BadTrace bad → bad.why ≡ what → P bad all)
+unread_never (Some all) x what P never unread = λ bad is same. absurd (never all bad.line bad.why same (unread bad is))
+unread_never None x what P never unread = tt
+
+-- of a trace that was judged so, this is the first wrong line
+pub first_bad : (x : Content) (wrong : Option Bad) (bad : Bad) → wrong ≡ Some bad → IsJudged x wrong → IsFirstBad x bad
+first_bad x None bad is judged = absurd cc
+first_bad x (Some b) bad is judged = let same : b ≡ bad = cc in subst (IsFirstBad x) same judged.first
 
 -- the line that is called bad is the one that was found
 pub found_bad : (wrong : Option Bad) (x : Said) (bad : Bad) → (x ≡ said_of wrong) ⊎ (x ≡ said.OutOfMemory) → x ≡ said.BadTrace bad → wrong ≡ Some bad

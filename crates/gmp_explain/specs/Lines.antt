@@ -6,11 +6,14 @@ use Rattle.gmp_base.specs.declared.number.GNo.{GNo}
 use Rattle.gmp_seq.specs.declared.call.Entry.{Entry}
 use Rattle.gmp_seq.specs.declared.call.Limits.{Limits}
 use Rattle.gmp_seq.specs.State.{State}
+use Rattle.gmp_trace.specs.declared.bad.Bad.{Bad}
 use Rattle.gmp_trace.specs.declared.bad.Why.{Why}
 use Rattle.gmp_trace.specs.declared.bad.Why.TheVariants.{Step, Outcome}
+use Rattle.gmp_trace.specs.HasText.{HasText}
 use Rattle.gmp_trace.specs.Text.{Content, end_of}
 use Rattle.gmp_words.specs.declared.said.Said.{Said}
 use Rattle.gmp_words.specs.declared.said.Said.TheVariants.{Nothing, BadTrace}
+use Rattle.gmp_check.specs.Checked.{IsFirstBad}
 use Rattle.gmp_check_cli.specs.Check.{IsJudged, IsRead}
 use Rattle.gmp_walk.specs.Led.{IsWalked}
 use Rattle.gmp_explain.specs.declared.fact.Fact.{Fact}
@@ -120,10 +123,12 @@ pub record SaysRiddle (x : Content) (text : List ℕ) : Type 0 where
   pub walked : IsWalked x n last
   pub says : IfSome (slice_get x.entries n) (λ e. SaysEntry x.limits last e text)
 
--- the bytes are the text of a trace of which it does so
-pub record SolvesText (bytes text : List ℕ) : Type 0 where
+-- the bytes are the text of a trace whose first wrong line is this, and of which it does so
+pub record SolvesText (bad : Bad) (bytes text : List ℕ) : Type 0 where
   pub trace : Content
+  pub has_text : HasText trace
   pub read : IsRead bytes trace
+  pub wrong : IsFirstBad trace bad
   pub says : SaysRiddle trace text
 
 -- told was the end to which the trace's entries lead
@@ -140,8 +145,10 @@ pub record SaysEnd (x : Content) (text : List ℕ) : Type 0 where
   pub walked : IsWalked x n last
   pub line : text ≡ lines_of (fact.Leads (end_of last.outcome))
 
--- the bytes are the text of a trace of which it is so
-pub record LeadsText (bytes text : List ℕ) : Type 0 where
+-- the bytes are the text of a trace whose first wrong line is this, and of which it is so
+pub record LeadsText (bad : Bad) (bytes text : List ℕ) : Type 0 where
   pub trace : Content
+  pub has_text : HasText trace
   pub read : IsRead bytes trace
+  pub wrong : IsFirstBad trace bad
   pub says : SaysEnd trace text

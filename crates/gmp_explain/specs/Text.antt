@@ -1,5 +1,5 @@
 -- The text of each fact.
-use Rattle.std.specs.Prelude.{ℕ, ◌+◌, ◌-◌, ◌==◌, Bool, Option, None, Some, List, [], ◌∷◌, ◌++◌, length, if◌then◌else◌, codes, decimal}
+use Rattle.std.specs.Prelude.{ℕ, ◌+◌, ◌-◌, ◌==◌, Option, None, Some, List, [], ◌∷◌, ◌++◌, length, if◌then◌else◌, codes, decimal}
 use Rattle.std.specs.List.{flat_map, slice_index_or}
 use Rattle.std.specs.Str.Lossy.{utf8_valid_len}
 use Rattle.gmp_base.specs.declared.number.CNo.{CNo}

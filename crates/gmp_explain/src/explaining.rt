@@ -133,7 +133,7 @@ fn explain_trace(alloc: Global, json: bool, judgement: &Judgement) -> Explained
 /// It ends as `check` does, but for the output, which it doesn't write: the facts of a right trace, and those that say why a step or an end
 /// is none, are to be written behind what is said of the end. What is told of its progress ends before that.
 ///
-/// Facts that are not told are missed for want of memory alone: of a right trace it ends so, and a wrong line is named all the same.
+/// Where memory for them was wanting there are no facts: of a right trace it ends so, and a wrong line is named all the same.
 pub fn explain<R: Read, P: Progress>(
     alloc: Global,
     json: bool,
@@ -142,17 +142,17 @@ pub fn explain<R: Read, P: Progress>(
 ) -> Explained
     ensures passed { result.ended.said ≡ Nothing → IfSome (R.remaining reader.old) HasRightTrace }
     ensures status { result.ended.status ≡ 0 ↔ result.ended.said ≡ Nothing }
-    // Of a right trace there are facts, or it is said that memory was wanting.
+    // Where nothing is wrong there are facts.
     ensures there { result.ended.said ≡ Nothing → IsOk result.facts }
     // Each goroutine has its line, by number, of what it does in the state to which the entries lead, and whether it is a leak.
     ensures told { IfOk result.facts (λ text. result.ended.said ≡ Nothing → json ≡ false → IfSome (R.remaining reader.old) (λ all. TellsText all (string_bytes text))) }
-    // Where an entry is no step, first its line, and then that the run was over, what its call lacks, or which replies are allowed: those that
+    // Where an entry is no step, first its line, under some number, and then that the run was over, what its call lacks, or which replies are allowed: those that
     // are called so are, and of some calls they are all.
     ensures riddle { IfOk result.facts (λ text. json ≡ false → IfSome (R.remaining reader.old) (λ all. (bad : Bad) → result.ended.said ≡ said.BadTrace bad → bad.why ≡ why.Step
-        → SolvesText all (string_bytes text))) }
+        → SolvesText bad all (string_bytes text))) }
     // Where the end is not that of the run, the end to which the entries lead.
     ensures leads { IfOk result.facts (λ text. json ≡ false → IfSome (R.remaining reader.old) (λ all. (bad : Bad) → result.ended.said ≡ said.BadTrace bad → bad.why ≡ why.Outcome
-        → LeadsText all (string_bytes text))) }
+        → LeadsText bad all (string_bytes text))) }
     // Where anything else is said there are none.
     ensures none { IfOk result.facts (λ text. has_facts result.ended.said ≡ false → string_bytes text ≡ []) }
 

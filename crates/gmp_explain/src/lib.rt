@@ -4,9 +4,10 @@
 //!
 //! **Invariant**: the text is the lines of the facts that are told, one after another, each in its own words (`Lines`: `told`). What is told
 //! of goroutines is read off the state to which the checker's own replay comes (`story_of`): what each one does and whether it is a leak, once,
-//! in order (`tell_story`; `explain`: `told`). Of an entry that is no step the first fact is its line; then either that the run was over, what
-//! the call lacks, or which replies are allowed. A reply is called so only where the checker takes it, in the words of a trace, and of the
-//! calls of `tried_of` none that is allowed is left out (`tell_riddle`, `allowed`; `explain`: `riddle`). That other facts are true, since when a goroutine does what it does, and what `--json` says, no clause speaks of.
+//! in order (`tell_story`; `explain`: `told`). Of an entry that is no step the first fact is its line, under some number; then either that the
+//! run was over, what `Replay::lacks` names, or which replies are allowed. A reply is called so only where the checker takes it, in the words of
+//! a trace, and of the calls of `tried_of` none that is allowed is left out (`tell_riddle`, `allowed`; `explain`: `riddle`). That other facts
+//! are told, or true, since when a goroutine does what it does, and what `--json` says, no clause speaks of.
 //!
 //! One fact a line, of at most 120 columns, and none twice; or the same facts as one JSON object.
 //!

@@ -1,5 +1,6 @@
+use Rattle.gmp_trace.specs.declared.bad.Why.TheVariants as why
 use Rattle.gmp_trace.specs.Text.{content}
-use Rattle.gmp_explain.proofs.Texts.{found_bad, if_ok, if_some, no_end_fault, no_step_fault}
+use Rattle.gmp_explain.proofs.Texts.{first_bad, found_bad, if_ok, if_some, no_end_fault, no_step_fault, unread_never}
 use Rattle.gmp_explain.proofs.explaining.explain.Goals as goal
 
 pub returns-in-Ok-clause-riddle : goal.returns-in-Ok-clause-riddle
@@ -9,7 +10,9 @@ returns-in-Ok-clause-riddle g c =
     if_ok c.explain_trace.result.facts (λ text says plain.
     if_some (g.R.Read.remaining c.args.reader.now) (λ all read bad is step. record {
       trace = content found.trace;
+      has_text = c.in-Ok.ensures.text;
       read = read;
+      wrong = first_bad (content found.trace) found.wrong bad (found_bad found.wrong c.explain_trace.result.ended.said bad told.said is) c.in-Ok.ensures.judged;
       says = says plain bad (found_bad found.wrong c.explain_trace.result.ended.said bad told.said is) step;
     }) c.in-Ok.ensures.read) told.riddle
 
@@ -20,14 +23,16 @@ returns-in-Ok-clause-leads g c =
     if_ok c.explain_trace.result.facts (λ text says plain.
     if_some (g.R.Read.remaining c.args.reader.now) (λ all read bad is end. record {
       trace = content found.trace;
+      has_text = c.in-Ok.ensures.text;
       read = read;
+      wrong = first_bad (content found.trace) found.wrong bad (found_bad found.wrong c.explain_trace.result.ended.said bad told.said is) c.in-Ok.ensures.judged;
       says = says plain bad (found_bad found.wrong c.explain_trace.result.ended.said bad told.said is) end;
     }) c.in-Ok.ensures.read) told.leads
 
 pub returns-in-Err-clause-riddle : goal.returns-in-Err-clause-riddle
 returns-in-Err-clause-riddle g c plain =
-    if_some (g.R.Read.remaining c.args.reader.now) (λ all unread bad is step. absurd (no_step_fault all bad.line bad.why step (unread bad is))) c.in-Err.ensures.unread
+    unread_never (g.R.Read.remaining c.args.reader.now) c.in-Err.ended.said why.Step _ no_step_fault c.in-Err.ensures.unread
 
 pub returns-in-Err-clause-leads : goal.returns-in-Err-clause-leads
 returns-in-Err-clause-leads g c plain =
-    if_some (g.R.Read.remaining c.args.reader.now) (λ all unread bad is end. absurd (no_end_fault all bad.line bad.why end (unread bad is))) c.in-Err.ensures.unread
+    unread_never (g.R.Read.remaining c.args.reader.now) c.in-Err.ended.said why.Outcome _ no_end_fault c.in-Err.ensures.unread

@@ -26,4 +26,4 @@ returns g c =
     let replay = c.args.story.now.replay in
     on_ok c.tell_replies.result
     (answer_allowed told replay.limits replay.state c.args.entry.now c.outcome.result c.args.sink.now c.tell_replies.new.sink c.outcome.ensures.value (sym c.is_some.ensures ∙ c.if-is_some.false)
-    c.in-None.ensures) c.tell_replies.ensures
+    c.in_default.ensures) c.tell_replies.ensures

@@ -1,4 +1,4 @@
-use Rattle.std.proofs.Common.{ℕ, List, Some, [], ap, refl, ◌∙◌}
+use Rattle.std.proofs.Common.{ℕ, List, Some, [], ap, ◌∙◌}
 use Rattle.gmp_explain.specs.Spoken.{Line}
 use Rattle.gmp_explain.proofs.Parts.{on_ok}
 use Rattle.gmp_explain.proofs.ReplyWords.{entry_told}

@@ -1,4 +1,4 @@
-use Rattle.std.proofs.Common.{◌≡◌, ℕ, List, ◌++◌, codes, length, min, string_bytes, arith, ap, ◌∙◌}
+use Rattle.std.proofs.Common.{◌≡◌, ℕ, ◌++◌, codes, length, min, string_bytes, arith, ap, ◌∙◌}
 use Rattle.std.specs.Slice.Iter.{chunks_rest}
 use Rattle.gmp_explain.specs.Text.{values_text}
 use Rattle.gmp_explain.proofs.PartLemmas.{parts_added, parts_done}

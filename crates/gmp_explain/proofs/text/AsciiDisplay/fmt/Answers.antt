@@ -1,6 +1,5 @@
 use Rattle.std.proofs.Common.{◌<◌, length, rules, sym, subst, ◌∙◌}
 use Rattle.std.proofs.Output.{has_written_of_eq}
-use Rattle.std.specs.Str.Lossy.{utf8_valid_len}
 use Rattle.gmp_explain.proofs.Parts.{text_of_utf8, text_of_other}
 use Rattle.gmp_explain.proofs.text.AsciiDisplay.fmt.Goals as goal
 
