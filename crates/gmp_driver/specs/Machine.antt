@@ -9,8 +9,9 @@ use Rattle.gmp_driver.specs.declared.place.Place.TheVariants as place
 use Rattle.gmp_driver.specs.declared.registers.HeldParts.{HeldParts}
 use Rattle.gmp_driver.specs.declared.registers.Registers.{Registers}
 
--- the run, the number of processors, the place, whether another machine is to be woken for what it found, the claims since the last tick,
--- where it looks aside next, if it is fair, the pass unless it is given out, and what it holds
+-- the run, the number of processors, the place, whether another machine is to be woken for what it found, the claims since the last tick
+-- (of a fair machine the last one behind which it looked aside), where it looks aside next, if it is fair, the pass unless it is given out,
+-- and what it holds
 pub record Machine (T Q : Type 0) : Type 0 where
   pub run : ℕ
   pub procs : ℕ

@@ -227,7 +227,8 @@ next_fresh x place.Rest (told.Replied (reply.Answer true)) = true
 next_fresh x (place.MindTick now) (told.Replied (reply.Woke n)) = true
 next_fresh x here what = x.fresh
 
--- claims since the last tick, up to 16; a fair machine that may not keep its processor is late still, since it did not look aside
+-- claims since the last tick, up to 16; of a fair machine since the last tick behind which it looked aside: one that may not keep its processor is
+-- late still, and a tick for a deadline that it minds does not count
 abbrev pub next_turns : Seen → Place → Told → ℕ
 next_turns x (place.Ticking now) (told.Replied (reply.Woke n)) = 0
 next_turns x place.Keep (told.Replied (reply.Answer false)) = if is_some x.aside then 16 else x.turns

@@ -31,7 +31,7 @@ pub struct Driver<T, Q> {
     place: Place,
     /// Whether another machine is to be woken before the next claim.
     fresh: bool,
-    /// Claims since the last tick, up to 16.
+    /// Claims since the last tick, up to 16; of a fair machine since the last tick behind which it looked aside.
     turns: u8,
     /// Where it looks aside next, if it is fair.
     aside: Option<Aside>,

@@ -93,7 +93,7 @@ pub enum Place {
     Scan(PNo),
     /// Has a ticket, and takes a processor for it anew.
     Have,
-    /// Puts the ticket onto the shelf, where there was no processor.
+    /// Puts the ticket onto the shelf: there was no processor for it, or the machine is fair and has to look aside before it claims.
     PutHave,
     /// Has nothing to do. It may be told of work, of a deadline, or to look again.
     Park,

@@ -15,7 +15,7 @@ pub struct Seen {
     pub procs: u8,
     /// Whether another machine is to be woken for what was found, before the next claim.
     pub fresh: bool,
-    /// Claims since the last tick, up to 16.
+    /// Claims since the last tick, up to 16; of a fair machine since the last tick behind which it looked aside.
     pub turns: u8,
     /// Where it looks aside next. None at a machine that is not fair, which looks into its own queue as long as that has tickets.
     pub aside: Option<Aside>,

@@ -358,7 +358,8 @@ pub(crate) fn fresh_by(here: &Place, seen: Seen, reply: &Reply) -> bool
     }
 }
 
-/// Claims since the last tick, up to 16, at which the clock is read. Only a reply changes it.
+/// Claims since the last tick, up to 16; of a fair machine since the last tick behind which it looked aside. At 16 the clock is
+/// read. Only a reply changes them.
 #[inline(always)]
 pub(crate) fn next_turns(here: &Place, seen: Seen, told: &Told) -> u8
     requires { seen.turns ≤ 16 }
@@ -371,7 +372,7 @@ pub(crate) fn next_turns(here: &Place, seen: Seen, told: &Told) -> u8
     }
 }
 
-/// Claims since the last tick, up to 16, by a reply.
+/// The same claims, by a reply.
 #[inline(always)]
 pub(crate) fn turns_by(here: &Place, seen: Seen, reply: &Reply) -> u8
     requires { seen.turns ≤ 16 }

@@ -88,7 +88,7 @@ IsWithin procs None = Unit {0}
 IsWithin procs (Some (aside.Shelf v)) = v.0 < procs
 IsWithin procs (Some (aside.Queue v)) = v.0 < procs
 
--- places from which a claim may follow with no look aside before
+-- places from which a claim may follow before the machine looks aside the next time
 abbrev pub leads_to_claim : Place → Bool
 leads_to_claim place.Keep = true
 leads_to_claim place.Glance = true

@@ -43,8 +43,8 @@ pub fn queues_are_served()
         → claims_of end m ≤ claims_of k m + 32 * limits.procs * (j + 1) }
 {}
 
-/// While a ticket waits in a local queue behind j others, and one machine holds that queue's processor, that machine claims at most one
-/// ticket more for each 15 than those that stand before it: at most (j + 2) * 16 / 15.
+/// While a ticket waits in a local queue behind j others, and one machine holds that queue's processor, that machine claims at most
+/// 16 * (j + 2) / 15 tickets: of each 16 one may come from elsewhere.
 pub fn own_queue_is_served()
     ensures { (run : ℕ) (limits : Limits) (bodies : ℕ) (capacities : List ℕ) (before : List (MNo × Choice)) (k : System) (p : PNo) (r : Readiness) (j : ℕ)
         (moves : List (MNo × Choice)) (end : System) (m : MNo) → AreLimits limits bodies capacities → ActsAll (opening_system true run limits bodies capacities) before k

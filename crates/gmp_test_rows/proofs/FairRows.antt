@@ -23,7 +23,7 @@ fair = record { procs = 3; fresh = false; turns = 0; aside = Some (aside.Shelf (
 abbrev queue_next : Seen
 queue_next = record fair { aside = Some (aside.Queue (processor 2)) }
 
--- 16 claims were made since the last tick
+-- 16 claims were made since it looked aside
 abbrev late : Seen
 late = record fair { turns = 16 }
 
