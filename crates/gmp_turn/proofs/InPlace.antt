@@ -34,7 +34,7 @@ use Rattle.gmp_driver.specs.Loads.{held_of, load_of, parts_of, with_claimed, wit
 use Rattle.gmp_driver.specs.Machine.{Machine}
 use Rattle.gmp_driver.specs.Registers.{but, first_of, joined, put_value, used}
 use Rattle.gmp_driver.specs.Table.{after, next_act}
-use Rattle.gmp_turn.specs.Turns.{Turns, hand_with, handed_out, is_to_claim, load_back, told_to_driver, values_in}
+use Rattle.gmp_turn.specs.Turns.{Turns, hand_with, handed_out, is_to_claim, load_back, replied, told_to_driver, values_in, woken_by}
 use Rattle.gmp_acts.proofs.Replies.{CanReply, replies}
 use Rattle.gmp_driver.proofs.Uses.{uses}
 use Rattle.gmp_turn.proofs.Coming.{came}
@@ -448,3 +448,8 @@ module _ {T Q : Type 0} (x m1 : Machine T Q) (before behind : Pass) (book book' 
           turned x (call.Put r) before behind book book' (ticket_values book.log.run r) (ticket_values book.log.run r) x.hand (Err why) put_out put_stays
           word x' has_pass refused (same.0, same.1, refl) tt tt tt tt
           (subst (λ (m : Machine T Q). x' ≡ record (after m (told.Refused why)) { pass = Some behind }) left1 told_is)
+
+-- whether it is made or refused, a claim wakes nobody
+pub claim_wakes_nobody : (made : Result Unit Refusal) → None ≡ woken_by (replied reply.Held made)
+claim_wakes_nobody (Ok done) = refl
+claim_wakes_nobody (Err why) = refl

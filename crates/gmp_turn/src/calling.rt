@@ -57,7 +57,7 @@ pub fn turn<T, Q>(
         | Call::Park
         | Call::Tick(_) => {
             let mut reply = Reply::Done;
-            let made = alone_turn(driver, book, &call, word, false, &mut reply);
+            let made = alone_turn(driver, book, &call, word, &mut reply);
             replied(reply, made)
         }
         Call::Yield
@@ -75,7 +75,7 @@ pub fn turn<T, Q>(
         | Call::Gopark
         | Call::Ready(_) => {
             let mut reply = Reply::Done;
-            let made = own_turn(driver, book, &call, word, false, &mut reply);
+            let made = own_turn(driver, book, &call, word, &mut reply);
             replied(reply, made)
         }
         _ => turn_by_values(memory, driver, book, call, word),

@@ -1,17 +1,24 @@
-//! Turns of the calls that come most often, each in a function of its own, in which it is known which call it is: of a match on the call
-//! its arm alone is left there. In one turn for all calls every local of each arm would be zeroed in each call. None of them reads the
-//! word, of which contracts speak.
-ghost use Rattle.std.specs.Prelude.{◌≡◌, true, IfSome, IsSome};
+//! Turns of the calls that come most often, each compiled apart with its call known (`Known`): of a match on the call its arm alone is
+//! left there. In one turn for all calls every local of each arm would be zeroed in each call. None of them reads the word, of which
+//! contracts speak.
+//!
+//! The book's call is inlined into each. A turn that is inlined itself would grow larger than what the toolchain inlines.
+ghost use Rattle.std.specs.Prelude.{◌≡◌, true, None, IfSome, IsSome};
 ghost use Rattle.gmp_seq.specs.declared.call.Call.{Call as CallValue};
+ghost use Rattle.gmp_seq.specs.declared.call.Call.TheVariants as variant;
+ghost use Rattle.gmp_journal.specs.Frequent.{is_frequent};
+ghost use Rattle.gmp_journal.specs.Grants.{NeedsMemory};
+ghost use Rattle.gmp_book.specs.InPlace.{is_alone};
+ghost use Rattle.gmp_book.specs.Kinds.{is_own};
 ghost use Rattle.gmp_driver.specs.declared.act.Act.TheVariants as act;
 ghost use Rattle.gmp_driver.specs.Fits.{SuitsPlace};
 ghost use Rattle.gmp_driver.specs.Frequent.{act_of};
 ghost use Rattle.gmp_driver.specs.Table.{next_act};
-ghost use Rattle.gmp_turn.specs.Turns.{Wakes, is_call, replied, woken_by};
+ghost use Rattle.gmp_turn.specs.Turns.{Wakes, is_call};
 
 use crate::calling::woken;
-use crate::in_place::{alone_turn, claim_turn, own_turn};
-use gmp_base::{CNo, MNo, Readiness, Refusal};
+use crate::in_place::claim_turn;
+use gmp_base::{CNo, MNo, Readiness};
 use gmp_book::Book;
 use gmp_driver::{Driver, Frequent};
 use gmp_seq::{Call, Reply};
@@ -36,134 +43,158 @@ pub fn frequent_turn<T, Q>(
     ensures run { driver.new.run ≡ book.new.log.run }
 {
     match which {
-        Frequent::Take => take_turn(driver, book, word),
-        Frequent::Claim(g, epoch) => claim_by(driver, book, Readiness { g, epoch }, word),
-        Frequent::Yield => yield_turn(driver, book, word),
-        Frequent::Poke => poke_turn(driver, book, word),
-        Frequent::Send(c, v) => send_turn(driver, book, c, v, word),
-        Frequent::Recv(c) => recv_turn(driver, book, c, word),
+        Frequent::Take => alone(driver, book, Take, word),
+        Frequent::Claim(g, epoch) => {
+            // Made or refused, it wakes nobody.
+            let _ = claim_turn(driver, book, Readiness { g, epoch });
+            None
+        }
+        Frequent::Yield => own(driver, book, Yield, word),
+        Frequent::Poke => alone(driver, book, Poke, word),
+        Frequent::Send(c, v) => own(driver, book, Send(c, v), word),
+        Frequent::Recv(c) => own(driver, book, Recv(c), word),
         Frequent::Pop | Frequent::Push | Frequent::Resume | Frequent::Other => unreachable!(),
     }
 }
 
-/// The machine to wake by a reply that is written in place.
-#[inline(always)]
-fn woken_of(reply: Reply, made: Result<(), Refusal>) -> Option<MNo>
-    ensures { result ≡ woken_by (replied reply made) }
-{
-    match made {
-        Ok(()) => woken(reply),
-        Err(_) => None,
+/// A call that is known where its turn is compiled: of a match on the call its arm alone is left there.
+trait Known: Drop {
+    ghost call: { Self → CallValue };
+
+    /// The call.
+    fn call(&self) -> Call
+        ensures { result ≡ call self.now };
+}
+
+#[derive(Drop)]
+struct Take;
+
+#[derive(Drop)]
+struct Poke;
+
+#[derive(Drop)]
+struct Yield;
+
+#[derive(Drop)]
+struct Send(Option<CNo>, u64);
+
+#[derive(Drop)]
+struct Recv(Option<CNo>);
+
+impl Known for Take {
+    ghost call = { λ known. variant.Take };
+
+    #[inline(always)]
+    fn call(&self) -> Call {
+        Call::Take
     }
 }
 
-#[inline(never)]
-fn take_turn<T, Q>(driver: &mut Driver<T, Q>, book: &mut Book<T, Q>, word: u64) -> Option<MNo>
-    requires act { next_act driver.old ≡ act.Call Call.Take }
-    requires pass { IsSome driver.old.pass }
-    requires run { driver.old.run ≡ book.old.log.run }
-    requires keeps { SuitsPlace driver.old.place driver.old.hand }
-    ensures turns { Wakes driver.old book.old Call.Take word result driver.new book.new }
-    ensures fits { SuitsPlace driver.new.place driver.new.hand }
-    ensures pass { IsSome driver.new.pass }
-    ensures run { driver.new.run ≡ book.new.log.run }
-{
-    let mut reply = Reply::Done;
-    let made = alone_turn(driver, book, &Call::Take, word, true, &mut reply);
-    woken_of(reply, made)
+impl Known for Poke {
+    ghost call = { λ known. variant.Poke };
+
+    #[inline(always)]
+    fn call(&self) -> Call {
+        Call::Poke
+    }
 }
 
-#[inline(never)]
-fn poke_turn<T, Q>(driver: &mut Driver<T, Q>, book: &mut Book<T, Q>, word: u64) -> Option<MNo>
-    requires act { next_act driver.old ≡ act.Call Call.Poke }
-    requires pass { IsSome driver.old.pass }
-    requires run { driver.old.run ≡ book.old.log.run }
-    requires keeps { SuitsPlace driver.old.place driver.old.hand }
-    ensures turns { Wakes driver.old book.old Call.Poke word result driver.new book.new }
-    ensures fits { SuitsPlace driver.new.place driver.new.hand }
-    ensures pass { IsSome driver.new.pass }
-    ensures run { driver.new.run ≡ book.new.log.run }
-{
-    let mut reply = Reply::Done;
-    let made = alone_turn(driver, book, &Call::Poke, word, true, &mut reply);
-    woken_of(reply, made)
+impl Known for Yield {
+    ghost call = { λ known. variant.Yield };
+
+    #[inline(always)]
+    fn call(&self) -> Call {
+        Call::Yield
+    }
 }
 
+impl Known for Send {
+    ghost call = { λ known. variant.Send known.0 known.1 };
+
+    #[inline(always)]
+    fn call(&self) -> Call {
+        Call::Send(self.0, self.1)
+    }
+}
+
+impl Known for Recv {
+    ghost call = { λ known. variant.Recv known.0 };
+
+    #[inline(always)]
+    fn call(&self) -> Call {
+        Call::Recv(self.0)
+    }
+}
+
+/// A call that is handed the pass alone.
 #[inline(never)]
-fn claim_by<T, Q>(
+fn alone<T, Q, C: Known>(
     driver: &mut Driver<T, Q>,
     book: &mut Book<T, Q>,
-    r: Readiness,
+    known: C,
     word: u64,
 ) -> Option<MNo>
-    requires act { next_act driver.old ≡ act.Call (Call.Claim r) }
+    requires alone { is_alone (C.call known) ≡ true }
+    requires often { is_frequent (C.call known) ≡ true }
+    requires act { next_act driver.old ≡ act.Call (C.call known) }
     requires pass { IsSome driver.old.pass }
     requires run { driver.old.run ≡ book.old.log.run }
     requires keeps { SuitsPlace driver.old.place driver.old.hand }
-    ensures turns { Wakes driver.old book.old (Call.Claim r) word result driver.new book.new }
+    ensures turns { Wakes driver.old book.old (C.call known) word result driver.new book.new }
     ensures fits { SuitsPlace driver.new.place driver.new.hand }
     ensures pass { IsSome driver.new.pass }
     ensures run { driver.new.run ≡ book.new.log.run }
 {
-    let made = claim_turn(driver, book, r);
-    woken_of(Reply::Held, made)
-}
-
-#[inline(never)]
-fn yield_turn<T, Q>(driver: &mut Driver<T, Q>, book: &mut Book<T, Q>, word: u64) -> Option<MNo>
-    requires act { next_act driver.old ≡ act.Call Call.Yield }
-    requires pass { IsSome driver.old.pass }
-    requires run { driver.old.run ≡ book.old.log.run }
-    requires keeps { SuitsPlace driver.old.place driver.old.hand }
-    ensures turns { Wakes driver.old book.old Call.Yield word result driver.new book.new }
-    ensures fits { SuitsPlace driver.new.place driver.new.hand }
-    ensures pass { IsSome driver.new.pass }
-    ensures run { driver.new.run ≡ book.new.log.run }
-{
+    let call = known.call();
     let mut reply = Reply::Done;
-    let made = own_turn(driver, book, &Call::Yield, word, true, &mut reply);
-    woken_of(reply, made)
+    let mut pass = driver.give_pass();
+    match book.call_alone(&mut pass, &call, word, true, &mut reply) {
+        Ok(()) => {
+            driver.got_ticket(reply.ticket());
+            driver.got_reply(pass, &reply);
+            woken(reply)
+        }
+        Err(why) => {
+            driver.got_refusal(pass, why);
+            None
+        }
+    }
 }
 
+/// A call of the goroutine that runs, which takes no memory.
 #[inline(never)]
-fn send_turn<T, Q>(
+fn own<T, Q, C: Known>(
     driver: &mut Driver<T, Q>,
     book: &mut Book<T, Q>,
-    c: Option<CNo>,
-    v: u64,
+    known: C,
     word: u64,
 ) -> Option<MNo>
-    requires act { next_act driver.old ≡ act.Call (Call.Send c v) }
+    requires own { is_own (C.call known) ≡ true }
+    requires plain { NeedsMemory (C.call known) None }
+    requires often { is_frequent (C.call known) ≡ true }
+    requires act { next_act driver.old ≡ act.Call (C.call known) }
     requires pass { IsSome driver.old.pass }
     requires run { driver.old.run ≡ book.old.log.run }
     requires keeps { SuitsPlace driver.old.place driver.old.hand }
-    ensures turns { Wakes driver.old book.old (Call.Send c v) word result driver.new book.new }
+    ensures turns { Wakes driver.old book.old (C.call known) word result driver.new book.new }
     ensures fits { SuitsPlace driver.new.place driver.new.hand }
     ensures pass { IsSome driver.new.pass }
     ensures run { driver.new.run ≡ book.new.log.run }
 {
+    let call = known.call();
     let mut reply = Reply::Done;
-    let made = own_turn(driver, book, &Call::Send(c, v), word, true, &mut reply);
-    woken_of(reply, made)
-}
-
-#[inline(never)]
-fn recv_turn<T, Q>(
-    driver: &mut Driver<T, Q>,
-    book: &mut Book<T, Q>,
-    c: Option<CNo>,
-    word: u64,
-) -> Option<MNo>
-    requires act { next_act driver.old ≡ act.Call (Call.Recv c) }
-    requires pass { IsSome driver.old.pass }
-    requires run { driver.old.run ≡ book.old.log.run }
-    requires keeps { SuitsPlace driver.old.place driver.old.hand }
-    ensures turns { Wakes driver.old book.old (Call.Recv c) word result driver.new book.new }
-    ensures fits { SuitsPlace driver.new.place driver.new.hand }
-    ensures pass { IsSome driver.new.pass }
-    ensures run { driver.new.run ≡ book.new.log.run }
-{
-    let mut reply = Reply::Done;
-    let made = own_turn(driver, book, &Call::Recv(c), word, true, &mut reply);
-    woken_of(reply, made)
+    let mut pass = driver.give_pass();
+    let mut held = driver.give_held();
+    match book.call_own(&mut pass, &call, &mut held, word, true, &mut reply) {
+        Ok(()) => {
+            driver.got_held(held, reply.ticket());
+            driver.got_reply(pass, &reply);
+            woken(reply)
+        }
+        Err(why) => {
+            driver.got_held(held, None);
+            driver.got_refusal(pass, why);
+            None
+        }
+    }
 }

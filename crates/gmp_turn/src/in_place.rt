@@ -7,7 +7,6 @@ ghost use Rattle.gmp_driver.specs.Table.{next_act};
 ghost use Rattle.gmp_journal.specs.Grants.{NeedsMemory};
 ghost use Rattle.gmp_book.specs.InPlace.{is_alone};
 ghost use Rattle.gmp_book.specs.Kinds.{is_own};
-ghost use Rattle.gmp_journal.specs.Frequent.{is_frequent};
 ghost use Rattle.gmp_turn.specs.Turns.{Turns, replied};
 
 use gmp_base::{Readiness, Refusal};
@@ -16,16 +15,14 @@ use gmp_driver::Driver;
 use gmp_seq::{Call, Reply};
 
 /// A call of the goroutine that runs, which takes no memory.
-#[inline(always)]
+#[inline(never)]
 pub(crate) fn own_turn<T, Q>(
     driver: &mut Driver<T, Q>,
     book: &mut Book<T, Q>,
     call: &Call,
     word: u64,
-    frequent: bool,
     out: &mut Reply,
 ) -> Result<(), Refusal>
-    requires often { frequent ≡ true → is_frequent call.now ≡ true }
     requires own { is_own call.now ≡ true }
     requires plain { NeedsMemory call.now None }
     requires act { next_act driver.old ≡ act.Call call.now }
@@ -39,7 +36,7 @@ pub(crate) fn own_turn<T, Q>(
 {
     let mut pass = driver.give_pass();
     let mut held = driver.give_held();
-    match book.call_own(&mut pass, call, &mut held, word, frequent, out) {
+    match book.call_own(&mut pass, call, &mut held, word, false, out) {
         Ok(()) => {
             driver.got_held(held, out.ticket());
             driver.got_reply(pass, out);
@@ -54,16 +51,14 @@ pub(crate) fn own_turn<T, Q>(
 }
 
 /// A call that is handed nothing. A take, and no other, gives out a ticket, which is to claim.
-#[inline(always)]
+#[inline(never)]
 pub(crate) fn alone_turn<T, Q>(
     driver: &mut Driver<T, Q>,
     book: &mut Book<T, Q>,
     call: &Call,
     word: u64,
-    frequent: bool,
     out: &mut Reply,
 ) -> Result<(), Refusal>
-    requires often { frequent ≡ true → is_frequent call.now ≡ true }
     requires alone { is_alone call.now ≡ true }
     requires act { next_act driver.old ≡ act.Call call.now }
     requires pass { IsSome driver.old.pass }
@@ -75,7 +70,7 @@ pub(crate) fn alone_turn<T, Q>(
     ensures run { driver.new.run ≡ book.new.log.run }
 {
     let mut pass = driver.give_pass();
-    match book.call_alone(&mut pass, call, word, frequent, out) {
+    match book.call_alone(&mut pass, call, word, false, out) {
         Ok(()) => {
             driver.got_ticket(out.ticket());
             driver.got_reply(pass, out);
@@ -89,7 +84,7 @@ pub(crate) fn alone_turn<T, Q>(
 }
 
 /// A put: the ticket to store goes onto the shelf, or where there is none the one to claim.
-#[inline(always)]
+#[inline(never)]
 pub(crate) fn put_turn<T, Q>(
     driver: &mut Driver<T, Q>,
     book: &mut Book<T, Q>,
@@ -120,7 +115,7 @@ pub(crate) fn put_turn<T, Q>(
 }
 
 /// A claim: the body goes from its place in the book into the register.
-#[inline(always)]
+#[inline(never)]
 pub(crate) fn claim_turn<T, Q>(
     driver: &mut Driver<T, Q>,
     book: &mut Book<T, Q>,
