@@ -4,8 +4,8 @@ use Rattle.gmp_base.specs.declared.ask.Ask.{Ask}
 use Rattle.gmp_base.specs.declared.ask.Woke.{Woke}
 use Rattle.gmp_seq.specs.declared.call.Limits.{Limits}
 use Rattle.gmp_script.specs.Script.{AsksNext, Commands, asked_last}
-use Rattle.gmp_rounds.specs.Plays as rounds
-use Rattle.gmp_rounds.specs.Stage as stage
+use Rattle.gmp_core.specs.Plays as rounds
+use Rattle.gmp_core.specs.Stage as stage
 use Rattle.gmp_cli.specs.Clock.{ClockState, clock_after, reading, unread}
 
 -- a body asks what its next command asks, whatever it is told, and the clock stays

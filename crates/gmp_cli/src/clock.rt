@@ -2,7 +2,7 @@
 //! trace of a script is the same each time, and a script can show a clock that goes back.
 
 use gmp_base::{Ask, Body, Woke};
-use gmp_rounds::Outside;
+use gmp_core::Outside;
 use gmp_script::ScriptBody;
 use std::marker::Model;
 

@@ -10,7 +10,7 @@ ghost use Rattle.gmp_cli.specs.Step.{WritesRun, WritesTrace};
 
 use crate::clock::Clock;
 use gmp_base::Refusal;
-use gmp_rounds::Player;
+use gmp_core::Player;
 use gmp_script::Script;
 use gmp_trace::{BeginningView, End, TraceView, write_view};
 use gmp_words::{Ended, MAX_SCRIPT, Said, Settings, script};

@@ -13,3 +13,5 @@ pub mod Moves
 pub mod Wanting
 pub mod Lent
 pub mod Served
+pub mod Turns
+pub mod Dealt

@@ -7,3 +7,5 @@ pub mod Opening
 pub mod Lending
 pub mod Pieces
 pub mod Waits
+pub mod Stage
+pub mod Plays

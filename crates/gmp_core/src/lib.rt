@@ -12,19 +12,31 @@
 //! `Core::open` refuses limits that don't fit and want of memory, and hands the bodies back. An act is not made where the run lasts and the
 //! history is full; one of a machine that isn't there, or is done, changes nothing. Only `Core::open` and a make take memory. An act is
 //! constant in time but for its call of the book.
+//!
+//! A `Player` runs a core in turn: turns go round by number, from machine 0, one act a turn, and a machine that the book has parked is passed
+//! over. So the same bodies, which get the same from outside and the same memory, make the same run: of a script a law of gmp_step_laws says
+//! it. What bodies ask and the clock shows comes from an `Outside`, whose relations the clauses cite: a caller whose outside says nothing of
+//! itself learns of the run what the core says of any. Its run is the one that the definitions name (`IsPlayed`: one act of gmp_acts after
+//! another, with what each reads).
+//!
 //! `engine` has the core, `acting` one act of it, `local` the acts at queues, `queues` these themselves, `want` what an act reads, `laws`
-//! that what is handed out and what is left are one history.
+//! that what is handed out and what is left are one history; `playing` has the player, and `choosing` what it deals each act.
 #![tactic(auto)]
 
 mod acting;
+mod choosing;
 mod copies;
 mod engine;
 mod laws;
 mod local;
 mod opening;
+mod outside;
+mod playing;
 mod queues;
 mod want;
 
 pub use engine::Core;
 pub use laws::pieces_are_one_history;
+pub use outside::Outside;
+pub use playing::Player;
 pub use want::Want;

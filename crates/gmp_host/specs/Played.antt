@@ -5,8 +5,8 @@ use Rattle.gmp_base.specs.declared.ask.Ask.{Ask}
 use Rattle.gmp_base.specs.declared.ask.Woke.{Woke}
 use Rattle.gmp_seq.specs.declared.call.Limits.{Limits}
 use Rattle.gmp_acts.specs.System.{BookRun}
-use Rattle.gmp_rounds.specs.Plays.{IsPlayed}
-use Rattle.gmp_rounds.specs.Stage.{Stage, opening_stage}
+use Rattle.gmp_core.specs.Plays.{IsPlayed}
+use Rattle.gmp_core.specs.Stage.{Stage, opening_stage}
 use Rattle.gmp_host.specs.declared.ending.Ended.{Ended}
 
 -- the clock shows the moment that it showed, or the deadline that is minded, whichever is later

@@ -7,7 +7,7 @@ ghost use Rattle.gmp_host.specs.Played.{EndsSo, HasNoEnd, IsPlayedOut};
 use crate::ending::{Ended, Short};
 use crate::note::Note;
 use gmp_base::{Ask, Woke};
-use gmp_rounds::{Outside, Player};
+use gmp_core::{Outside, Player};
 use gmp_seq::Limits;
 use gmp_worker::{Boxed, block_boxed, resume_boxed};
 use std::alloc::Global;

@@ -18,8 +18,8 @@ use Rattle.gmp_acts.specs.System.{System, machine_at}
 use Rattle.gmp_core.specs.declared.want.Want.{Want}
 use Rattle.gmp_core.specs.declared.want.Want.TheVariants as want
 use Rattle.gmp_core.specs.Whole.{TakesFixed, Whole, wanted_by}
-use Rattle.gmp_rounds.specs.Plays.{IsDealt, IsSettled, PlaysOne}
-use Rattle.gmp_rounds.specs.Stage.{AreParked, HasTurn, IsOver, machines_of, parked}
+use Rattle.gmp_core.specs.Plays.{IsDealt, IsSettled, PlaysOne}
+use Rattle.gmp_core.specs.Stage.{AreParked, HasTurn, IsOver, machines_of, parked}
 use Rattle.gmp_script.specs.Script.{AsksNext, Commands, asked_last}
 use Rattle.gmp_cli.specs.Clock.{ClockState}
 use Rattle.gmp_cli.specs.Plays.{AnswersCommand, AsksCommand, IsPlayed, Plays, Reads, Stage, opening_stage}

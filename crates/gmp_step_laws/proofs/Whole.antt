@@ -20,7 +20,7 @@ use Rattle.gmp_core.specs.declared.want.Want.TheVariants as want
 use Rattle.gmp_core.specs.Whole.{Whole, wanted_by}
 use Rattle.gmp_script.specs.Script.{Commands}
 use Rattle.gmp_scene.specs.Reached.{IsRunOf}
-use Rattle.gmp_rounds.specs.Plays.{IsDealt}
+use Rattle.gmp_core.specs.Plays.{IsDealt}
 use Rattle.gmp_cli.specs.Clock.{ClockState}
 use Rattle.gmp_cli.specs.Plays.{AnswersCommand, AsksCommand, IsPlayed, Plays, Reads, Stage, opening_stage}
 use Rattle.gmp_step_laws.specs.Played.{MakesAll}

@@ -2,7 +2,7 @@ use Rattle.std.proofs.Common.{◌≡◌, List, ℕ, length, ap, ◌∙◌, rules
 use Rattle.gmp_seq.specs.declared.call.Limits.{Limits}
 use Rattle.gmp_trace.specs.Text.{Content, end_of}
 use Rattle.gmp_trace.specs.Text.Begins.{AtOpening}
-use Rattle.gmp_rounds.specs.Stage as stage
+use Rattle.gmp_core.specs.Stage as stage
 use Rattle.gmp_cli.specs.Clock.{ClockState}
 use Rattle.gmp_cli.specs.Plays.{Stage, opening_stage}
 use Rattle.gmp_words.specs.Runs.{limits_of}

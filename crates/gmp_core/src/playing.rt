@@ -5,14 +5,14 @@ ghost use Rattle.gmp_base.specs.declared.refusal.Refusal.TheVariants.{BadLimits,
 ghost use Rattle.gmp_seq.specs.Fits.{AreLimits, Fits};
 ghost use Rattle.gmp_acts.specs.Headline.{Headline, SameOpening};
 ghost use Rattle.gmp_core.specs.Whole.{IsKept};
-ghost use Rattle.gmp_rounds.specs.Plays.{IsPlayed, PlaysOne, TriesOne};
-ghost use Rattle.gmp_rounds.specs.Stage.{AreParked, HasTurn, IsOver, machines_of, opening_stage};
+ghost use Rattle.gmp_core.specs.Plays.{IsPlayed, PlaysOne, TriesOne};
+ghost use Rattle.gmp_core.specs.Stage.{AreParked, HasTurn, IsOver, machines_of, opening_stage};
 
 use crate::choosing::choose;
+use crate::engine::Core;
 use crate::outside::Outside;
 use gmp_acts::Choice;
 use gmp_base::{MNo, Refusal, Refused};
-use gmp_core::Core;
 use gmp_history::History;
 use gmp_seq::{Limits, Outcome};
 use std::alloc::Global;
@@ -36,7 +36,7 @@ pub struct Player<T, O> {
 }
 
 impl<T, O> Model for Player<T, O> {
-    ghost use Rattle.gmp_rounds.specs.Stage.{IsManned, Stage};
+    ghost use Rattle.gmp_core.specs.Stage.{IsManned, Stage};
 
     ghost Value = { Stage T O };
 
@@ -154,7 +154,7 @@ impl<T: Drop, O: Outside<T> + Drop> Player<T, O> {
     }
 
     /// Every call so far, as one legal run from the opening.
-    #[tactic(auto, using(gmp_core::proofs::Before::whole_headline))]
+    #[tactic(auto, using(crate::proofs::Before::whole_headline))]
     pub fn history(&self) -> &History
         ensures entries { result.now.list ≡ self.now.core.system.book.history }
         ensures headline { let book = self.now.core.system.book in Headline book.run book.limits book.bodies book.capacities self.now.core.system }

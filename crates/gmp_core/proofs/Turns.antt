@@ -3,7 +3,7 @@ use Rattle.std.proofs.Common.{◌≡◌, ℕ, ◌+◌, ◌-◌, ◌%◌, ◌<◌
 use Rattle.std.proofs.Math.Nat.{add-mod_right, mod-add-mod, mod-eq_of_lt, mod-lt}
 use Rattle.std.proofs.lemmas.Bool.{cases_lt}
 use Rattle.gmp_acts.specs.System.{System}
-use Rattle.gmp_rounds.specs.Stage.{AreParked, machines_of, parked}
+use Rattle.gmp_core.specs.Stage.{AreParked, machines_of, parked}
 
 -- going round so many, each comes
 comes : (turn n m : ℕ) → m < n → (d : ℕ) × (d < n) × ((turn + d) % n ≡ m)

@@ -1,6 +1,6 @@
 use Rattle.std.proofs.Common.{add-one}
 use Rattle.gmp_core.proofs.Moves.{opened_on}
-use Rattle.gmp_rounds.proofs.playing.Player.play.Goals as goal
+use Rattle.gmp_core.proofs.playing.Player.play.Goals as goal
 
 pub loop-made-preserved : goal.loop-made-preserved
 loop-made-preserved g c = record {

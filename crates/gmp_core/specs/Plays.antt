@@ -12,7 +12,7 @@ use Rattle.gmp_driver.specs.Table.{next_act}
 use Rattle.gmp_core.specs.declared.want.Want.{Want}
 use Rattle.gmp_core.specs.declared.want.Want.TheVariants as want
 use Rattle.gmp_core.specs.Whole.{TakesFixed, Whole, goroutine_in_hand, wanted_by}
-use Rattle.gmp_rounds.specs.Stage.{AreParked, HasTurn, IsOver, Stage}
+use Rattle.gmp_core.specs.Stage.{AreParked, HasTurn, IsOver, Stage}
 
 -- What an act is dealt
 

@@ -1,8 +1,8 @@
 use Rattle.std.proofs.Common.{◌≡◌, ◌<◌, ℕ, true, false}
 use Rattle.gmp_driver.specs.Machine.{is_done}
 use Rattle.gmp_acts.specs.System.{machine_at}
-use Rattle.gmp_rounds.specs.Stage.{parked}
-use Rattle.gmp_rounds.proofs.playing.Player.is_over.Given as goal
+use Rattle.gmp_core.specs.Stage.{parked}
+use Rattle.gmp_core.proofs.playing.Player.is_over.Given as goal
 
 -- each machine so far is parked or done
 abbrev pub invariant-loop-m : goal.invariant-loop-m

@@ -2,9 +2,9 @@ use Rattle.std.proofs.Common.{◌≡◌, true, refl, sym, subst}
 use Rattle.gmp_acts.specs.Acts.{Acts}
 use Rattle.gmp_acts.specs.System.{System}
 use Rattle.gmp_core.specs.Whole.{IsKept, IsWhole}
-use Rattle.gmp_rounds.specs.Stage.{HasTurn, IsOver, Stage}
-use Rattle.gmp_rounds.proofs.Dealt.{fixed_same}
-use Rattle.gmp_rounds.proofs.playing.Player.advance.Goals as goal
+use Rattle.gmp_core.specs.Stage.{HasTurn, IsOver, Stage}
+use Rattle.gmp_core.proofs.Dealt.{fixed_same}
+use Rattle.gmp_core.proofs.playing.Player.advance.Goals as goal
 
 pub returns-clause-plays : goal.returns-clause-plays
 returns-clause-plays g c =

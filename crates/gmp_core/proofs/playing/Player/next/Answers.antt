@@ -1,6 +1,6 @@
 use Rattle.std.proofs.Common.{arith}
-use Rattle.gmp_rounds.proofs.Turns.{all_parked}
-use Rattle.gmp_rounds.proofs.playing.Player.next.Goals as goal
+use Rattle.gmp_core.proofs.Turns.{all_parked}
+use Rattle.gmp_core.proofs.playing.Player.next.Goals as goal
 
 pub returns-clause-none : goal.returns-clause-none
 returns-clause-none g c =

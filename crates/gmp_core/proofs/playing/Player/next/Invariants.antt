@@ -1,6 +1,6 @@
 use Rattle.std.proofs.Common.{◌≡◌, ◌<◌, ◌+◌, ◌%◌, ℕ, true}
-use Rattle.gmp_rounds.specs.Stage.{machines_of, parked}
-use Rattle.gmp_rounds.proofs.playing.Player.next.Given as goal
+use Rattle.gmp_core.specs.Stage.{machines_of, parked}
+use Rattle.gmp_core.proofs.playing.Player.next.Given as goal
 
 -- each machine so far is parked
 abbrev pub invariant-loop-passed : goal.invariant-loop-passed

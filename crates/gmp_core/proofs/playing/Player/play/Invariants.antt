@@ -1,6 +1,6 @@
 use Rattle.gmp_acts.specs.Headline.{SameOpening}
-use Rattle.gmp_rounds.specs.Plays.{Plays}
-use Rattle.gmp_rounds.proofs.playing.Player.play.Given as goal
+use Rattle.gmp_core.specs.Plays.{Plays}
+use Rattle.gmp_core.proofs.playing.Player.play.Given as goal
 
 -- so many acts were made
 abbrev pub invariant-loop-made : goal.invariant-loop-made

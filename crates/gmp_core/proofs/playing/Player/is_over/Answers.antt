@@ -1,8 +1,8 @@
 use Rattle.std.proofs.Common.{◌≡◌, ◌<◌, false, true, sym, ◌∙◌, arith, rules}
 use Rattle.gmp_driver.specs.Machine.{is_done}
 use Rattle.gmp_acts.specs.System.{machine_at}
-use Rattle.gmp_rounds.specs.Stage.{machines_of, parked}
-use Rattle.gmp_rounds.proofs.playing.Player.is_over.Goals as goal
+use Rattle.gmp_core.specs.Stage.{machines_of, parked}
+use Rattle.gmp_core.proofs.playing.Player.is_over.Goals as goal
 
 pub returns-then-not-done : goal.returns-then-not-done
 returns-then-not-done g c =

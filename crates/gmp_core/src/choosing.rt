@@ -4,12 +4,13 @@ ghost use Rattle.gmp_acts.specs.System.{machine_at};
 ghost use Rattle.gmp_driver.specs.Machine.{held_at};
 ghost use Rattle.gmp_driver.specs.Table.{next_act};
 ghost use Rattle.gmp_core.specs.Whole.{wanted_by};
-ghost use Rattle.gmp_rounds.specs.Plays.{AnswersNumber, Asks, IsDealt, IsSettled};
+ghost use Rattle.gmp_core.specs.Plays.{AnswersNumber, Asks, IsDealt, IsSettled};
 
+use crate::engine::Core;
 use crate::outside::Outside;
+use crate::want::Want;
 use gmp_acts::Choice;
 use gmp_base::{Ask, MNo};
-use gmp_core::{Core, Want};
 
 /// Chooses what the machine's next act reads: what its body asks or answers, or what the clock shows.
 pub(crate) fn choose<T, O: Outside<T>>(

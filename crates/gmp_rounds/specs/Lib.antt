@@ -1,2 +1,0 @@
-pub mod Stage
-pub mod Plays
