@@ -1,6 +1,6 @@
-//! Turns of the calls that come most often, each compiled apart with its call known (`Known`): of a match on the call its arm alone is
-//! left there. In one turn for all calls every local of each arm would be zeroed in each call. None of them reads the word, of which
-//! contracts speak.
+//! Turns of the calls that come most often. But for a claim, of which there is one turn, each is compiled apart with its call known (`Known`):
+//! of a match on the call its arm alone is left there. In one turn for all calls every local of each arm would be zeroed in each call. None
+//! of them reads the word, of which contracts speak.
 //!
 //! The book's call is inlined into each. A turn that is inlined itself would grow larger than what the toolchain inlines.
 ghost use Rattle.std.specs.Prelude.{◌≡◌, true, None, IfSome, IsSome};
@@ -43,22 +43,23 @@ pub fn frequent_turn<T, Q>(
     ensures run { driver.new.run ≡ book.new.log.run }
 {
     match which {
-        Frequent::Take => alone(driver, book, Take, word),
+        Frequent::Take => known_alone(driver, book, TakeCall, word),
         Frequent::Claim(g, epoch) => {
             // Made or refused, it wakes nobody.
             let _ = claim_turn(driver, book, Readiness { g, epoch });
             None
         }
-        Frequent::Yield => own(driver, book, Yield, word),
-        Frequent::Poke => alone(driver, book, Poke, word),
-        Frequent::Send(c, v) => own(driver, book, Send(c, v), word),
-        Frequent::Recv(c) => own(driver, book, Recv(c), word),
+        Frequent::Yield => known_own(driver, book, YieldCall, word),
+        Frequent::Poke => known_alone(driver, book, PokeCall, word),
+        Frequent::Send(c, v) => known_own(driver, book, SendCall(c, v), word),
+        Frequent::Recv(c) => known_own(driver, book, RecvCall(c), word),
         Frequent::Pop | Frequent::Push | Frequent::Resume | Frequent::Other => unreachable!(),
     }
 }
 
 /// A call that is known where its turn is compiled: of a match on the call its arm alone is left there.
 trait Known: Drop {
+    /// The call, as contracts see it.
     ghost call: { Self → CallValue };
 
     /// The call.
@@ -66,22 +67,27 @@ trait Known: Drop {
         ensures { result ≡ call self.now };
 }
 
+/// The call `take`.
 #[derive(Drop)]
-struct Take;
+struct TakeCall;
 
+/// The call `poke`.
 #[derive(Drop)]
-struct Poke;
+struct PokeCall;
 
+/// The call `yield`.
 #[derive(Drop)]
-struct Yield;
+struct YieldCall;
 
+/// The call `send`.
 #[derive(Drop)]
-struct Send(Option<CNo>, u64);
+struct SendCall(Option<CNo>, u64);
 
+/// The call `recv`.
 #[derive(Drop)]
-struct Recv(Option<CNo>);
+struct RecvCall(Option<CNo>);
 
-impl Known for Take {
+impl Known for TakeCall {
     ghost call = { λ known. variant.Take };
 
     #[inline(always)]
@@ -90,7 +96,7 @@ impl Known for Take {
     }
 }
 
-impl Known for Poke {
+impl Known for PokeCall {
     ghost call = { λ known. variant.Poke };
 
     #[inline(always)]
@@ -99,7 +105,7 @@ impl Known for Poke {
     }
 }
 
-impl Known for Yield {
+impl Known for YieldCall {
     ghost call = { λ known. variant.Yield };
 
     #[inline(always)]
@@ -108,7 +114,7 @@ impl Known for Yield {
     }
 }
 
-impl Known for Send {
+impl Known for SendCall {
     ghost call = { λ known. variant.Send known.0 known.1 };
 
     #[inline(always)]
@@ -117,7 +123,7 @@ impl Known for Send {
     }
 }
 
-impl Known for Recv {
+impl Known for RecvCall {
     ghost call = { λ known. variant.Recv known.0 };
 
     #[inline(always)]
@@ -126,9 +132,10 @@ impl Known for Recv {
     }
 }
 
-/// A call that is handed the pass alone.
+/// As `alone_turn`, of a frequent call that is known where this is compiled.
+// Not inlined: whoever makes one frequent call pays for no local of another.
 #[inline(never)]
-fn alone<T, Q, C: Known>(
+fn known_alone<T, Q, C: Known>(
     driver: &mut Driver<T, Q>,
     book: &mut Book<T, Q>,
     known: C,
@@ -161,9 +168,10 @@ fn alone<T, Q, C: Known>(
     }
 }
 
-/// A call of the goroutine that runs, which takes no memory.
+/// As `own_turn`, of a frequent call that is known where this is compiled.
+// Not inlined, as above.
 #[inline(never)]
-fn own<T, Q, C: Known>(
+fn known_own<T, Q, C: Known>(
     driver: &mut Driver<T, Q>,
     book: &mut Book<T, Q>,
     known: C,

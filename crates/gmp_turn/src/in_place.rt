@@ -1,5 +1,7 @@
-//! Turns that leave values where they are, and whose replies are written in place, but for a claim's, which is always the same. Of a call
-//! that is known to be frequent no arm of another is compiled in.
+//! Turns that leave values where they are, and whose replies are written in place, but for a claim's, which is always the same. A frequent
+//! call but a claim has a turn of its own (frequent.rt).
+//!
+//! None is inlined: each is larger than what the toolchain inlines.
 ghost use Rattle.std.specs.Prelude.{◌≡◌, ℕ, None, IsSome, true};
 ghost use Rattle.gmp_driver.specs.declared.act.Act.TheVariants as act;
 ghost use Rattle.gmp_driver.specs.Fits.{SuitsPlace};

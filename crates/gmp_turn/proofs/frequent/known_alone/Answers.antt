@@ -3,7 +3,7 @@ use Rattle.gmp_seq.specs.declared.call.Call.{Call}
 use Rattle.gmp_driver.specs.declared.act.Told.TheVariants as told
 use Rattle.gmp_turn.specs.Turns.{Wakes}
 use Rattle.gmp_turn.proofs.InPlace.{alone_moves, alone_plain, alone_suits, alone_fits, alone_refused, alone_refused_fits, alone_turned, told_fits}
-use Rattle.gmp_turn.proofs.frequent.alone.Goals as goal
+use Rattle.gmp_turn.proofs.frequent.known_alone.Goals as goal
 
 pub call_alone-requires-clause-still : goal.call_alone-requires-clause-still
 call_alone-requires-clause-still g c = alone_moves c.call-call.result (rw c.call-call.ensures c.requires.alone)

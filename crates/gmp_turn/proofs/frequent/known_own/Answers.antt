@@ -3,7 +3,7 @@ use Rattle.gmp_seq.specs.declared.call.Call.{Call}
 use Rattle.gmp_driver.specs.declared.act.Told.TheVariants as told
 use Rattle.gmp_turn.specs.Turns.{Wakes}
 use Rattle.gmp_turn.proofs.InPlace.{own_fits, own_refused, own_refused_fits, own_turned, told_fits}
-use Rattle.gmp_turn.proofs.frequent.own.Goals as goal
+use Rattle.gmp_turn.proofs.frequent.known_own.Goals as goal
 
 -- Answered
 
