@@ -258,7 +258,8 @@ impl<T> Core<T> {
         ensures kept { IsKept self.old.system.book.limits → IsWhole self.old.system → result ≡ length moves.now }
         ensures whole { IsWhole self.old.system → IsWhole self.new.system }
         ensures stock { self.new.stock ≡ self.old.stock }
-        // Of fair machines each claims at most so many tickets while another waits in lines: the shelf, or a local queue.
+        // Of fair machines each claims at most so many tickets while another waits in lines: the shelf, or a local queue. It follows from
+        // `calls`, and is said for whoever has no laws of gmp_fair at hand.
         ensures served { (m : MNo) (r : Readiness) (count : ℕ) → AllSteady self.old.system → m.0 < length self.old.system.machines
             → WaitsThrough m r self.old (take result moves.now) count self.new → count ≤ 32 * (self.old.system.book.limits.procs + 1) * self.old.system.book.bodies }
         ensures steady { AllSteady self.old.system → AllSteady self.new.system }
