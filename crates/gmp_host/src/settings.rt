@@ -20,8 +20,8 @@ pub struct Settings {
     pub room: u32,
     /// The words that choose among cases and victims are drawn from it on.
     pub random: u64,
-    /// Whether machines look aside every 16 claims, so that no ready goroutine is passed over for ever: also where others wake one another
-    /// without end. It changes the number of entries by a few per cent.
+    /// Whether machines look aside every 16 claims, so that while a ready goroutine stands in a line others are claimed only so often, also
+    /// where they wake one another without end. It changes the number of entries by a few per cent.
     pub fair: bool,
 }
 

@@ -39,8 +39,8 @@ AllAgree r = (m : ℕ) → m < 2 ^ 8 → AgreesWithLogs r.history.list r.logs.it
 abbrev pub IsLeast : {T : Type 0} → Report T → MNo → Type 0
 IsLeast r m = (e : Mismatch) × IsMismatch r.history.list r.logs.items e × e.m ≡ m
 
--- The entries are a legal run by these bodies: each goroutine asks what its body says, in order. It begins at the opening, and its limits are in
--- range.
+-- The entries are a legal run by these bodies: each goroutine asks what its body says, in order, and its blocking calls bring the numbers that its
+-- body says. It begins at the opening, and its limits are in range.
 pub record IsOfScript (limits : Limits) (capacities : List ℕ) (script : List Commands) (entries : List Entry) : Type 0 where
   pub within : AreLimits limits (length script) capacities
   pub last : State

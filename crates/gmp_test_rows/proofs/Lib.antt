@@ -7,3 +7,4 @@ pub mod MachineRows
 pub mod Refused
 pub mod DriverRows
 pub mod FairRows
+pub mod WaitRows

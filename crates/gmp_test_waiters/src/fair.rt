@@ -68,7 +68,8 @@ impl InTurn {
         self.turns(u64::from(m), self.after(m));
     }
 
-    /// Waits for the machine's turn. Whoever has the turn ends it by its next act, or goes out.
+    /// Waits for the machine's turn. Whoever has the turn ends it by its next act, or goes out. After `TURNS` looks it goes on all the same, so
+    /// that no run hangs.
     fn wait(&self, m: u8) {
         let (backoff, m) = (Backoff::new(), u64::from(m));
         for _ in 0..TURNS {
