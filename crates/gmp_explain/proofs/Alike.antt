@@ -1,13 +1,16 @@
--- Entries that differ in their replies alone, and which replies of those that are tried are allowed.
-use Rattle.std.proofs.Common.{zero, suc, List, [], ◌∷◌, ◌++◌, All, Contains, inl, inr, refl, sym, ap, subst, ◌∙◌, arith}
+-- Entries that differ in their replies alone, and which replies of those that are tried are allowed: none is left out.
+use Rattle.std.proofs.Common.{◌≡◌, None, Option, zero, suc, List, [], ◌∷◌, ◌++◌, All, Contains, inl, inr, refl, sym, ap, subst, ◌∙◌, arith}
 use Rattle.std.proofs.lemmas.List.Elements.{All-cons, All-nil, Contains-append_right}
 use Rattle.gmp_seq.specs.declared.call.Entry.{Entry}
 use Rattle.gmp_seq.specs.declared.call.Limits.{Limits}
+use Rattle.gmp_seq.specs.declared.call.Outcome.{Outcome}
 use Rattle.gmp_seq.specs.declared.call.Reply.{Reply}
 use Rattle.gmp_seq.specs.Run.{IsStep}
 use Rattle.gmp_seq.specs.State.{State}
+use Rattle.gmp_seq.specs.Step.{Effect}
 use Rattle.gmp_check.specs.Decides.{Leads}
-use Rattle.gmp_explain.specs.Told.{AreAlike, AreThoseAllowed, IsAllowed, Tries}
+use Rattle.gmp_explain.specs.Told.{AreAlike, AreThoseAllowed, IsAllowed, IsWhole, Tries}
+use Rattle.gmp_explain.specs.Tried.{HasAll}
 
 -- what is allowed of one is allowed of the other
 pub allowed_alike : (limits : Limits) (s : State) (a b : Entry) (r : Reply) → AreAlike a b → IsAllowed limits s a r → IsAllowed limits s b r
@@ -43,3 +46,11 @@ those_all limits s e (t ∷ tried) found r (inl (ok, rest, same, more)) (suc k, 
     subst (λ (l : List Reply). Contains l r) (sym same) (Contains-append_right (t ∷ []) rest r (those_all limits s e tried rest r more (k, omega (arith, within), is) may))
 those_all limits s e (t ∷ tried) found r (inr (out, more)) (zero, within, is) may = absurd (out (subst (IsAllowed limits s e) (sym is) may))
 those_all limits s e (t ∷ tried) found r (inr (out, more)) (suc k, within, is) may = those_all limits s e tried found r more (k, omega (arith, within), is) may
+
+-- what was found of the tried is whole
+pub whole_of : (limits : Limits) (s : State) (e : Entry) (tried found : List Reply) (last : State) → last ≡ record s { outcome = None } → HasAll e.m e.call last tried
+    → AreThoseAllowed limits s e tried found → IsWhole limits s e found
+whole_of limits s e tried found last is has those r fits allowed =
+    let lasts : s.outcome ≡ None = allowed.1.1.0 in
+    let same : last ≡ s = is ∙ ap (λ (o : Option Outcome). let x : State = record s { outcome = o } in x) (sym lasts) in
+    those_all limits s e tried found r those (has r (fits, limits, allowed.0, subst (λ (x : State). Effect limits e.m e.call r x allowed.0) (sym same) allowed.1.1.1)) allowed

@@ -1,4 +1,6 @@
+pub mod Adding
 pub mod Alike
+pub mod Deals
 pub mod PartLemmas
 pub mod Parts
 pub mod ReplyWords

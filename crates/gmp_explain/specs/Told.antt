@@ -1,5 +1,5 @@
 -- What is told of a trace is true of the state to which its entries lead.
-use Rattle.std.specs.Prelude.{◌≡◌, ◌⊎◌, ℕ, ◌+◌, true, Option, None, Some, List, [], ◌∷◌, ◌++◌, All, Contains, is_some, codes, decimal, drop, length, map}
+use Rattle.std.specs.Prelude.{◌≡◌, ◌⊎◌, ℕ, ◌+◌, Option, None, Some, List, [], ◌∷◌, ◌++◌, All, Contains, codes, decimal, drop, length, map}
 use Rattle.std.specs.List.{filter_map}
 use Rattle.gmp_seq.specs.declared.call.Entry.{Entry}
 use Rattle.gmp_seq.specs.declared.call.Limits.{Limits}
@@ -18,7 +18,6 @@ use Rattle.gmp_check.specs.Decides.{Leads}
 use Rattle.gmp_check.specs.Missing.{Lacks}
 use Rattle.gmp_walk.specs.Led.{IsWalked}
 use Rattle.gmp_explain.specs.declared.fact.Fact.{Fact}
-use Rattle.gmp_explain.specs.Tried.{tried_of}
 use Rattle.gmp_explain.specs.Spoken.{Clue, Lacking, Line, May, Past, Tells, TellsThese, clue}
 
 -- the first n entries lead to this state, which is told by its parts; they are all, or no step follows by the next
@@ -41,9 +40,9 @@ AreThoseAllowed limits s e (r ∷ tried) found =
     (IsAllowed limits s e r × (rest : List Reply) × (found ≡ r ∷ rest) × AreThoseAllowed limits s e tried rest)
     ⊎ ((IsAllowed limits s e r → ⊥) × AreThoseAllowed limits s e tried found)
 
--- of the calls of which the tried replies are known, none that is allowed and fits a trace is left out
+-- none that is allowed and fits a trace is left out
 abbrev pub IsWhole : Limits → State → Entry → List Reply → Type 0
-IsWhole limits s e found = is_some (tried_of s.table s.machines.active e.call) ≡ true → (r : Reply) → FitsReply r → IsAllowed limits s e r → Contains found r
+IsWhole limits s e found = (r : Reply) → FitsReply r → IsAllowed limits s e r → Contains found r
 
 -- they differ in their replies alone
 abbrev pub AreAlike : Entry → Entry → Type 0
@@ -65,7 +64,7 @@ reply_text reply = drop 1 (fields (reply_pieces reply))
 abbrev pub may : Reply → Clue
 may reply = May (reply_text reply)
 
--- Told was of replies that are allowed, each in its words, and of no other; of some calls none is left out.
+-- Told was of replies that are allowed, each in its words, of no other, and none is left out.
 pub record TellsAllowed {S : Type 0} (told : S → Fact → S → Type 0) (limits : Limits) (s : State) (e : Entry) (old new : S) : Type 0 where
   pub replies : List Reply
   pub right : All (IsAllowed limits s e) replies

@@ -6,7 +6,7 @@
 //! of goroutines is read off the state to which the checker's own replay comes (`story_of`): what each one does and whether it is a leak, once,
 //! in order (`tell_story`; `explain`: `told`). Of an entry that is no step the first fact is its line, under some number; then either that the
 //! run was over, what `Replay::lacks` names, or which replies are allowed. A reply is called so only where the checker takes it, in the words of
-//! a trace, and of the calls of `tried_of` none that is allowed is left out (`tell_riddle`, `allowed`; `explain`: `riddle`). That other facts
+//! a trace, and none that is allowed and fits a trace is left out (`tell_riddle`, `allowed`; `explain`: `riddle`). That other facts
 //! are told, or true, since when a goroutine does what it does, and what `--json` says, no clause speaks of.
 //!
 //! One fact a line, of at most 120 columns, and none twice; or the same facts as one JSON object.
@@ -16,6 +16,7 @@
 #![tactic(auto)]
 
 mod allowing;
+mod dealing;
 mod doing;
 mod explaining;
 mod fact;
@@ -23,6 +24,7 @@ mod heard;
 mod json;
 mod knot;
 mod lines;
+mod numbered;
 mod replies;
 mod riddle;
 mod telling;

@@ -1,29 +1,57 @@
-//! Which replies a call of a kind could have, by the numbers of the state. They are more than are allowed: each is tried by the checker.
-ghost use Rattle.std.specs.Prelude.{◌≡◌, ◌∷◌, ◌++◌, [], IfOk, IfSome, OnOk};
-ghost use Rattle.gmp_seq.specs.Table.{Table};
-ghost use Rattle.gmp_start.specs.Start.{table_of};
-ghost use Rattle.gmp_explain.specs.Tried.{goroutine_replies, machine_replies, next_word, readied_replies, tried_of};
+//! Which replies a call could have, by the numbers of the state. They are more than are allowed, and none of those is left out: each is tried
+//! by the checker.
+ghost use Rattle.std.specs.Prelude.{◌≡◌, ◌⊎◌, ◌∷◌, ◌++◌, [], Some, IfOk, OnOk, is_some, length, map};
+ghost use Rattle.gmp_seq.specs.declared.call.Reply.{Reply};
+ghost use Rattle.std.specs.Option.{option_map_or};
+ghost use Rattle.gmp_seq.specs.Channels.{capacity_at, items_at};
+ghost use Rattle.gmp_seq.specs.Table.{Table, due_answer, earlier, how_many_woken, least_of};
+ghost use Rattle.gmp_seq.specs.Waits.{close_answer};
+ghost use Rattle.gmp_start.specs.Start.{channel_of, state_of, table_of};
+ghost use Rattle.gmp_explain.specs.declared.numbered.Naming.TheVariants as Naming;
+ghost use Rattle.gmp_explain.specs.Tried.{AddsEach, Before, HasAll, IsNamed, IsOfRow, next_word, raised, row_reply};
 
-use gmp_base::{CNo, Case, Fault, GNo, MNo, PNo, Readiness};
-use gmp_seq::{Call, Direction, Goroutine, Relay, Reply, Status, Taken, Waiter};
+use crate::dealing::{of_plain, of_select};
+use crate::numbered::{Naming, of_enter, of_numbers, of_numbers_or_nothing};
+use gmp_base::{CNo, Case, Fault, GNo, MNo, Readiness};
+use gmp_seq::{Call, Goroutine, Reply, Status};
 use gmp_start::{Start, StartChannel};
-use gmp_walk::{channel_at, goroutine_at, machine_at, processor_at};
+use gmp_walk::{channel_at, goroutine_at};
 use std::alloc::{AllocError, Global};
 
-/// Whom the machine runs, or whose blocking call it makes.
-pub(crate) fn at_machine(rows: &[Goroutine], m: MNo) -> Option<GNo> {
-    let is_there = |row: &Goroutine| match row.status {
-        Status::Running(n) | Status::Calling(n) => n == m,
-        _ => false,
-    };
-    let g = rows.iter().position(is_there)?;
-    Some(goroutine_at(g))
+/// Adds a reply.
+pub(crate) fn add(out: &mut Vec<Reply>, reply: Reply) -> Result<(), AllocError>
+    ensures { OnOk result (out.new.items ≡ out.old.items ++ reply ∷ []) }
+{
+    out.push(reply)?;
+    Ok(())
 }
 
-/// The processor that the machine holds.
-pub(crate) fn held_by(last: &Start, m: MNo) -> Option<PNo> {
-    let p = last.holders.iter().position(|holder| *holder == Some(m))?;
-    Some(processor_at(p))
+/// Adds replies.
+pub(crate) fn add_all(out: &mut Vec<Reply>, more: &[Reply]) -> Result<(), AllocError>
+    ensures { OnOk result (out.new.items ≡ out.old.items ++ more.now) }
+{
+    out.extend_from_slice(more)?;
+    Ok(())
+}
+
+/// Adds a reply, if there is one.
+pub(crate) fn add_some(out: &mut Vec<Reply>, reply: Option<Reply>) -> Result<(), AllocError>
+    ensures { OnOk result (AddsEach (λ r. reply ≡ Some r) out.old.items out.new.items) }
+{
+    match reply {
+        Some(reply) => add(out, reply),
+        None => Ok(()),
+    }
+}
+
+/// The readiness behind that of this epoch.
+pub(crate) fn raised(g: GNo, epoch: u64) -> Readiness
+    ensures { result ≡ raised g epoch }
+{
+    Readiness {
+        g,
+        epoch: epoch.wrapping_add(1),
+    }
 }
 
 /// The next readiness of a goroutine.
@@ -34,319 +62,255 @@ fn next(rows: &[Goroutine], g: GNo) -> Readiness
         Some(row) => row.epoch,
         None => 0,
     };
-    Readiness {
-        g,
-        epoch: epoch.wrapping_add(1),
+    raised(g, epoch)
+}
+
+/// What a call that could be about any goroutine could be answered of this one.
+fn of_row(m: MNo, call: &Call, g: GNo, row: &Goroutine) -> Option<Reply>
+    ensures { result ≡ row_reply m call.now g row.now }
+{
+    let status = &row.status;
+    match call {
+        Call::Take => status.is_shelved().then_some(Reply::Ticket(Readiness {
+            g,
+            epoch: row.epoch,
+        })),
+        Call::Spawn => status
+            .is_startable()
+            .then_some(Reply::Ticket(raised(g, row.epoch))),
+        Call::Yield => status
+            .is_running_on(m)
+            .then_some(Reply::Shelved(raised(g, row.epoch))),
+        Call::Leave(_) => status
+            .is_calling_on(m)
+            .then_some(Reply::Shelved(raised(g, row.epoch))),
+        _ => None,
     }
 }
 
-/// The first that waits on the channel in this direction: it arrived first, and its case is the least.
-fn first_on(rows: &[Goroutine], c: CNo, direction: Direction) -> Option<Waiter> {
-    let mut first: Option<Waiter> = None;
+/// Of each goroutine.
+fn of_rows(rows: &[Goroutine], m: MNo, call: &Call, out: &mut Vec<Reply>) -> Result<(), AllocError>
+    ensures { OnOk result (AddsEach (Before (IsOfRow m call.now rows.now) (length rows.now)) out.old.items out.new.items) }
+{
     for (g, row) in rows.iter().enumerate() {
-        let Status::Waiting(wait) = &row.status else {
-            continue;
-        };
-        for offer in wait.offers.as_slice() {
-            let waiter = Waiter {
-                g: goroutine_at(g),
-                arrival: wait.arrival,
-                kind: wait.kind,
-                offer: *offer,
-            };
-            let is_first = match first {
-                Some(first) => waiter.arrival < first.arrival,
-                None => true,
-            };
-            if is_first && waiter.is_on(c, direction) {
-                first = Some(waiter);
-            }
-        }
+        add_some(out, of_row(m, call, goroutine_at(g), row))?;
     }
-    first
+    Ok(())
+}
+
+/// The same, or this where there is none.
+fn of_rows_or(
+    rows: &[Goroutine],
+    m: MNo,
+    call: &Call,
+    none: Reply,
+    out: &mut Vec<Reply>,
+) -> Result<(), AllocError>
+    ensures { OnOk result (AddsEach (λ (r : Reply). Before (IsOfRow m call.now rows.now) (length rows.now) r ⊎ (none ≡ r)) out.old.items out.new.items) }
+{
+    of_rows(rows, m, call, out)?;
+    add(out, none)
+}
+
+/// Whether it waits on the channel.
+fn is_waiting_on(status: &Status, c: CNo) -> bool
+    ensures { result ≡ is_some (close_answer c status.now) }
+{
+    match status {
+        Status::Waiting(wait) => wait.offers.first_offer_on(c).is_some(),
+        _ => false,
+    }
 }
 
 /// How many wait on the channel.
-fn how_many_wait(rows: &[Goroutine], c: CNo) -> u64 {
-    let waits = |row: &&Goroutine| match &row.status {
-        Status::Waiting(wait) => wait.offers.first_offer_on(c).is_some(),
+fn how_many_wait(rows: &[Goroutine], c: CNo) -> u64
+    ensures { (t : Table) → t.goroutines ≡ rows.now → result ≡ how_many_woken (close_answer c) t }
+{
+    rows.iter()
+        .filter(|row| is_waiting_on(&row.status, c))
+        .count() as u64
+}
+
+/// Whether its deadline has come at this moment.
+fn is_due(status: &Status, now: u64) -> bool
+    ensures { result ≡ is_some (due_answer now status.now) }
+{
+    match status {
+        Status::Waiting(wait) => match wait.until {
+            Some(until) => until <= now,
+            None => false,
+        },
         _ => false,
-    };
-    rows.iter().filter(waits).count() as u64
+    }
 }
 
 /// How many deadlines have come at this moment.
-fn how_many_due(rows: &[Goroutine], now: u64) -> u64 {
-    let is_due = |row: &&Goroutine| match row.status.deadline() {
-        Some(until) => until <= now,
-        None => false,
-    };
-    rows.iter().filter(is_due).count() as u64
+fn how_many_due(rows: &[Goroutine], now: u64) -> u64
+    ensures { (t : Table) → t.goroutines ≡ rows.now → result ≡ how_many_woken (due_answer now) t }
+{
+    rows.iter().filter(|row| is_due(&row.status, now)).count() as u64
+}
+
+/// The lesser of two deadlines, where there are two.
+fn earlier(a: Option<u64>, b: Option<u64>) -> Option<u64>
+    ensures { result ≡ earlier a b }
+{
+    match (a, b) {
+        (None, b) => b,
+        (a, None) => a,
+        (Some(x), Some(y)) => Some(x.min(y)),
+    }
 }
 
 /// The least deadline.
-fn least_deadline(rows: &[Goroutine]) -> Option<u64> {
-    let mut least: Option<u64> = None;
+fn least_deadline(rows: &[Goroutine]) -> Option<u64>
+    ensures { result ≡ least_of rows.now }
+{
+    let mut least = None;
     for row in rows {
-        if let Some(until) = row.status.deadline() {
-            least = match least {
-                Some(other) => Some(other.min(until)),
-                None => Some(until),
-            };
-        }
+        least = earlier(least, row.status.deadline());
     }
     least
 }
 
-/// All tickets that are on the shelf, or none.
-fn of_take(rows: &[Goroutine], out: &mut Vec<Reply>) -> Result<(), AllocError> {
-    out.push(Reply::Nothing)?;
-    for (g, row) in rows.iter().enumerate() {
-        if row.status.is_shelved() {
-            out.push(Reply::Ticket(Readiness {
-                g: goroutine_at(g),
-                epoch: row.epoch,
-            }))?;
-        }
-    }
-    Ok(())
-}
-
-/// A start of each goroutine that was not started, or has ended, or of none.
-fn of_spawn(rows: &[Goroutine], out: &mut Vec<Reply>) -> Result<(), AllocError> {
-    out.push(Reply::Fault(Fault::NoSuchBody))?;
-    for (g, row) in rows.iter().enumerate() {
-        if row.status.is_startable() {
-            out.push(Reply::Ticket(next(rows, goroutine_at(g))))?;
-        }
-    }
-    Ok(())
-}
-
-/// What a send may do.
-fn of_send(rows: &[Goroutine], c: CNo, out: &mut Vec<Taken>) -> Result<(), AllocError> {
-    out.push(Taken::Failed)?;
-    out.push(Taken::Sent(None))?;
-    if let Some(waiter) = first_on(rows, c, Direction::Receiving) {
-        out.push(Taken::Sent(Some(next(rows, waiter.g))))?;
-    }
-    Ok(())
-}
-
-/// What a receive may do.
-fn of_receive(
-    rows: &[Goroutine],
-    channels: &[StartChannel],
-    c: CNo,
-    out: &mut Vec<Taken>,
-) -> Result<(), AllocError> {
-    out.push(Taken::Got(0, false, None))?;
-    let first = match channels.get(usize::from(c.0)) {
-        Some(channel) => channel.items.first().copied(),
-        None => None,
+/// How many values the channel holds; none where it isn't there.
+fn length_of(channels: &[StartChannel], c: Option<CNo>) -> u64
+    ensures { result ≡ option_map_or (λ n. length (items_at (map channel_of channels.now) n)) c 0 }
+{
+    let Some(c) = c else {
+        return 0;
     };
-    if let Some(v) = first {
-        out.push(Taken::Got(v, true, None))?;
+    match channels.get(usize::from(c.0)) {
+        Some(channel) => channel.items.len() as u64,
+        None => 0,
     }
-    if let Some(waiter) = first_on(rows, c, Direction::Sending) {
-        let relay = Relay {
-            sender: next(rows, waiter.g),
-            value: waiter.offered(),
-        };
-        out.push(Taken::Got(first.unwrap_or(relay.value), true, Some(relay)))?;
-    }
-    Ok(())
 }
 
-/// What a communication may do.
-fn of_case(alloc: Global, last: &Start, case: Case) -> Result<Vec<Taken>, AllocError> {
-    let mut out = Vec::new(alloc);
-    match case {
-        Case::Send(Some(c), _) => of_send(&last.goroutines, c, &mut out)?,
-        Case::Recv(Some(c)) => of_receive(&last.goroutines, &last.channels, c, &mut out)?,
-        Case::Send(None, _) | Case::Recv(None) => {}
-    }
-    Ok(out)
-}
-
-/// A plain send or receive.
-fn of_plain(
-    alloc: Global,
-    last: &Start,
-    case: Case,
-    out: &mut Vec<Reply>,
-) -> Result<(), AllocError> {
-    out.push(Reply::Waits)?;
-    out.push(Reply::Fault(Fault::NoSuchChannel))?;
-    for taken in &of_case(alloc, last, case)? {
-        out.push(match *taken {
-            Taken::Sent(to) => Reply::Sent(to),
-            Taken::Got(v, sent, from) => Reply::Got(v, sent, from),
-            Taken::Failed => Reply::Fault(Fault::SendOnClosed),
-        })?;
-    }
-    Ok(())
-}
-
-/// A select.
-fn of_select(
-    alloc: Global,
-    last: &Start,
-    cases: &[Case],
-    out: &mut Vec<Reply>,
-) -> Result<(), AllocError> {
-    out.push(Reply::Waits)?;
-    out.push(Reply::Default)?;
-    out.push(Reply::Fault(Fault::NoSuchChannel))?;
-    for (i, case) in cases.iter().enumerate() {
-        for taken in &of_case(alloc, last, *case)? {
-            out.push(Reply::Chose(u8::try_from(i).unwrap_or(u8::MAX), *taken))?;
-        }
-    }
-    Ok(())
-}
-
-/// Adds a reply.
-pub(crate) fn add(out: &mut Vec<Reply>, reply: Reply) -> Result<(), AllocError>
-    ensures { OnOk result (out.new.items ≡ out.old.items ++ reply ∷ []) }
+/// For how many it has room.
+fn capacity_of(channels: &[StartChannel], c: Option<CNo>) -> u64
+    ensures { result ≡ option_map_or (λ n. capacity_at (map channel_of channels.now) n) c 0 }
 {
-    out.push(reply)?;
-    Ok(())
+    let Some(c) = c else {
+        return 0;
+    };
+    match channels.get(usize::from(c.0)) {
+        Some(channel) => u64::from(channel.capacity),
+        None => 0,
+    }
 }
 
-/// A close, and what is asked of a channel.
-fn of_channel(last: &Start, call: &Call, out: &mut Vec<Reply>) -> Result<(), AllocError> {
-    add(out, Reply::Fault(Fault::NoSuchChannel))?;
+/// A start and a `ready` of a goroutine, by its next readiness.
+fn of_readied(next: Readiness, out: &mut Vec<Reply>) -> Result<(), AllocError>
+    ensures { OnOk result (out.new.items ≡ out.old.items ++ Reply.Ticket next ∷ Reply.Fault Fault.NoSuchBody ∷ Reply.Fault Fault.AlreadyStarted ∷ Reply.Fault Fault.NotParked ∷ []) }
+{
+    add_all(
+        out,
+        &[
+            Reply::Ticket(next),
+            Reply::Fault(Fault::NoSuchBody),
+            Reply::Fault(Fault::AlreadyStarted),
+            Reply::Fault(Fault::NotParked),
+        ],
+    )
+}
+
+/// A make of this channel.
+fn of_make(c: CNo, out: &mut Vec<Reply>) -> Result<(), AllocError>
+    ensures { OnOk result (out.new.items ≡ out.old.items ++ Reply.Channel c ∷ Reply.Fault Fault.BadCapacity ∷ Reply.Fault Fault.TooManyChannels ∷ []) }
+{
+    add_all(
+        out,
+        &[
+            Reply::Channel(c),
+            Reply::Fault(Fault::BadCapacity),
+            Reply::Fault(Fault::TooManyChannels),
+        ],
+    )
+}
+
+/// A close that wakes so many.
+fn of_close(n: u64, out: &mut Vec<Reply>) -> Result<(), AllocError>
+    ensures { OnOk result (out.new.items ≡ out.old.items ++ Reply.Closed n ∷ Reply.Fault Fault.CloseOfClosed ∷ Reply.Fault Fault.NoSuchChannel ∷ []) }
+{
+    add_all(
+        out,
+        &[
+            Reply::Closed(n),
+            Reply::Fault(Fault::CloseOfClosed),
+            Reply::Fault(Fault::NoSuchChannel),
+        ],
+    )
+}
+
+/// A number, or a fault.
+fn of_number(n: u64, fault: Fault, out: &mut Vec<Reply>) -> Result<(), AllocError>
+    ensures { OnOk result (out.new.items ≡ out.old.items ++ Reply.Number n ∷ Reply.Fault fault ∷ []) }
+{
+    add_all(out, &[Reply::Number(n), Reply::Fault(fault)])
+}
+
+/// A park, at this least deadline.
+fn of_park(until: u64, out: &mut Vec<Reply>) -> Result<(), AllocError>
+    ensures { OnOk result (out.new.items ≡ out.old.items ++ Reply.Parked ∷ Reply.Work ∷ Reply.LookAgain ∷ Reply.AllAsleep ∷ Reply.Mind until ∷ []) }
+{
+    add_all(
+        out,
+        &[
+            Reply::Parked,
+            Reply::Work,
+            Reply::LookAgain,
+            Reply::AllAsleep,
+            Reply::Mind(until),
+        ],
+    )
+}
+
+/// A leave: its goroutine runs on by any processor, or goes onto the shelf.
+fn of_leave(last: &Start, m: MNo, call: &Call, out: &mut Vec<Reply>) -> Result<(), AllocError>
+    ensures { OnOk result (AddsEach (λ (r : Reply). Before (IsNamed Naming.Runs) (length last.now.holders.items) r
+        ⊎ Before (IsOfRow m call.now last.now.goroutines.items) (length last.now.goroutines.items) r) out.old.items out.new.items) }
+{
+    of_numbers(Naming::Runs, last.holders.len(), out)?;
+    of_rows(&last.goroutines, m, call, out)
+}
+
+/// Adds the replies that a call of this kind could have.
+fn add_candidates(last: &Start, m: MNo, call: &Call, out: &mut Vec<Reply>) -> Result<(), AllocError>
+    ensures { OnOk result (HasAll m call.now (state_of last.now) out.new.items) }
+{
+    let rows = &last.goroutines;
+    let channels = &last.channels;
     match call {
-        Call::Close(Some(c)) => {
-            add(out, Reply::Closed(how_many_wait(&last.goroutines, *c)))?;
-            add(out, Reply::Fault(Fault::CloseOfClosed))
-        }
+        Call::Take => of_rows_or(rows, m, call, Reply::Nothing, out),
+        Call::Spawn => of_rows_or(rows, m, call, Reply::Fault(Fault::NoSuchBody), out),
+        Call::Yield => of_rows(rows, m, call, out),
+        Call::Leave(_) => of_leave(last, m, call, out),
+        Call::Acquire => of_numbers_or_nothing(Naming::Proc, last.holders.len(), out),
+        Call::Poke => of_numbers_or_nothing(Naming::Wakes, last.modes.len(), out),
+        Call::Declare => of_numbers(Naming::Idle, last.holders.len(), out),
+        Call::Enter => of_enter(&last.holders, m, last.modes.len(), out),
+        Call::Send(c, v) => of_plain(last, Case::Send(*c, *v), out),
+        Call::Recv(c) => of_plain(last, Case::Recv(*c), out),
+        Call::Select(cases, _, _) => of_select(last, cases.as_slice(), out),
+        Call::Make(_) => of_make(channel_at(channels.len()), out),
+        Call::Close(Some(c)) => of_close(how_many_wait(rows, *c), out),
         Call::Close(None) => add(out, Reply::Fault(Fault::CloseOfNil)),
-        Call::Len(Some(c)) | Call::Cap(Some(c)) => match last.channels.get(usize::from(c.0)) {
-            Some(channel) if matches!(call, Call::Len(_)) => {
-                add(out, Reply::Number(channel.items.len() as u64))
-            }
-            Some(channel) => add(out, Reply::Number(u64::from(channel.capacity))),
-            None => Ok(()),
-        },
-        Call::Make(_) => {
-            add(out, Reply::Channel(channel_at(last.channels.len())))?;
-            add(out, Reply::Fault(Fault::BadCapacity))?;
-            add(out, Reply::Fault(Fault::TooManyChannels))
-        }
-        _ => add(out, Reply::Number(0)),
-    }
-}
-
-/// A start and a `ready` of a goroutine.
-fn of_readied(last: &Start, h: GNo, out: &mut Vec<Reply>) -> Result<(), AllocError>
-    ensures { OnOk result (out.new.items ≡ out.old.items ++ readied_replies (table_of last.now) h) }
-{
-    add(out, Reply::Ticket(next(&last.goroutines, h)))?;
-    add(out, Reply::Fault(Fault::NoSuchBody))?;
-    add(out, Reply::Fault(Fault::AlreadyStarted))?;
-    add(out, Reply::Fault(Fault::NotParked))
-}
-
-/// A start, a `ready`, and what a goroutine does by itself.
-fn of_goroutine(last: &Start, g: GNo, call: &Call, out: &mut Vec<Reply>) -> Result<(), AllocError>
-    ensures { OnOk result (IfSome (goroutine_replies (table_of last.now) call.now) (λ l. out.new.items ≡ out.old.items ++ l)) }
-{
-    match call {
-        Call::Go(h) | Call::Ready(h) => of_readied(last, *h, out),
-        Call::Yield => add(out, Reply::Shelved(next(&last.goroutines, g))),
-        Call::Exit => {
-            add(out, Reply::Dead)?;
-            add(out, Reply::MainEnded)
-        }
-        _ => add(out, Reply::Waits),
-    }
-}
-
-/// Calls that name any processor.
-fn of_any_processor(
-    last: &Start,
-    g: GNo,
-    call: &Call,
-    out: &mut Vec<Reply>,
-) -> Result<(), AllocError> {
-    let leaves = matches!(call, Call::Leave(_));
-    for p in 0..last.holders.len() {
-        let p = processor_at(p);
-        add(
-            out,
-            if leaves {
-                Reply::Runs(p)
-            } else {
-                Reply::Proc(p)
-            },
-        )?;
-    }
-    if leaves {
-        add(out, Reply::Shelved(next(&last.goroutines, g)))
-    } else {
-        add(out, Reply::Nothing)
-    }
-}
-
-/// Calls that give the machine's processor up.
-fn of_own_processor(
-    last: &Start,
-    p: PNo,
-    call: &Call,
-    out: &mut Vec<Reply>,
-) -> Result<(), AllocError> {
-    if matches!(call, Call::Declare) {
-        return add(out, Reply::Idle(p));
-    }
-    add(out, Reply::Entered(p, None))?;
-    for m in 0..last.modes.len() {
-        add(out, Reply::Entered(p, Some(machine_at(m))))?;
-    }
-    Ok(())
-}
-
-/// Calls of a machine for itself.
-fn of_machine(last: &Start, call: &Call, out: &mut Vec<Reply>) -> Result<(), AllocError>
-    ensures { OnOk result (IfSome (machine_replies last.now.active call.now) (λ l. out.new.items ≡ out.old.items ++ l)) }
-{
-    match call {
-        Call::Poke => {
-            add(out, Reply::Nothing)?;
-            for m in 0..last.modes.len() {
-                add(out, Reply::Wakes(machine_at(m)))?;
-            }
-            Ok(())
-        }
-        Call::Procs(_) => {
-            add(out, Reply::Number(u64::from(last.active)))?;
-            add(out, Reply::Fault(Fault::BadProcs))
-        }
-        Call::Park => {
-            for reply in [
-                Reply::Parked,
-                Reply::Work,
-                Reply::LookAgain,
-                Reply::AllAsleep,
-            ] {
-                add(out, reply)?;
-            }
-            match least_deadline(&last.goroutines) {
-                Some(until) => add(out, Reply::Mind(until)),
-                None => Ok(()),
-            }
-        }
+        Call::Len(c) => of_number(length_of(channels, *c), Fault::NoSuchChannel, out),
+        Call::Cap(c) => of_number(capacity_of(channels, *c), Fault::NoSuchChannel, out),
+        Call::Procs(_) => of_number(u64::from(last.active), Fault::BadProcs, out),
+        Call::Go(h) | Call::Ready(h) => of_readied(next(rows, *h), out),
+        Call::Exit => add_all(out, &[Reply::Dead, Reply::MainEnded]),
+        Call::Sleep(_) | Call::Gopark => add(out, Reply::Waits),
+        Call::Park => of_park(least_deadline(rows).unwrap_or(0), out),
         Call::Tick(moment) => {
             let now = last.clock.max(*moment);
-            add(out, Reply::Woke(how_many_due(&last.goroutines, now)))
+            add(out, Reply::Woke(how_many_due(rows, now)))
         }
         Call::Put(_) => add(out, Reply::Shelf),
         Call::Claim(_) => add(out, Reply::Held),
         Call::Unspin | Call::Bare => add(out, Reply::Done),
-        _ => {
-            add(out, Reply::Answer(true))?;
-            add(out, Reply::Answer(false))
+        Call::Spin | Call::Woken | Call::Keep => {
+            add_all(out, &[Reply::Answer(true), Reply::Answer(false)])
         }
     }
 }
@@ -358,29 +322,9 @@ pub(crate) fn candidates(
     m: MNo,
     call: &Call,
 ) -> Result<Vec<Reply>, AllocError>
-    ensures { IfOk result (λ v. IfSome (tried_of (table_of last.now) last.now.active call.now) (λ l. v.items ≡ l)) }
+    ensures { IfOk result (λ v. HasAll m call.now (state_of last.now) v.items) }
 {
-    let g = at_machine(&last.goroutines, m).unwrap_or(GNo(0));
     let mut out = Vec::new(alloc);
-    match call {
-        Call::Take => of_take(&last.goroutines, &mut out)?,
-        Call::Spawn => of_spawn(&last.goroutines, &mut out)?,
-        Call::Send(c, v) => of_plain(alloc, last, Case::Send(*c, *v), &mut out)?,
-        Call::Recv(c) => of_plain(alloc, last, Case::Recv(*c), &mut out)?,
-        Call::Select(cases, _, _) => of_select(alloc, last, cases.as_slice(), &mut out)?,
-        Call::Make(_) | Call::Close(_) | Call::Len(_) | Call::Cap(_) => {
-            of_channel(last, call, &mut out)?;
-        }
-        Call::Go(_) | Call::Ready(_) | Call::Yield | Call::Exit | Call::Sleep(_) | Call::Gopark => {
-            of_goroutine(last, g, call, &mut out)?;
-        }
-        Call::Acquire | Call::Leave(_) => of_any_processor(last, g, call, &mut out)?,
-        Call::Enter | Call::Declare => {
-            if let Some(p) = held_by(last, m) {
-                of_own_processor(last, p, call, &mut out)?;
-            }
-        }
-        _ => of_machine(last, call, &mut out)?,
-    }
+    add_candidates(last, m, call, &mut out)?;
     Ok(out)
 }

@@ -6,13 +6,14 @@ ghost use Rattle.gmp_explain.specs.Told.{AreAlike, IsReplyPlace, TellsAllowed, T
 
 use crate::allowing::allowed;
 use crate::fact::{Fact, Sink, Told};
-use crate::replies::{at_machine, held_by};
 use crate::telling::tell_state;
 use crate::told::Story;
-use gmp_base::{CNo, Case, GNo, MNo, Readiness};
+use gmp_base::{CNo, Case, GNo, MNo, PNo, Readiness};
 use gmp_check::{OutOfMemory, Replay};
-use gmp_seq::{Call, Entry, Reply, channel_of};
+use gmp_seq::{Call, Entry, Goroutine, Reply, Status, channel_of};
+use gmp_start::Start;
 use gmp_trace::put_entry;
+use gmp_walk::{goroutine_at, processor_at};
 use std::alloc::{AllocError, Global};
 
 /// How long the words of the reply `Nothing` are.
@@ -83,6 +84,12 @@ fn tell_goroutine<S: Sink>(story: &Story, g: GNo, sink: &mut S) -> Result<(), Al
     Ok(())
 }
 
+/// The processor that the machine holds.
+fn held_by(last: &Start, m: MNo) -> Option<PNo> {
+    let p = last.holders.iter().position(|holder| *holder == Some(m))?;
+    Some(processor_at(p))
+}
+
 /// What the machine did before the entry.
 fn tell_machine<S: Sink>(story: &Story, m: MNo, sink: &mut S) -> Result<(), AllocError>
     ensures { OnOk result (TellsThese S.told clue [] sink.old sink.new) }
@@ -99,6 +106,16 @@ fn tell_machine<S: Sink>(story: &Story, m: MNo, sink: &mut S) -> Result<(), Allo
         spins: last.spinning.get(i).copied().unwrap_or(false),
     })?;
     Ok(())
+}
+
+/// Whom the machine runs, or whose blocking call it makes.
+fn at_machine(rows: &[Goroutine], m: MNo) -> Option<GNo> {
+    let is_there = |row: &Goroutine| match row.status {
+        Status::Running(n) | Status::Calling(n) => n == m,
+        _ => false,
+    };
+    let g = rows.iter().position(is_there)?;
+    Some(goroutine_at(g))
 }
 
 /// What the goroutine at the machine did before the entry.
