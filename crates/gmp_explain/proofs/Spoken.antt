@@ -11,7 +11,7 @@ use Rattle.gmp_seq.specs.declared.status.Goroutine.{Goroutine}
 use Rattle.gmp_seq.specs.declared.status.Status.{Status}
 use Rattle.gmp_seq.specs.Table.{Table, status_at}
 use Rattle.gmp_explain.specs.declared.fact.Fact.{Fact}
-use Rattle.gmp_explain.specs.Spoken.{Clue, Does, Tells, TellsOf, TellsThese, clue, does, doing_at, doing_from, doing_of, spoken}
+use Rattle.gmp_explain.specs.Spoken.{Clue, Remark, Tells, TellsOf, TellsThese, clue, does, doing_at, doing_from, doing_of, remark}
 
 module _ {S : Type 0} (told : S → Fact → S → Type 0) where
   tells_join : (old mid new : S) (a b : List Fact) → Tells told old a mid → Tells told mid b new → Tells told old (a ++ b) new
@@ -36,12 +36,12 @@ module _ {S : Type 0} (told : S → Fact → S → Type 0) where
     behind old mid new a first rest = subst (λ (l : List X). TellsThese told pick l old new) (append-nil a) (join old mid new a [] first rest)
 
   -- one fact of something else
-  pub other : (old new : S) {x : Fact} → told old x new → spoken x ≡ None → TellsOf told [] old new
-  other old new {x} is else = record { said = x ∷ []; tells = (new, is, refl); picked = ap (λ (o : Option Does). cons_option o []) else }
+  pub other : (old new : S) {x : Fact} → told old x new → remark x ≡ None → TellsOf told [] old new
+  other old new {x} is else = record { said = x ∷ []; tells = (new, is, refl); picked = ap (λ (o : Option Remark). cons_option o []) else }
 
   -- one of a goroutine
-  pub one : (old new : S) (d : Does) {x : Fact} → told old x new → spoken x ≡ Some d → TellsOf told (d ∷ []) old new
-  one old new d {x} is says = record { said = x ∷ []; tells = (new, is, refl); picked = ap (λ (o : Option Does). cons_option o []) says }
+  pub one : (old new : S) (d : Remark) {x : Fact} → told old x new → remark x ≡ Some d → TellsOf told (d ∷ []) old new
+  one old new d {x} is says = record { said = x ∷ []; tells = (new, is, refl); picked = ap (λ (o : Option Remark). cons_option o []) says }
 
   -- one fact that is no clue
   pub no_clue : (old new : S) {x : Fact} → told old x new → clue x ≡ None → TellsThese told clue [] old new
@@ -56,8 +56,8 @@ doing_next : (o : Option Outcome) (g n : ℕ) (rows : List Goroutine) (row : Gor
     → doing_from o g (rows ++ row ∷ []) ≡ doing_from o g rows ++ does o (record { 0 = n }) row.status ∷ []
 doing_next o g n [] row is =
     let e : n ≡ g = omega (arith, is) in
-    ap (λ (k : ℕ). let d : Does = does o (record { 0 = k }) row.status in d ∷ []) (sym e)
-doing_next o g n (first ∷ rows) row is = ap (λ (l : List Does). does o (record { 0 = g }) first.status ∷ l) (doing_next o (g + 1) n rows row (omega (arith, is)))
+    ap (λ (k : ℕ). let d : Remark = does o (record { 0 = k }) row.status in d ∷ []) (sym e)
+doing_next o g n (first ∷ rows) row is = ap (λ (l : List Remark). does o (record { 0 = g }) first.status ∷ l) (doing_next o (g + 1) n rows row (omega (arith, is)))
 
 pub doing_more : (o : Option Outcome) (t : Table) (n : ℕ) (g : GNo) → g.0 ≡ n → n < length t.goroutines
     → doing_from o 0 (take (n + 1) t.goroutines) ≡ doing_from o 0 (take n t.goroutines) ++ doing_at o t g
@@ -78,7 +78,7 @@ doing_more o t n g same within =
 
 -- what a goroutine does was told, and then something else
 pub told_one : {S : Type 0} (told : S → Fact → S → Type 0) (o : Option Outcome) (t : Table) (g : GNo) (status : Status) (old mid new : S) {x : Fact} → status_at t g ≡ Some status
-    → told old x mid → spoken x ≡ Some (does o g status) → TellsOf told [] mid new → TellsOf told (doing_at o t g) old new
+    → told old x mid → remark x ≡ Some (does o g status) → TellsOf told [] mid new → TellsOf told (doing_at o t g) old new
 told_one {S} told o t g status old mid new is said says rest =
-    let d : Does = does o g status in
-    subst (λ (l : List Does). TellsOf told l old new) (sym (ap (doing_of o g) is)) (behind told old mid new (d ∷ []) (one told old mid d said says) rest)
+    let d : Remark = does o g status in
+    subst (λ (l : List Remark). TellsOf told l old new) (sym (ap (doing_of o g) is)) (behind told old mid new (d ∷ []) (one told old mid d said says) rest)

@@ -16,7 +16,7 @@ use Rattle.gmp_words.specs.declared.said.Said.{Said}
 use Rattle.gmp_words.specs.declared.said.Said.TheVariants as said
 use Rattle.gmp_explain.specs.declared.fact.Fact.{Fact}
 use Rattle.gmp_explain.specs.Lines.{AddsLines, SaysDoing, SaysEntry, lines_of}
-use Rattle.gmp_explain.specs.Spoken.{Does, Tells, TellsOf}
+use Rattle.gmp_explain.specs.Spoken.{Remark, Tells, TellsOf}
 use Rattle.gmp_explain.specs.Told.{TellsEntry}
 
 -- what was told behind these bytes has its lines there
@@ -30,8 +30,8 @@ module _ {S : Type 0} (text : S → List ℕ) where
       told_lines mid new said rest ∙ ap (λ (l : List ℕ). l ++ flat_map lines_of said) is ∙ append_assoc (text old) (lines_of x) (flat_map lines_of said)
 
   -- from no text on
-  pub says_doing : (old new : S) (does : List Does) → text old ≡ [] → TellsOf adds does old new → SaysDoing does (text new)
-  says_doing old new does none told = record {
+  pub says_doing : (old new : S) (these : List Remark) → text old ≡ [] → TellsOf adds these old new → SaysDoing these (text new)
+  says_doing old new these none told = record {
     said = told.said;
     lines = told_lines old new told.said told.tells ∙ ap (λ (l : List ℕ). l ++ flat_map lines_of told.said) none;
     doing = told.picked;

@@ -18,7 +18,7 @@ use Rattle.gmp_check_cli.specs.Check.{IsJudged, IsRead}
 use Rattle.gmp_walk.specs.Led.{IsWalked}
 use Rattle.gmp_explain.specs.declared.fact.Fact.{Fact}
 use Rattle.gmp_explain.specs.declared.fact.Fact.TheVariants as fact
-use Rattle.gmp_explain.specs.Spoken.{Does, TellsOf, doing_from, doings}
+use Rattle.gmp_explain.specs.Spoken.{Remark, TellsOf, doing_from, remarks}
 use Rattle.gmp_explain.specs.Told.{AreOfEntry, TellsEntry}
 use Rattle.gmp_explain.specs.Text.{calls_text, dealers_text, fact_text, no_step_text, values_text}
 
@@ -76,20 +76,20 @@ has_facts _ = false
 abbrev pub AddsLines : List ℕ → Fact → List ℕ → Type 0
 AddsLines old x new = new ≡ old ++ lines_of x
 
--- the text is the lines of facts, and of what goroutines do these say this
-pub record SaysDoing (does : List Does) (text : List ℕ) : Type 0 where
+-- the text is the lines of facts, and of what goroutines do, and of an entry that is no step, these say this
+pub record SaysDoing (these : List Remark) (text : List ℕ) : Type 0 where
   pub said : List Fact
   pub lines : text ≡ flat_map lines_of said
-  pub doing : doings said ≡ does
+  pub doing : remarks said ≡ these
 
--- told was what each goroutine does in the state to which the trace's entries lead, and of no goroutine anything else
+-- told was what each goroutine does in the state to which the trace's entries lead, of no goroutine anything else, and nothing as of an entry that is no step
 pub record TellsState {S : Type 0} (told : S → Fact → S → Type 0) (x : Content) (old new : S) : Type 0 where
   pub n : ℕ
   pub last : State
   pub walked : IsWalked x n last
   pub tells : TellsOf told (doing_from last.outcome 0 last.table.goroutines) old new
 
--- it says what each goroutine does in the state to which the trace's entries lead
+-- it says what each goroutine does in the state to which the trace's entries lead, and so
 pub record TellsTrace (x : Content) (text : List ℕ) : Type 0 where
   pub n : ℕ
   pub last : State
@@ -123,14 +123,6 @@ pub record SaysRiddle (x : Content) (text : List ℕ) : Type 0 where
   pub walked : IsWalked x n last
   pub says : IfSome (slice_get x.entries n) (λ e. SaysEntry x.limits last e text)
 
--- the bytes are the text of a trace whose first wrong line is this, and of which it does so
-pub record SolvesText (bad : Bad) (bytes text : List ℕ) : Type 0 where
-  pub trace : Content
-  pub has_text : HasText trace
-  pub read : IsRead bytes trace
-  pub wrong : IsFirstBad trace bad
-  pub says : SaysRiddle trace text
-
 -- told was the end to which the trace's entries lead
 pub record TellsEnd {S : Type 0} (told : S → Fact → S → Type 0) (x : Content) (old new : S) : Type 0 where
   pub n : ℕ
@@ -145,10 +137,10 @@ pub record SaysEnd (x : Content) (text : List ℕ) : Type 0 where
   pub walked : IsWalked x n last
   pub line : text ≡ lines_of (fact.Leads (end_of last.outcome))
 
--- the bytes are the text of a trace whose first wrong line is this, and of which it is so
-pub record LeadsText (bad : Bad) (bytes text : List ℕ) : Type 0 where
+-- the bytes are the text of a trace whose first wrong line is this, and of which P holds
+pub record IsWrongText (bad : Bad) (P : Content → Type 0) (bytes : List ℕ) : Type 0 where
   pub trace : Content
   pub has_text : HasText trace
   pub read : IsRead bytes trace
   pub wrong : IsFirstBad trace bad
-  pub says : SaysEnd trace text
+  pub is : P trace

@@ -1,6 +1,7 @@
 -- What is told, fact by fact.
 use Rattle.std.specs.Prelude.{◌≡◌, ℕ, ◌+◌, Bool, true, false, Option, Some, None, List, [], ◌∷◌}
 use Rattle.std.specs.List.{filter_map}
+use Rattle.std.specs.Option.{option_map}
 use Rattle.gmp_base.specs.declared.number.GNo.{GNo}
 use Rattle.gmp_seq.specs.declared.call.Outcome.{Outcome}
 use Rattle.gmp_seq.specs.declared.call.Outcome.TheVariants.{MainEnded}
@@ -12,42 +13,10 @@ use Rattle.gmp_check.specs.declared.state.needs.Need.{Need}
 use Rattle.gmp_explain.specs.declared.fact.Fact.{Fact}
 use Rattle.gmp_explain.specs.declared.fact.Fact.TheVariants as fact
 
--- a goroutine does this, and is a leak or not
-pub record Does : Type 0 where
-  pub g : GNo
-  pub status : Status
-  pub leak : Bool
-
--- what a fact says of what a goroutine does, if it does
-abbrev pub spoken : Fact → Option Does
-spoken (fact.Goroutine told) = Some (record { g = told.g; status = told.status.now; leak = told.leak })
-spoken _ = None
-
--- what was said of what goroutines do, in order
-abbrev pub doings : List Fact → List Does
-doings said = filter_map spoken said
-
 -- main ended, and it waits
 abbrev pub is_leak : Option Outcome → Status → Bool
 is_leak (Some MainEnded) (Waiting w) = true
 is_leak _ _ = false
-
--- a goroutine with this status, at this outcome of the run
-abbrev pub does : Option Outcome → GNo → Status → Does
-does o g status = record { g = g; status = status; leak = is_leak o status }
-
--- each goroutine of these, from number g on, does what its status is
-abbrev pub doing_from : Option Outcome → ℕ → List Goroutine → List Does
-doing_from o g [] = []
-doing_from o g (row ∷ rows) = does o (record { 0 = g }) row.status ∷ doing_from o (g + 1) rows
-
--- the goroutine does this, if it is there
-abbrev pub doing_of : Option Outcome → GNo → Option Status → List Does
-doing_of o g (Some status) = does o g status ∷ []
-doing_of o g None = []
-
-abbrev pub doing_at : Option Outcome → Table → GNo → List Does
-doing_at o t g = doing_of o g (status_at t g)
 
 -- what is said of an entry that is no step: its line, a reply that is allowed there in its words, or why none is
 pub data Clue : Type 0 where
@@ -64,6 +33,37 @@ clue (fact.Lacks need) = Some (Lacking need)
 clue fact.Over = Some Past
 clue _ = None
 
+-- what is said of what a goroutine does, and whether it is a leak, or of an entry that is no step
+pub data Remark : Type 0 where
+  Does : GNo → Status → Bool → Remark
+  Hint : Clue → Remark
+
+-- what a fact says of either, if it does
+abbrev pub remark : Fact → Option Remark
+remark (fact.Goroutine told) = Some (Does told.g told.status.now told.leak)
+remark x = option_map Hint (clue x)
+
+-- what was said of both, in order
+abbrev pub remarks : List Fact → List Remark
+remarks said = filter_map remark said
+
+-- a goroutine with this status, at this outcome of the run
+abbrev pub does : Option Outcome → GNo → Status → Remark
+does o g status = Does g status (is_leak o status)
+
+-- each goroutine of these, from number g on, does what its status is
+abbrev pub doing_from : Option Outcome → ℕ → List Goroutine → List Remark
+doing_from o g [] = []
+doing_from o g (row ∷ rows) = does o (record { 0 = g }) row.status ∷ doing_from o (g + 1) rows
+
+-- the goroutine does this, if it is there
+abbrev pub doing_of : Option Outcome → GNo → Option Status → List Remark
+doing_of o g (Some status) = does o g status ∷ []
+doing_of o g None = []
+
+abbrev pub doing_at : Option Outcome → Table → GNo → List Remark
+doing_at o t g = doing_of o g (status_at t g)
+
 module _ {S : Type 0} (told : S → Fact → S → Type 0) where
   -- these facts were told, one after another
   abbrev pub Tells : S → List Fact → S → Type 0
@@ -76,6 +76,6 @@ module _ {S : Type 0} (told : S → Fact → S → Type 0) where
     pub tells : Tells old said new
     pub picked : filter_map pick said ≡ these
 
-  -- facts were told, and of what goroutines do these and no others
-  abbrev pub TellsOf : List Does → S → S → Type 0
-  TellsOf does old new = TellsThese spoken does old new
+  -- facts were told, and of what goroutines do, and of an entry that is no step, these remarks and no others
+  abbrev pub TellsOf : List Remark → S → S → Type 0
+  TellsOf these old new = TellsThese remark these old new

@@ -4,7 +4,7 @@ ghost use Rattle.std.specs.Result.{MatchResult};
 ghost use Rattle.gmp_trace.specs.Text.{content};
 ghost use Rattle.gmp_trace.specs.declared.bad.Bad.{Bad};
 ghost use Rattle.gmp_trace.specs.declared.bad.Why.TheVariants as why;
-ghost use Rattle.gmp_explain.specs.Lines.{LeadsText, SaysEnd, SaysRiddle, SolvesText, TellsEnd, TellsRiddle, TellsState, TellsText, TellsTrace, has_facts};
+ghost use Rattle.gmp_explain.specs.Lines.{IsWrongText, SaysEnd, SaysRiddle, TellsEnd, TellsRiddle, TellsState, TellsText, TellsTrace, has_facts};
 ghost use Rattle.gmp_explain.specs.Told.{TellsEntry};
 ghost use Rattle.gmp_check_cli.specs.Check.{HasRightTrace, SaysOfTrace, said_of};
 ghost use Rattle.gmp_words.specs.Said.{is_of_check};
@@ -144,15 +144,15 @@ pub fn explain<R: Read, P: Progress>(
     ensures status { result.ended.status ≡ 0 ↔ result.ended.said ≡ Nothing }
     // Where nothing is wrong there are facts.
     ensures there { result.ended.said ≡ Nothing → IsOk result.facts }
-    // Each goroutine has its line, by number, of what it does in the state to which the entries lead, and whether it is a leak.
+    // Each goroutine has its line, by number, of what it does in the state to which the entries lead, and whether it is a leak; nothing is said as of a wrong entry.
     ensures told { IfOk result.facts (λ text. result.ended.said ≡ Nothing → json ≡ false → IfSome (R.remaining reader.old) (λ all. TellsText all (string_bytes text))) }
     // Where an entry is no step, first its line, under some number, and then that the run was over, what its call lacks, or which replies are allowed: those that
-    // are called so are, and of some calls they are all.
+    // are called so are, and they are all that fit a trace.
     ensures riddle { IfOk result.facts (λ text. json ≡ false → IfSome (R.remaining reader.old) (λ all. (bad : Bad) → result.ended.said ≡ said.BadTrace bad → bad.why ≡ why.Step
-        → SolvesText bad all (string_bytes text))) }
+        → IsWrongText bad (λ x. SaysRiddle x (string_bytes text)) all)) }
     // Where the end is not that of the run, the end to which the entries lead.
     ensures leads { IfOk result.facts (λ text. json ≡ false → IfSome (R.remaining reader.old) (λ all. (bad : Bad) → result.ended.said ≡ said.BadTrace bad → bad.why ≡ why.Outcome
-        → LeadsText bad all (string_bytes text))) }
+        → IsWrongText bad (λ x. SaysEnd x (string_bytes text)) all)) }
     // Where anything else is said there are none.
     ensures none { IfOk result.facts (λ text. has_facts result.ended.said ≡ false → string_bytes text ≡ []) }
 

@@ -13,7 +13,7 @@ returns-in-Ok-clause-riddle g c =
       has_text = c.in-Ok.ensures.text;
       read = read;
       wrong = first_bad (content found.trace) found.wrong bad (found_bad found.wrong c.explain_trace.result.ended.said bad told.said is) c.in-Ok.ensures.judged;
-      says = says plain bad (found_bad found.wrong c.explain_trace.result.ended.said bad told.said is) step;
+      is = says plain bad (found_bad found.wrong c.explain_trace.result.ended.said bad told.said is) step;
     }) c.in-Ok.ensures.read) told.riddle
 
 pub returns-in-Ok-clause-leads : goal.returns-in-Ok-clause-leads
@@ -26,7 +26,7 @@ returns-in-Ok-clause-leads g c =
       has_text = c.in-Ok.ensures.text;
       read = read;
       wrong = first_bad (content found.trace) found.wrong bad (found_bad found.wrong c.explain_trace.result.ended.said bad told.said is) c.in-Ok.ensures.judged;
-      says = says plain bad (found_bad found.wrong c.explain_trace.result.ended.said bad told.said is) end;
+      is = says plain bad (found_bad found.wrong c.explain_trace.result.ended.said bad told.said is) end;
     }) c.in-Ok.ensures.read) told.leads
 
 pub returns-in-Err-clause-riddle : goal.returns-in-Err-clause-riddle

@@ -17,5 +17,5 @@ returns g c =
     let leak : c.is_leak.result ≡ is_leak o status = search rules in
     on_ok c.tell_lost.result (λ last.
     told_one told o t a.g status a.sink.now c.tell.new.self c.tell_lost.new.sink is c.in_ok-tell.ensures
-    (ap (λ (b : Bool). let d : Does = record { g = a.g; status = status; leak = b } in Some d) leak)
+    (ap (λ (b : Bool). Some (Does a.g status b)) leak)
     (behind told c.tell.new.self c.tell_cases.new.sink c.tell_lost.new.sink [] c.in_ok-tell_cases.ensures last)) c.tell_lost.ensures

@@ -1,5 +1,5 @@
 use Rattle.std.proofs.Common.{refl, List, []}
-use Rattle.gmp_explain.specs.Spoken.{Does, TellsOf, doing_from}
+use Rattle.gmp_explain.specs.Spoken.{Remark, TellsOf, doing_from}
 use Rattle.gmp_explain.proofs.Parts.{on_ok}
 use Rattle.gmp_explain.proofs.Spoken.{behind, join, other}
 use Rattle.gmp_explain.proofs.telling.tell_story.Goals as goal
@@ -8,7 +8,7 @@ pub returns : goal.returns
 returns g c =
     let told = g.S.Sink.told in
     let a = c.args.sink.now in
-    let does : List Does = doing_from c.args.story.now.replay.state.outcome 0 c.args.story.now.last.goroutines.items in
+    let does : List Remark = doing_from c.args.story.now.replay.state.outcome 0 c.args.story.now.last.goroutines.items in
     let b = c.tell_goroutines.new.sink in
     let d = c.tell_channels.new.sink in
     let e = c.tell_cycles.new.sink in
