@@ -1,6 +1,7 @@
--- A desk is kept by each turn of a machine at the book.
-use Rattle.std.proofs.Common.{◌≡◌, ℕ, List, Option, None, Some, Result, Ok, Err, refl, ap, ◌∙◌}
+-- A desk and its board are kept by each turn of a machine at the book.
+use Rattle.std.proofs.Common.{◌≡◌, ℕ, List, Option, None, Some, Result, Ok, Err, slice_get, slice_set, refl, sym, ap, subst, ◌∙◌}
 use Rattle.gmp_base.specs.declared.number.MNo.{MNo}
+use Rattle.gmp_base.specs.declared.pass.Pass.{Pass}
 use Rattle.gmp_base.specs.declared.refusal.Refusal.{Refusal}
 use Rattle.gmp_history.specs.Brief.{HistoryContents}
 use Rattle.gmp_seq.specs.declared.call.Call.{Call}
@@ -11,14 +12,16 @@ use Rattle.gmp_driver.specs.declared.act.Act.{Act}
 use Rattle.gmp_driver.specs.declared.act.Act.TheVariants as act
 use Rattle.gmp_driver.specs.declared.act.Value.{Value}
 use Rattle.gmp_driver.specs.Machine.{Machine}
-use Rattle.gmp_journal.specs.Log.{entries_made}
+use Rattle.gmp_journal.specs.Log.{Log, entries_made}
 use Rattle.gmp_journal.specs.Refusals.{Says}
 use Rattle.gmp_turn.specs.Surrenders.{Surrenders, surrendered}
 use Rattle.gmp_turn.proofs.Ending.{log_after}
 use Rattle.gmp_turn.specs.Turns.{Turns}
 use Rattle.gmp_worker.specs.Turn.{TakesTurn}
 use Rattle.rand_pcg.specs.Lcg.{Lcg}
+use Rattle.gmp_run.specs.Boards.{AreCounted}
 use Rattle.gmp_run.specs.Desks.{IsDesk}
+use Rattle.gmp_run.proofs.Boards.{calls, stays}
 use Rattle.gmp_run.proofs.Desks.{recorded, unchanged}
 
 -- no line refuses what was answered
@@ -53,3 +56,36 @@ module _ {T Q S : Type 0} (run : ℕ) (first : S → Type 0) (takes refuses : S 
   kept act.Block x book g woken x' book' g' t desk counted = absurd t
   kept (act.Clock minded) x book g woken x' book' g' t desk counted = absurd t
   kept act.Nothing x book g woken x' book' g' t desk counted = absurd t
+
+-- The machines on the board, of which the one at this place makes the turn.
+module _ {T Q : Type 0} (machines : ℕ) (board : List (Machine T Q)) (at : ℕ) (left : Machine T Q) (there : slice_get board at ≡ Some left) where
+  called : (x : Machine T Q) (book : BookContents T Q) (asked : Call) (word : ℕ) (result : Result Reply Refusal) (x' : Machine T Q) (book' : BookContents T Q)
+      → Turns x book asked word result x' book' → x.pass ≡ left.pass → AreCounted book.log.state.counts machines board → AreCounted book'.log.state.counts machines (slice_set board at x')
+  called x book asked word (Ok answer) x' book' t same are =
+      subst (λ (counts : List ℕ). AreCounted counts machines (slice_set board at x')) (sym t.records.step.2)
+      (calls book.log.state.counts machines board are at left x there same x' t.before (entries_made book'.log) t.pass
+      (ap (λ (y : Machine T Q). y.pass) t.machine ∙ ap (λ (p : Pass). Some p) t.records.pass))
+  called x book asked word (Err why) x' book' t same are =
+      subst (λ (b : BookContents T Q). AreCounted b.log.state.counts machines (slice_set board at x')) (sym t.err.0)
+      (stays book.log.state.counts machines board are at left x there same x' (ap (λ (y : Machine T Q). y.pass) t.machine ∙ (ap (λ (p : Pass). Some p) t.err.1 ∙ sym t.pass)))
+
+  gives_back : (x : Machine T Q) (book : BookContents T Q) (which : Option Value) (result : Result Unit Refusal) (x' : Machine T Q) (book' : BookContents T Q)
+      → Surrenders x book which result x' book' → x.pass ≡ left.pass → AreCounted book.log.state.counts machines board → AreCounted book'.log.state.counts machines (slice_set board at x')
+  gives_back x book which result x' book' t same are =
+      let log : book'.log ≡ book.log = ap (λ (b : BookContents T Q). b.log) t.places ∙ log_after which result (surrendered x t.before which) book in
+      subst (λ (l : Log). AreCounted l.state.counts machines (slice_set board at x')) (sym log)
+      (stays book.log.state.counts machines board are at left x there same x' (ap (λ (y : Machine T Q). y.pass) t.machine ∙ sym t.pass))
+
+  pub counted : (a : Act) (x : Machine T Q) (book : BookContents T Q) (g : Lcg) (woken : Option MNo) (x' : Machine T Q) (book' : BookContents T Q) (g' : Lcg)
+      → TakesTurn a x book g woken x' book' g' → x.pass ≡ left.pass → AreCounted book.log.state.counts machines board → AreCounted book'.log.state.counts machines (slice_set board at x')
+  counted (act.Call asked) x book g woken x' book' g' t = called x book asked _ t.0 x' book' t.1
+  counted (act.Surrender which) x book g woken x' book' g' t = gives_back x book which t.0 x' book' t.1
+  counted act.Pop x book g woken x' book' g' t = absurd t
+  counted act.Drain x book g woken x' book' g' t = absurd t
+  counted act.Push x book g woken x' book' g' t = absurd t
+  counted act.Hunt x book g woken x' book' g' t = absurd t
+  counted (act.Steal v) x book g woken x' book' g' t = absurd t
+  counted act.Resume x book g woken x' book' g' t = absurd t
+  counted act.Block x book g woken x' book' g' t = absurd t
+  counted (act.Clock minded) x book g woken x' book' g' t = absurd t
+  counted act.Nothing x book g woken x' book' g' t = absurd t

@@ -1,6 +1,7 @@
 //! What the thread of a machine carries (`Machine`), and what bodies it may run (`Runs`).
 //! Both waits of a thief are here, and both are short: they hold no lock, and end by themselves after so many looks.
-ghost use Rattle.std.specs.Prelude.{◌≡◌, ◌≤◌, true, is_some};
+ghost use Rattle.std.specs.Prelude.{◌≡◌, ◌≤◌, ◌∷◌, ◌++◌, [], Some, true, is_some};
+ghost use Rattle.gmp_base.specs.declared.pass.Pass.{Pass};
 ghost use Rattle.gmp_driver.specs.Table.{next_act};
 ghost use Rattle.gmp_worker.specs.AtQueue.{IsQueueAct};
 ghost use Rattle.gmp_worker.specs.Local.{IsOfBodyOrClock};
@@ -14,6 +15,7 @@ use crossbeam_utils::sync::Parker;
 use gmp_base::{MNo, PNo, Pass};
 use gmp_driver::Driver;
 use gmp_queue::{Owner, Thief};
+use gmp_stub::{Board, Stub};
 use gmp_worker::{Boxed, PassLog, local_turn, queue_turn};
 use rand_pcg::Lcg64Xsh32;
 use std::hint::spin_loop;
@@ -32,12 +34,15 @@ const MOST_RESTS: u32 = 3;
 /// How long a hunter rests between two looks, in nanoseconds.
 const REST: u64 = 20_000;
 
-/// A machine's driver with its pass, its thieves of all queues, its generator and its parker, beside its share of the calls.
+/// A machine's driver with its pass, beside the driver as it last left the lock; its thieves of all queues, its generator and its parker,
+/// beside its share of the calls.
 pub(crate) struct Machine<T, L: RunLedger> {
     /// Which machine it is, which its pass says too.
     pub m: MNo,
     /// Its program, with its pass and all that it holds, as parts.
     pub driver: Driver<T, Owner>,
+    /// What the desk's board has of it. It takes no bytes.
+    pub stub: Stub<Driver<T, Owner>>,
     /// Its own thief of each processor's queue, at that processor's place.
     pub thieves: Vec<Thief>,
     /// Its own generator: a select's case and the first victim of a hunt are drawn by it.
@@ -51,11 +56,14 @@ pub(crate) struct Machine<T, L: RunLedger> {
     pub ghost fair: { is_some driver.aside ≡ L.fair },
     pub ghost one_part: { share.parts ≡ 1 },
     pub ghost counted: { share.amount ≡ calls_in driver.pass },
+    pub ghost board: { stub.name ≡ L.board },
+    pub ghost left: { driver.pass ≡ stub.value.pass },
 }
 
 impl<T: Drop, L: RunLedger> Machine<T, L> {
-    /// A machine that has made no act, fair or not.
+    /// A machine that has made no act, fair or not, which is added to the board.
     pub fn new(
+        board: &mut Board<Driver<T, Owner>>,
         pass: Pass,
         procs: u8,
         thieves: Vec<Thief>,
@@ -69,10 +77,17 @@ impl<T: Drop, L: RunLedger> Machine<T, L> {
         requires fair { is_fair ≡ L.fair }
         requires counted { share.amount ≡ pass.calls }
         requires one_part { share.parts ≡ 1 }
+        requires board { board.old.name ≡ L.board }
+        ensures board { board.new.name ≡ board.old.name }
+        ensures added { (x : _) × (x.pass ≡ Some pass) × (board.new.values ≡ board.old.values ++ x ∷ []) }
     {
+        let m = pass.m;
+        let driver = Driver::new_fair(pass, procs, is_fair);
+        let stub = board.add(&driver);
         Machine {
-            m: pass.m,
-            driver: Driver::new_fair(pass, procs, is_fair),
+            m,
+            driver,
+            stub,
             thieves,
             random,
             parker,
@@ -80,14 +95,16 @@ impl<T: Drop, L: RunLedger> Machine<T, L> {
         }
     }
 
-    /// Its machine with the calls that its pass made, and its share of them.
+    /// The machine of its pass with the calls that it made, and its share of them.
     pub fn into_log(self) -> (PassLog, Share<L>)
+        ensures log { (p : Pass) × (self.driver.pass ≡ Some p) × (result.0.m ≡ p.m) × (result.0.calls ≡ p.calls) }
         ensures amount { result.1.amount ≡ result.0.calls }
         ensures one_part { result.1.parts ≡ 1 }
     {
         let Machine {
             m: _,
             driver,
+            stub: _,
             thieves: _,
             random: _,
             parker: _,

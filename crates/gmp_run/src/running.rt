@@ -1,12 +1,13 @@
 //! Runs the machines of a run: opens book and queues, seats the machines, starts the threads, and gathers what they leave.
 //! A machine lies in a seat, a mutex of its own, from which its thread takes it and to which it brings it back. Not moved into the thread's
 //! closure: where that can't be started it is dropped with the machine, and its share of the calls would be lost.
-ghost use Rattle.std.specs.Prelude.{◌≡◌, ◌≤◌, [], All, IsSome, length, vec_capacity, IfErr, IfOk, OnErr, OnOk};
-ghost use Rattle.gmp_run.specs.Counts.{all_calls};
+ghost use Rattle.std.specs.Prelude.{◌≡◌, ◌≤◌, [], All, IsSome, length, replicate, vec_capacity, IfErr, IfOk, OnErr, OnOk};
+ghost use Rattle.gmp_run.specs.Counts.{IsCountOf, all_calls};
 ghost use Rattle.gmp_seq.specs.Fits.{AreLimits};
+ghost use Rattle.gmp_book.specs.Book.{opening_passes};
 ghost use Rattle.gmp_turn.specs.Whole.{IsWholeRun};
+ghost use Rattle.gmp_run.specs.Boards.{AreCounted};
 ghost use Rattle.gmp_run.specs.Reports.{AreLogs, IsPiecesReport, IsRunReport, WhyUnrun};
-ghost use Rattle.gmp_run.specs.Seats.{IsUnused};
 
 use crate::desk::{Bench, Desk, RunLedger, SinkLedger};
 use crate::ending::{Report, Unrun, finish, hang};
@@ -18,8 +19,10 @@ use crate::working::{Floor, Seat, Works};
 use crossbeam_utils::sync::{Parker, Unparker};
 use gmp_base::{MNo, Pass, Refusal};
 use gmp_book::{Book, Unopened};
-use gmp_queue::Thief;
+use gmp_driver::Driver;
+use gmp_queue::{Owner, Thief};
 use gmp_seq::Limits;
+use gmp_stub::Board;
 use gmp_worker::{Boxed, PassLog};
 use rand_core::SeedableRng;
 use rand_pcg::Lcg64Xsh32;
@@ -140,6 +143,7 @@ pub fn run_into_fair<R: Threads + Wait + Sync, C: Clock + Sync, G: Gate + Sync, 
         rt,
         alloc,
         Blank::new(u64::from(limits.machines)),
+        Board::new(),
         run,
         limits,
         capacities,
@@ -163,6 +167,7 @@ fn run_as<
     rt: &R,
     alloc: Global,
     blank: Blank,
+    board: Board<Driver<Boxed, Owner>>,
     run: u64,
     limits: Limits,
     capacities: &[u32],
@@ -175,6 +180,7 @@ fn run_as<
 ) -> (Result<Report<Boxed>, Unrun<Boxed>>, S)
     requires name { blank.name ≡ L.name }
     requires parts { (blank.parts ≡ L.parts) × (blank.parts ≡ limits.machines) }
+    requires board { (board.name ≡ L.board) × (board.values ≡ []) }
     requires run { run ≡ L.run }
     requires fair { is_fair ≡ L.fair }
     requires first { (s : S) → L.first s → s ≡ sink }
@@ -213,7 +219,9 @@ fn run_as<
     };
     // A part for each machine, and none left over: once the parts are together again no machine is still counting.
     let (tally, mut all) = blank.open::<L>();
+    let mut board = board;
     let seats = seat_all(
+        &mut board,
         seats,
         passes,
         thieves,
@@ -223,7 +231,7 @@ fn run_as<
         random,
         is_fair,
     );
-    let desk = Desk::new(book, tally, sink, spare);
+    let desk = Desk::new(book, tally, board, sink, spare);
     let shared = Shared::new(Bench { desk, watch });
     let floor = Floor {
         shared: &shared,
@@ -232,8 +240,8 @@ fn run_as<
         gate,
     };
     let started = on_floor(rt, alloc, &floor, seats.as_slice());
-    let logs = gather(rt, &mut all, logs, seats, limits.machines);
-    let Bench { desk, .. } = shared.into_inner();
+    let Bench { mut desk, .. } = shared.into_inner();
+    let logs = gather(rt, &mut desk, &mut all, logs, seats, limits.machines);
     let (report, sink) = finish(rt, desk, all, logs, started, limits, capacities, count);
     (Ok(report), sink)
 }
@@ -241,6 +249,7 @@ fn run_as<
 /// A seat for each pass, the last first, in room that is there.
 /// Lists are taken from their end, so the first machine is seated last, and `gather` meets it first of all.
 fn seat_all<L: RunLedger>(
+    board: &mut Board<Driver<Boxed, Owner>>,
     room: Vec<Seat<Boxed, L>>,
     passes: Vec<Pass>,
     thieves: Vec<Vec<Thief>>,
@@ -252,7 +261,8 @@ fn seat_all<L: RunLedger>(
 ) -> Vec<Seat<Boxed, L>>
     requires empty { room.items ≡ [] }
     requires room { length passes.items ≤ vec_capacity room }
-    requires passes { All (IsUnused L.run) passes.items }
+    requires passes { passes.items ≡ opening_passes L.run L.parts }
+    requires board { (board.old.name ≡ L.board) × (board.old.values ≡ []) }
     requires fair { is_fair ≡ L.fair }
     requires thieves { length thieves.items ≡ length passes.items }
     requires parkers { length parkers.items ≡ length passes.items }
@@ -261,6 +271,8 @@ fn seat_all<L: RunLedger>(
     requires amount { all.old.amount ≡ 0 }
     ensures parts { all.new.parts ≡ 0 }
     ensures amount { all.new.amount ≡ 0 }
+    ensures board { board.new.name ≡ L.board }
+    ensures counted { AreCounted (replicate L.parts 0) L.parts board.new.values }
 {
     let mut seats = room;
     let mut passes = passes;
@@ -271,7 +283,7 @@ fn seat_all<L: RunLedger>(
         let parker = parkers.pop().unwrap();
         let share = all.split_off(1, 0);
         let random = Lcg64Xsh32::seed_from_u64(random.wrapping_add(u64::from(pass.m.0)));
-        let machine = Machine::new(pass, procs, thieves, random, parker, share, is_fair);
+        let machine = Machine::new(board, pass, procs, thieves, random, parker, share, is_fair);
         seats.push_reserved(Mutex::new(Some(machine)));
     }
     passes.destroy_empty();
@@ -331,8 +343,9 @@ fn on_floor<
 }
 
 /// Takes the machines from their seats, in order: a log of each, in room that is there, and their shares.
-fn gather<L: RunLedger, R: Wait>(
+fn gather<L: SinkLedger<S>, R: Wait, S: Sink>(
     rt: &R,
+    desk: &mut Desk<Boxed, Owner, L, S>,
     all: &mut Share<L>,
     room: Vec<PassLog>,
     seats: Vec<Seat<Boxed, L>>,
@@ -345,6 +358,8 @@ fn gather<L: RunLedger, R: Wait>(
     ensures parts { all.new.parts ≡ machines }
     ensures amount { all.new.amount ≡ all_calls result.items }
     ensures logs { AreLogs machines result.items }
+    ensures counted { All (IsCountOf desk.old.book.log.state.counts) result.items }
+    ensures desk { desk.new ≡ desk.old }
 {
     let mut logs = room;
     let mut seats = seats;
@@ -353,7 +368,7 @@ fn gather<L: RunLedger, R: Wait>(
         let Some(machine) = seat.into_inner() else {
             hang(rt)
         };
-        let (log, share) = machine.into_log();
+        let (log, share) = desk.log_of(machine);
         if usize::from(log.m.0) != logs.len() || log.m.0 >= machines {
             hang(rt);
         }

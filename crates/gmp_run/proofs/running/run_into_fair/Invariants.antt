@@ -2,7 +2,7 @@ use Rattle.std.proofs.Common.{◌≡◌}
 use Rattle.gmp_run.proofs.running.run_into_fair.Given as goal
 
 abbrev pub ghosts-run_as-L-RunLedger : goal.ghosts-run_as-L-RunLedger
-ghosts-run_as-L-RunLedger g a = record { run = a.run; fair = a.is_fair }
+ghosts-run_as-L-RunLedger g a = record { run = a.run; fair = a.is_fair; board = a.board.name }
 
 abbrev pub ghosts-run_as-L-Ledger : goal.ghosts-run_as-L-Ledger
 ghosts-run_as-L-Ledger g a = record { name = a.blank.name; parts = a.blank.parts }
