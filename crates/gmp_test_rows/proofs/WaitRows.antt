@@ -17,11 +17,11 @@ abbrev claimed : System
 claimed = record opening {
   book = record opening.book {
     history =
-      entry 0 0 (call.Claim (ticket 1 1)) reply.Held ∷
-      entry 0 1 call.Take reply.Nothing ∷
-      entry 1 0 (call.Claim (ticket 2 1)) reply.Held ∷
-      entry 0 2 (call.Claim (ticket 2 2)) reply.Held ∷
-      [];
+        entry 0 0 (call.Claim (ticket 1 1)) reply.Held ∷
+        entry 0 1 call.Take reply.Nothing ∷
+        entry 1 0 (call.Claim (ticket 2 1)) reply.Held ∷
+        entry 0 2 (call.Claim (ticket 2 2)) reply.Held ∷
+        [];
   };
 }
 
