@@ -1,6 +1,7 @@
 -- What is written of a run that was reported, and what is said of one that was not begun.
 use Rattle.std.proofs.Common.{◌≡◌, ◌≢◌, ◌⊎◌, ◌<◌, ℕ, true, List, [], Option, None, Some, IsSome, Result, Ok, Err, IfOk, IfErr, inl, inr, length, sym, ap, ◌∙◌, refl, subst, arith}
 use Rattle.std.proofs.lemmas.Bool.{false≢true}
+use Rattle.gmp_base.specs.declared.number.MNo.{MNo}
 use Rattle.gmp_base.specs.declared.refusal.Refusal.{Refusal}
 use Rattle.gmp_base.specs.declared.refusal.Refusal.TheVariants as refusal
 use Rattle.gmp_seq.specs.declared.call.Limits.{Limits}
@@ -16,13 +17,14 @@ use Rattle.gmp_run.specs.declared.ending.Report.{Report}
 use Rattle.gmp_run.specs.declared.ending.Unrun.{Unrun}
 use Rattle.gmp_turn.specs.Whole.{IsWholeRun}
 use Rattle.gmp_run.specs.Reports.{IsRunReport, WhyUnrun}
+use Rattle.gmp_run.proofs.Auditing.{agrees}
 use Rattle.gmp_words.proofs.Whole.{kept_whole}
 use Rattle.gmp_words.specs.declared.options.Settings.{Settings}
 use Rattle.gmp_words.specs.declared.said.Said.{Said}
-use Rattle.gmp_words.specs.declared.said.Said.TheVariants.{BadLimits, Nothing, OutOfMemory, OutputFailed}
+use Rattle.gmp_words.specs.declared.said.Said.TheVariants.{BadLimits, Mismatch, Nothing, OutOfMemory, OutputFailed}
 use Rattle.gmp_words.specs.Runs.{IsTraceOf, limits_of, status_of}
 use Rattle.gmp_run_cli.specs.Runs.{WritesTraceOrSummary}
-use Rattle.gmp_run_cli.specs.Told.{IsOfScript, TellsEnd, said_of_unrun, trace_of}
+use Rattle.gmp_run_cli.specs.Told.{IsLeast, IsOfScript, TellsEnd, said_of_unrun, trace_of}
 
 -- a run that has an outcome has ended
 pub over : (o : Option Outcome) → IsSome o → end_of o ≢ Running
@@ -117,3 +119,16 @@ out s capacities boxes bodies said (Ok r) counted report why unrun many bad are 
 out s capacities boxes bodies said (Err u) counted report why unrun many bad are =
     not_within (IsWholeRun (limits_of s) boxes capacities) u.why why (two_ways (IsWholeRun (limits_of s) boxes capacities) u.why why) (sym unrun ∙ bad)
     (subst (λ (n : ℕ). AreLimits (limits_of s) n capacities) (sym counted) are, refl)
+
+not_mismatch : (why : Refusal) (m : MNo) → (why ≡ refusal.BadLimits) ⊎ (why ≡ refusal.OutOfMemory) → said_of_unrun why ≡ Mismatch m → ⊥
+not_mismatch why m (inl e) n = let told : BadLimits ≡ Mismatch m = ap said_of_unrun (sym e) ∙ n in cc
+not_mismatch why m (inr e) n = let told : OutOfMemory ≡ Mismatch m = ap said_of_unrun (sym e) ∙ n in cc
+
+-- the audit finds nothing wrong with the report of a run
+pub agreed : {T : Type 0} (s : Settings) (capacities : List ℕ) (boxes : ℕ) (said : Said) (ran : Result (Report T) (Unrun T))
+    → IfOk ran (IsRunReport (limits_of s) capacities boxes []) → IfErr ran (λ (u : Unrun T). WhyUnrun (IsWholeRun (limits_of s) boxes capacities) u.why)
+    → IfErr ran (λ (u : Unrun T). said ≡ said_of_unrun u.why) → IfOk ran (λ (r : Report T). (m : MNo) → said ≡ Mismatch m → IsLeast r m) → (m : MNo) → said ≢ Mismatch m
+agreed s capacities boxes said (Ok r) report why unrun least m is =
+    let found = least m is in
+    found.1.disagrees (agrees (limits_of s) boxes capacities r.history.list report.last r.logs.items report.legal report.logs report.counts found.0.m.0)
+agreed s capacities boxes said (Err u) report why unrun least m is = not_mismatch u.why m (two_ways (IsWholeRun (limits_of s) boxes capacities) u.why why) (sym unrun ∙ is)

@@ -1,8 +1,9 @@
 //! One run of a script in threads. The script's readings of the clock are passed over: a thread's clock is the machine's.
 
 ghost use Rattle.std.specs.Prelude.{◌≡◌, ◌≢◌, ◌<◌, ◌≤◌, ℕ, true, false, All, None, Some, if◌then◌else◌, length, option_map, IfOk, IfSome};
+ghost use Rattle.gmp_base.specs.declared.number.MNo.{MNo};
 ghost use Rattle.gmp_script.specs.Lines.{lines, IsFirstBadLine};
-ghost use Rattle.gmp_words.specs.declared.said.Said.TheVariants.{BadLine, BadLimits, InputTooLong, NoRun, Nothing, OutOfMemory, OutputFailed};
+ghost use Rattle.gmp_words.specs.declared.said.Said.TheVariants.{BadLine, BadLimits, InputTooLong, Mismatch, NoRun, Nothing, OutOfMemory, OutputFailed};
 ghost use Rattle.gmp_words.specs.Said.{is_of_input};
 ghost use Rattle.gmp_words.specs.Runs.{IsOutOfLimits, IsWithinLimits, limits_of};
 ghost use Rattle.gmp_run_cli.specs.Runs.{WritesReport, WritesTraceOrSummary, is_of_threads};
@@ -69,6 +70,7 @@ fn threaded<H: Threads + Wait + Sync, W: Write, C: Clock + Sync>(
     ensures kinds { is_of_report result.said ≡ true }
     ensures quiet { result.said ≢ Nothing → result.said ≢ OutputFailed → result.said ≢ OutOfMemory → W.contents writer.new ≡ W.contents writer.old }
     ensures audit { result.said ≡ NoRun → (settings.now.scripted ≡ true) × AreLimits (limits_of settings.now) (length script.bodies.items) script.capacities.items }
+    ensures mismatch { (m : MNo) → result.said ≢ Mismatch m }
     ensures limits { result.said ≡ BadLimits → ¬ (AreLimits (limits_of settings.now) (length script.bodies.items) script.capacities.items) }
     ensures failed { result.said ≡ OutputFailed → AreLimits (limits_of settings.now) (length script.bodies.items) script.capacities.items }
 {
@@ -122,6 +124,9 @@ pub fn run<H: Threads + Wait + Sync, R: Read, W: Write, C: Clock + Sync>(
     // No run is said to be none of its script where nobody asks.
     ensures audit { result.said ≡ NoRun
         → (settings.now.scripted ≡ true) × IfSome (R.remaining reader.old) (λ all. IsWithinLimits (limits_of settings.now) all) }
+
+    // No machine is found to have another count than its entries.
+    ensures mismatch { (m : MNo) → result.said ≢ Mismatch m }
 
     ensures first { (line : ℕ) → result.said ≡ BadLine line
         → IfSome (R.remaining reader.old) (λ all. IsFirstBadLine (lines all) line) }

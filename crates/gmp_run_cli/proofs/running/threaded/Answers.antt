@@ -5,7 +5,7 @@ use Rattle.std.proofs.lemmas.Iterator.Consumers.{YieldsList-end}
 use Rattle.std.proofs.lemmas.Iterator.Adapters.{YieldsList-from_vec}
 use Rattle.gmp_script.specs.Script.{Commands}
 use Rattle.gmp_run_cli.proofs.Held.{none_where, of_lent, of_script_where}
-use Rattle.gmp_run_cli.proofs.Written.{out, tried_last, wrote}
+use Rattle.gmp_run_cli.proofs.Written.{agreed, out, tried_last, wrote}
 use Rattle.gmp_run_cli.proofs.running.threaded.Given.{Over}
 use Rattle.gmp_run_cli.proofs.running.threaded.Goals as goal
 
@@ -38,6 +38,11 @@ pub returns-clause-limits : goal.returns-clause-limits
 returns-clause-limits g c =
     out c.args.settings.now c.args.script.capacities.items _ _ c.told.result.said c.run_fair-ran.result (counted g c) (search rules) (search rules) c.told.ensures.unrun
     c.told.ensures.limits
+
+pub returns-clause-mismatch : goal.returns-clause-mismatch
+returns-clause-mismatch g c =
+    agreed c.args.settings.now c.args.script.capacities.items _ c.told.result.said c.run_fair-ran.result c.run_fair-ran.ensures.report c.run_fair-ran.ensures.why c.told.ensures.unrun
+    c.told.ensures.mismatch
 
 pub returns-clause-failed : goal.returns-clause-failed
 returns-clause-failed g c =
