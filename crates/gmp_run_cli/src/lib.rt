@@ -6,9 +6,9 @@
 //!
 //! Refused are a bad line of the script, limits out of range, more bodies than a trace can count, an input or an output that fails, and
 //! want of memory. An audit that finds a machine whose count of calls isn't that of its entries ends with status 6 and names it; of a
-//! report by `run` there is none (`run`, `mismatch`), and all the same it is asked. A run that is held against its script (`--scripted`) and is none of it ends
-//! with status 6 too, as where memory was refused to a make. Of a run in segments the audit is of the whole alone, and none is found wrong
-//! (`run_in_segments`, `audit`). A run that never ends isn't excluded: it waits for threads.
+//! report by `run` there is none (`run`, `mismatch`), and all the same it is asked. A run that is held against its script (`--scripted`) and
+//! is none of it ends with status 6 too, as where memory was refused to a make. Of a run in segments the audit is of the whole alone, and
+//! none is found wrong (`run_in_segments`, `audit`). A run that never ends isn't excluded: it waits for threads.
 #![tactic(auto)]
 
 mod boxing;

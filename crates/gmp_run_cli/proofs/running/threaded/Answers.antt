@@ -41,7 +41,7 @@ returns-clause-limits g c =
 
 pub returns-clause-mismatch : goal.returns-clause-mismatch
 returns-clause-mismatch g c =
-    agreed c.args.settings.now c.args.script.capacities.items _ c.told.result.said c.run_fair-ran.result c.run_fair-ran.ensures.report c.run_fair-ran.ensures.why c.told.ensures.unrun
+    agreed c.args.settings.now c.args.script.capacities.items (length c.loop-body.boxed.items) c.told.result.said c.run_fair-ran.result (search rules) (search rules) c.told.ensures.unrun
     c.told.ensures.mismatch
 
 pub returns-clause-failed : goal.returns-clause-failed
