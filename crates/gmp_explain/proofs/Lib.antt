@@ -1,9 +1,6 @@
-pub mod Adding
-pub mod Alike
-pub mod Deals
 pub mod PartLemmas
 pub mod Parts
+pub mod Places
 pub mod ReplyWords
 pub mod Spoken
 pub mod Texts
-pub mod Tries

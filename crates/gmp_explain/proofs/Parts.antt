@@ -1,5 +1,5 @@
 -- Texts of bytes and of lists.
-use Rattle.std.proofs.Common.{◌≡◌, ◌≢◌, ◌<◌, ℕ, Option, None, IfSome, Result, Ok, Err, OnOk, Bool, true, false, if◌then◌else◌, Some, List, [], ◌∷◌, ◌++◌, ◌==◌, length, refl, ◌+◌, get_or, take, sym, ap, ◌∙◌, arith, append_assoc}
+use Rattle.std.proofs.Common.{◌≡◌, ◌≢◌, ◌<◌, ℕ, Option, None, IfSome, Bool, true, false, if◌then◌else◌, Some, List, [], ◌∷◌, ◌++◌, ◌==◌, length, refl, ◌+◌, get_or, take, sym, ap, ◌∙◌, arith, append_assoc}
 use Rattle.std.proofs.lemmas.Bool.{cond-true, cond-false}
 use Rattle.std.proofs.lemmas.List.{append-nil, length-take-le, take_more}
 use Rattle.std.proofs.lemmas.Str.{utf8_valid_len-IsUtf8}
@@ -51,8 +51,3 @@ last_before line i within is = let other : (get_or line i 0 == 32) ≡ false = g
 pub within_more : (o : Option ℕ) (i : ℕ) → IfSome o (λ n. n < i) → IfSome o (λ n. n < i + 1)
 within_more (Some n) i less = omega (arith, less)
 within_more None i less = tt
-
--- what follows of what holds where there is a value
-pub on_ok : {T E : Type 0} (r : Result T E) {P Q : Type 0} → (P → Q) → OnOk r P → OnOk r Q
-on_ok (Ok x) f p = f p
-on_ok (Err e) f p = p

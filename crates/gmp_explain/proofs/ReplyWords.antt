@@ -1,22 +1,22 @@
 -- What is told of replies.
-use Rattle.std.proofs.Common.{◌≡◌, ◌<◌, ℕ, ◌+◌, ◌-◌, true, false, Option, None, Some, is_some, List, [], ◌∷◌, ◌++◌, codes, decimal, drop, get_or, length, map, take, refl, sym, ap, subst, ◌∙◌, arith, append_assoc}
-use Rattle.std.proofs.lemmas.List.{length-append, map-append, take_more}
+use Rattle.std.proofs.Common.{◌≡◌, ℕ, ◌+◌, ◌-◌, true, false, Option, None, Some, is_some, List, [], ◌∷◌, ◌++◌, codes, decimal, drop, length, map, take, refl, sym, ap, subst, ◌∙◌, arith, append_assoc}
+use Rattle.std.proofs.lemmas.List.{length-append}
 use Rattle.std.proofs.lemmas.List.Concat.{flat_map-append}
 use Rattle.std.proofs.Math.Seq.{drop-append-add, take-append_seam}
 use Rattle.gmp_seq.specs.declared.call.Entry.{Entry}
 use Rattle.gmp_seq.specs.declared.call.Limits.{Limits}
 use Rattle.gmp_seq.specs.declared.call.Outcome.{Outcome}
-use Rattle.gmp_seq.specs.declared.call.Reply.{Reply}
 use Rattle.gmp_seq.specs.declared.call.Reply.TheVariants as reply
 use Rattle.gmp_seq.specs.Needs.{Needs}
 use Rattle.gmp_seq.specs.State.{State}
 use Rattle.gmp_check.specs.declared.state.needs.Need.{Need}
 use Rattle.gmp_check.specs.Missing.{Lacks}
 use Rattle.gmp_trace.specs.Pieces.{Pair, Piece, Word, call_pieces, entry_pieces, entry_text, fields, piece_text, reply_pieces}
+use Rattle.gmp_allowed.specs.Allowed.{AreAlike}
 use Rattle.gmp_explain.specs.declared.fact.Fact.{Fact}
-use Rattle.gmp_explain.specs.Spoken.{Clue, Lacking, Line, Past, TellsThese, clue}
-use Rattle.gmp_explain.specs.Told.{AnswersCall, AnswersEntry, AreAlike, IsReplyPlace, TellsAllowed, TellsAnswer, TellsEntry, before_reply, may, reply_text}
-use Rattle.gmp_explain.proofs.Spoken.{join}
+use Rattle.gmp_explain.specs.Spoken.{Lacking, Line, Remark, TellsOf, WasOver, remark}
+use Rattle.gmp_explain.specs.Told.{AnswersCall, AnswersEntry, IsReplyPlace, TellsAllowed, TellsAnswer, TellsBefore, TellsEntry, before_reply, may, reply_text}
+use Rattle.gmp_explain.proofs.Spoken.{join, one}
 
 -- a line without its line feed
 pub without_feed : (n : ℕ) (e : Entry) (line : List ℕ) → line ≡ take (length (entry_text n e) - 1) (entry_text n e) → line ≡ decimal n ++ fields (entry_pieces e)
@@ -43,27 +43,27 @@ reply_words e line place is at =
 
 module _ {S : Type 0} (told : S → Fact → S → Type 0) (limits : Limits) (s : State) (e : Entry) where
   -- the run was over
-  pub answer_over : (o : Option Outcome) (old new : S) → o ≡ s.outcome → is_some o ≡ true → TellsThese told clue (Past ∷ []) old new → TellsAnswer told limits s e old new
+  pub answer_over : (o : Option Outcome) (old new : S) → o ≡ s.outcome → is_some o ≡ true → TellsOf told (WasOver ∷ []) old new → TellsAnswer told limits s e old new
   answer_over None old new is over tells = absurd cc
   answer_over (Some outcome) old new is over tells = record {
-    clues = Past ∷ [];
-    right = subst (λ (o : Option Outcome). AnswersEntry limits s e o (Past ∷ [])) is refl;
+    these = WasOver ∷ [];
+    right = subst (λ (o : Option Outcome). AnswersEntry limits s e o (WasOver ∷ [])) is refl;
     tells = tells;
   }
 
   -- it lasted
-  answer_lasting : (o : Option Outcome) (lacks : Option Need) (clues : List Clue) (old new : S) → o ≡ s.outcome → is_some o ≡ false → Lacks e.m e.call s (Needs e.m e.call s) lacks
-      → AnswersCall limits s e lacks clues → TellsThese told clue clues old new → TellsAnswer told limits s e old new
-  answer_lasting (Some outcome) lacks clues old new is lasts missing answer tells = absurd cc
-  answer_lasting None lacks clues old new is lasts missing answer tells = record {
-    clues = clues;
-    right = subst (λ (o : Option Outcome). AnswersEntry limits s e o clues) is (lacks, missing, answer);
+  answer_lasting : (o : Option Outcome) (lacks : Option Need) (these : List Remark) (old new : S) → o ≡ s.outcome → is_some o ≡ false → Lacks e.m e.call s (Needs e.m e.call s) lacks
+      → AnswersCall limits s e lacks these → TellsOf told these old new → TellsAnswer told limits s e old new
+  answer_lasting (Some outcome) lacks these old new is lasts missing answer tells = absurd cc
+  answer_lasting None lacks these old new is lasts missing answer tells = record {
+    these = these;
+    right = subst (λ (o : Option Outcome). AnswersEntry limits s e o these) is (lacks, missing, answer);
     tells = tells;
   }
 
   -- and the call lacks this
   pub answer_lacking : (o : Option Outcome) (need : Need) (old new : S) → o ≡ s.outcome → is_some o ≡ false → Lacks e.m e.call s (Needs e.m e.call s) (Some need)
-      → TellsThese told clue (Lacking need ∷ []) old new → TellsAnswer told limits s e old new
+      → TellsOf told (Lacking need ∷ []) old new → TellsAnswer told limits s e old new
   answer_lacking o need old new is lasts missing tells = answer_lasting o (Some need) (Lacking need ∷ []) old new is lasts missing refl tells
 
   -- and nothing is lacking
@@ -71,34 +71,24 @@ module _ {S : Type 0} (told : S → Fact → S → Type 0) (limits : Limits) (s 
   answer_allowed o old new is lasts met allowed =
       answer_lasting o None (map may allowed.replies) old new is lasts met (allowed.replies, allowed.right, allowed.whole, refl) allowed.tells
 
-  -- the line was told, then what is no clue, and then the answer
-  pub entry_told : (number : ℕ) (old first mid new : S) {x : Fact} → told old x first → clue x ≡ Some (Line (decimal number ++ fields (entry_pieces e))) → TellsThese told clue [] first mid
-      → TellsAnswer told limits s e mid new → TellsEntry told limits s e old new
-  entry_told number old first mid new {x} is line between answer =
-      let rest : TellsThese told clue answer.clues first new = join told first mid new [] answer.clues between answer.tells in
+  -- the line was told, then what was before it, and then the answer
+  pub entry_told : (number : ℕ) (old first mid new : S) {x : Fact} → told old x first → remark x ≡ Some (Line (decimal number ++ fields (entry_pieces e)))
+      → TellsBefore told (record s { outcome = None }) e first mid → TellsAnswer told limits s e mid new → TellsEntry told limits s e old new
+  entry_told number old first mid new {x} is line before answer =
+      let words : Remark = Line (decimal number ++ fields (entry_pieces e)) in
       record {
-        said = x ∷ rest.said;
-        tells = (first, is, rest.tells);
+        these = words ∷ (before.said ++ answer.these);
         right = record {
-          first = x;
-          rest = rest.said;
-          parts = refl;
           number = number;
-          line = line;
-          answer = subst (λ (l : List Clue). AnswersEntry limits s e s.outcome l) (sym rest.picked) answer.right;
+          before = before.said;
+          is_before = record { holds = before.is_before.holds; held = before.is_before.held; at = before.is_before.at; runs = before.is_before.runs; all = before.is_before.all };
+          answer = answer.these;
+          answers = answer.right;
+          all = refl;
         };
+        tells = join told old first new (words ∷ []) (before.said ++ answer.these) (one told old first words is line) (join told first mid new before.said answer.these before.tells answer.tells);
       }
 
 -- the reply begins at the same place
 pub alike_place : (a b : Entry) (place : ℕ) → AreAlike a b → IsReplyPlace b place → IsReplyPlace a place
 alike_place a b place alike is = is ∙ ap (λ (e : Entry). length (before_reply 0 e) + 1) (sym (alike reply.Nothing))
-
--- that one reply more is allowed was told
-pub reply_told : {S : Type 0} (told : S → Fact → S → Type 0) (replies : List Reply) (i : ℕ) (d : Reply) (old mid new : S) → i < length replies
-    → TellsThese told clue (map may (take i replies)) old mid → TellsThese told clue (may (get_or replies i d) ∷ []) mid new
-    → TellsThese told clue (map may (take (i + 1) replies)) old new
-reply_told {S} told replies i d old mid new within so_far one =
-    let more : map may (take (i + 1) replies) ≡ map may (take i replies) ++ may (get_or replies i d) ∷ [] =
-    ap (map may) (take_more replies i d within) ∙ map-append may (take i replies) (get_or replies i d ∷ []) in
-    subst (λ (l : List Clue). TellsThese told clue l old new) (sym more)
-    (join told old mid new (map may (take i replies)) (may (get_or replies i d) ∷ []) so_far one)

@@ -15,7 +15,7 @@ use Rattle.gmp_check_cli.specs.Check.{IsJudged, said_of}
 use Rattle.gmp_words.specs.declared.said.Said.{Said}
 use Rattle.gmp_words.specs.declared.said.Said.TheVariants as said
 use Rattle.gmp_explain.specs.declared.fact.Fact.{Fact}
-use Rattle.gmp_explain.specs.Lines.{AddsLines, SaysDoing, SaysEntry, lines_of}
+use Rattle.gmp_explain.specs.Lines.{AddsLines, Says, SaysEntry, lines_of}
 use Rattle.gmp_explain.specs.Spoken.{Remark, Tells, TellsOf}
 use Rattle.gmp_explain.specs.Told.{TellsEntry}
 
@@ -30,20 +30,16 @@ module _ {S : Type 0} (text : S → List ℕ) where
       told_lines mid new said rest ∙ ap (λ (l : List ℕ). l ++ flat_map lines_of said) is ∙ append_assoc (text old) (lines_of x) (flat_map lines_of said)
 
   -- from no text on
-  pub says_doing : (old new : S) (these : List Remark) → text old ≡ [] → TellsOf adds these old new → SaysDoing these (text new)
-  says_doing old new these none told = record {
+  pub says : (old new : S) (these : List Remark) → text old ≡ [] → TellsOf adds these old new → Says these (text new)
+  says old new these none told = record {
     said = told.said;
     lines = told_lines old new told.said told.tells ∙ ap (λ (l : List ℕ). l ++ flat_map lines_of told.said) none;
-    doing = told.picked;
+    said_so = told.said_so;
   }
 
   -- the same of an entry
   pub says_entry : (limits : Limits) (s : State) (e : Entry) (old new : S) → text old ≡ [] → TellsEntry adds limits s e old new → SaysEntry limits s e (text new)
-  says_entry limits s e old new none told = record {
-    said = told.said;
-    lines = told_lines old new told.said told.tells ∙ ap (λ (l : List ℕ). l ++ flat_map lines_of told.said) none;
-    right = told.right;
-  }
+  says_entry limits s e old new none told = record { these = told.these; right = told.right; says = says old new told.these none told.tells }
 
 -- what follows of a value, where there is one
 pub if_some : {T : Type 0} (o : Option T) {P Q : T → Type 0} → ((x : T) → P x → Q x) → IfSome o P → IfSome o Q

@@ -56,7 +56,7 @@ since_text status.Dead (Some n) = codes " at entry " ++ decimal n
 since_text does (Some n) = codes ", since entry " ++ decimal n
 since_text does None = codes ", since before the first entry"
 
--- it waits though the run is over
+-- it waits though main ended
 abbrev pub leak_text : Bool → List ℕ
 leak_text leak = if leak then codes ", a leak" else []
 

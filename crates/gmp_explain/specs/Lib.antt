@@ -1,6 +1,6 @@
 pub mod Doing
 pub mod Text
 pub mod Spoken
-pub mod Tried
+pub mod Stated
 pub mod Told
 pub mod Lines

@@ -18,7 +18,8 @@ use Rattle.gmp_check_cli.specs.Check.{IsJudged, IsRead}
 use Rattle.gmp_walk.specs.Led.{IsWalked}
 use Rattle.gmp_explain.specs.declared.fact.Fact.{Fact}
 use Rattle.gmp_explain.specs.declared.fact.Fact.TheVariants as fact
-use Rattle.gmp_explain.specs.Spoken.{Remark, TellsOf, doing_from, remarks}
+use Rattle.gmp_explain.specs.Spoken.{Remark, TellsOf, remarks}
+use Rattle.gmp_explain.specs.Stated.{state_said}
 use Rattle.gmp_explain.specs.Told.{AreOfEntry, TellsEntry}
 use Rattle.gmp_explain.specs.Text.{calls_text, dealers_text, fact_text, no_step_text, values_text}
 
@@ -76,25 +77,25 @@ has_facts _ = false
 abbrev pub AddsLines : List ℕ → Fact → List ℕ → Type 0
 AddsLines old x new = new ≡ old ++ lines_of x
 
--- the text is the lines of facts, and of what goroutines do, and of an entry that is no step, these say this
-pub record SaysDoing (these : List Remark) (text : List ℕ) : Type 0 where
+-- the text is the lines of facts, and these are their remarks, in order
+pub record Says (these : List Remark) (text : List ℕ) : Type 0 where
   pub said : List Fact
   pub lines : text ≡ flat_map lines_of said
-  pub doing : remarks said ≡ these
+  pub said_so : remarks said ≡ these
 
--- told was what each goroutine does in the state to which the trace's entries lead, of no goroutine anything else, and nothing as of an entry that is no step
+-- told was what is to be said of the state to which the trace's entries lead, and no other remark
 pub record TellsState {S : Type 0} (told : S → Fact → S → Type 0) (x : Content) (old new : S) : Type 0 where
   pub n : ℕ
   pub last : State
   pub walked : IsWalked x n last
-  pub tells : TellsOf told (doing_from last.outcome 0 last.table.goroutines) old new
+  pub tells : TellsOf told (state_said n last) old new
 
--- it says what each goroutine does in the state to which the trace's entries lead, and so
+-- the text says so
 pub record TellsTrace (x : Content) (text : List ℕ) : Type 0 where
   pub n : ℕ
   pub last : State
   pub walked : IsWalked x n last
-  pub says : SaysDoing (doing_from last.outcome 0 last.table.goroutines) text
+  pub says : Says (state_said n last) text
 
 -- the bytes are the text of a right trace, of which it does so
 pub record TellsText (bytes text : List ℕ) : Type 0 where
@@ -103,18 +104,18 @@ pub record TellsText (bytes text : List ℕ) : Type 0 where
   pub read : IsRead bytes trace
   pub tells : TellsTrace trace text
 
--- told was the entry to which the trace's steps lead, if there is one, and what is to be said of its replies
+-- told was what is to be said of the entry to which the trace's steps lead, if there is one
 pub record TellsRiddle {S : Type 0} (told : S → Fact → S → Type 0) (x : Content) (old new : S) : Type 0 where
   pub n : ℕ
   pub last : State
   pub walked : IsWalked x n last
   pub tells : IfSome (slice_get x.entries n) (λ e. TellsEntry told x.limits last e old new)
 
--- the text is the lines of such facts
+-- the text says so
 pub record SaysEntry (limits : Limits) (s : State) (e : Entry) (text : List ℕ) : Type 0 where
-  pub said : List Fact
-  pub lines : text ≡ flat_map lines_of said
-  pub right : AreOfEntry limits s e said
+  pub these : List Remark
+  pub right : AreOfEntry limits s e these
+  pub says : Says these text
 
 -- it says so of the entry to which the trace's steps lead, if there is one
 pub record SaysRiddle (x : Content) (text : List ℕ) : Type 0 where

@@ -1,6 +1,7 @@
 //! The command `explain` as a function: it reads and checks a trace as `check` does, and tells its facts.
-ghost use Rattle.std.specs.Prelude.{◌≡◌, ◌≢◌, ◌↔◌, ◌⊎◌, [], false, true, IfOk, IfSome, IsOk, None, OnOk, Some, slice_get, string_bytes};
+ghost use Rattle.std.specs.Prelude.{◌≡◌, ◌≢◌, ◌↔◌, ◌⊎◌, ◌<◌, ◌^◌, [], false, true, IfOk, IfSome, IsOk, None, OnOk, Some, length, slice_get, string_bytes};
 ghost use Rattle.std.specs.Result.{MatchResult};
+ghost use Rattle.gmp_start.specs.Start.{state_of};
 ghost use Rattle.gmp_trace.specs.Text.{content};
 ghost use Rattle.gmp_trace.specs.declared.bad.Bad.{Bad};
 ghost use Rattle.gmp_trace.specs.declared.bad.Why.TheVariants as why;
@@ -51,6 +52,8 @@ fn tell_next<S: Sink>(
     story: &Story,
     sink: &mut S,
 ) -> Result<(), OutOfMemory>
+    requires few { length story.now.last.goroutines.items < 2 ^ 16 }
+    requires same { state_of story.now.last ≡ record story.now.replay.state { outcome = None } }
     ensures { OnOk result (IfSome (slice_get trace.now.entries.list story.now.steps) (λ e. TellsEntry S.told story.now.replay.limits story.now.replay.state e sink.old sink.new)) }
 {
     match trace.entries.get(story.steps) {
@@ -144,10 +147,10 @@ pub fn explain<R: Read, P: Progress>(
     ensures status { result.ended.status ≡ 0 ↔ result.ended.said ≡ Nothing }
     // Where nothing is wrong there are facts.
     ensures there { result.ended.said ≡ Nothing → IsOk result.facts }
-    // Each goroutine has its line, by number, of what it does in the state to which the entries lead, and whether it is a leak; nothing is said as of a wrong entry.
+    // The remarks on the state to which the entries lead are there, in order, and no others, as on a wrong entry.
     ensures told { IfOk result.facts (λ text. result.ended.said ≡ Nothing → json ≡ false → IfSome (R.remaining reader.old) (λ all. TellsText all (string_bytes text))) }
-    // Where an entry is no step, first its line, under some number, and then that the run was over, what its call lacks, or which replies are allowed: those that
-    // are called so are, and they are all that fit a trace.
+    // Where an entry is no step, its line, under some number; what was before it; and then that the run was over, what its call lacks, or which replies are
+    // allowed: those that are called so are, and they are all that fit a trace. No other remarks.
     ensures riddle { IfOk result.facts (λ text. json ≡ false → IfSome (R.remaining reader.old) (λ all. (bad : Bad) → result.ended.said ≡ said.BadTrace bad → bad.why ≡ why.Step
         → IsWrongText bad (λ x. SaysRiddle x (string_bytes text)) all)) }
     // Where the end is not that of the run, the end to which the entries lead.

@@ -46,7 +46,7 @@ pub struct Told<'a> {
     pub status: &'a Status,
     /// The entry since which it does that. None: since before the trace's first.
     pub since: Option<u64>,
-    /// Whether it waits though the run is over.
+    /// Whether it waits though main ended.
     pub leak: bool,
 }
 

@@ -1,19 +1,18 @@
-//! Why an entry is no step: the entry, its machine and goroutine before it, and the replies that are allowed, or what is missing.
-ghost use Rattle.std.specs.Prelude.{◌≡◌, [], ◌∷◌, ◌++◌, IfOk, OnOk, decimal, drop};
+//! Why an entry is no step: the entry, what was before it, and the replies that are allowed, or what is missing.
+ghost use Rattle.std.specs.Prelude.{◌≡◌, ◌<◌, ◌^◌, [], ◌∷◌, ◌++◌, IfOk, None, OnOk, decimal, drop, length};
+ghost use Rattle.gmp_start.specs.Start.{state_of};
 ghost use Rattle.gmp_trace.specs.Pieces.{entry_pieces, fields};
-ghost use Rattle.gmp_explain.specs.Spoken.{TellsThese, clue};
-ghost use Rattle.gmp_explain.specs.Told.{AreAlike, IsReplyPlace, TellsAllowed, TellsAnswer, TellsEntry, may};
+ghost use Rattle.gmp_allowed.specs.Allowed.{AreAlike};
+ghost use Rattle.gmp_explain.specs.Spoken.{TellsOf};
+ghost use Rattle.gmp_explain.specs.Told.{IsReplyPlace, TellsAllowed, TellsAnswer, TellsEntry, may};
 
-use crate::allowing::allowed;
-use crate::fact::{Fact, Sink, Told};
-use crate::telling::tell_state;
+use crate::before::tell_before;
+use crate::fact::{Fact, Sink};
 use crate::told::Story;
-use gmp_base::{CNo, Case, GNo, MNo, PNo, Readiness};
+use gmp_allowed::allowed;
 use gmp_check::{OutOfMemory, Replay};
-use gmp_seq::{Call, Entry, Goroutine, Reply, Status, channel_of};
-use gmp_start::Start;
+use gmp_seq::{Entry, Reply};
 use gmp_trace::put_entry;
-use gmp_walk::{goroutine_at, processor_at};
 use std::alloc::{AllocError, Global};
 
 /// How long the words of the reply `Nothing` are.
@@ -59,147 +58,13 @@ fn tell_reply<S: Sink>(
     sink: &mut S,
 ) -> Result<(), AllocError>
     requires { IsReplyPlace entry.old place }
-    ensures tells { OnOk result (TellsThese S.told clue (may reply ∷ []) sink.old sink.new) }
+    ensures tells { OnOk result (TellsOf S.told (may reply ∷ []) sink.old sink.new) }
     ensures reply { entry.new ≡ record entry.old { reply = reply } }
 {
     entry.reply = reply;
     let line = line_of(alloc, 0, entry)?;
     sink.tell(&Fact::Allowed(behind(&line, place)))?;
     Ok(())
-}
-
-/// What a goroutine did before the entry.
-fn tell_goroutine<S: Sink>(story: &Story, g: GNo, sink: &mut S) -> Result<(), AllocError>
-    ensures { OnOk result (TellsThese S.told clue [] sink.old sink.new) }
-{
-    let Some(status) = story.does(g) else {
-        return Ok(());
-    };
-    sink.tell(&Fact::Goroutine(Told {
-        g,
-        status,
-        since: story.since(g),
-        leak: false,
-    }))?;
-    Ok(())
-}
-
-/// The processor that the machine holds.
-fn held_by(last: &Start, m: MNo) -> Option<PNo> {
-    let p = last.holders.iter().position(|holder| *holder == Some(m))?;
-    Some(processor_at(p))
-}
-
-/// What the machine did before the entry.
-fn tell_machine<S: Sink>(story: &Story, m: MNo, sink: &mut S) -> Result<(), AllocError>
-    ensures { OnOk result (TellsThese S.told clue [] sink.old sink.new) }
-{
-    let last = &story.last;
-    let i = usize::from(m.0);
-    let Some(mode) = last.modes.get(i) else {
-        return Ok(());
-    };
-    sink.tell(&Fact::Machine {
-        m,
-        mode: *mode,
-        holds: held_by(last, m),
-        spins: last.spinning.get(i).copied().unwrap_or(false),
-    })?;
-    Ok(())
-}
-
-/// Whom the machine runs, or whose blocking call it makes.
-fn at_machine(rows: &[Goroutine], m: MNo) -> Option<GNo> {
-    let is_there = |row: &Goroutine| match row.status {
-        Status::Running(n) | Status::Calling(n) => n == m,
-        _ => false,
-    };
-    let g = rows.iter().position(is_there)?;
-    Some(goroutine_at(g))
-}
-
-/// What the goroutine at the machine did before the entry.
-fn tell_runner<S: Sink>(story: &Story, m: MNo, sink: &mut S) -> Result<(), AllocError>
-    ensures { OnOk result (TellsThese S.told clue [] sink.old sink.new) }
-{
-    match at_machine(&story.last.goroutines, m) {
-        Some(g) => tell_goroutine(story, g, sink),
-        None => Ok(()),
-    }
-}
-
-/// The goroutine that a call names; of a spawn, its reply.
-fn named(entry: &Entry) -> Option<GNo> {
-    match &entry.call {
-        Call::Put(r) | Call::Claim(r) => Some(r.g),
-        Call::Go(h) | Call::Ready(h) => Some(*h),
-        Call::Spawn => Some(entry.reply.ticket()?.g),
-        _ => None,
-    }
-}
-
-/// The latest ticket of a goroutine.
-fn tell_latest<S: Sink>(story: &Story, g: GNo, sink: &mut S) -> Result<(), AllocError>
-    ensures { OnOk result (TellsThese S.told clue [] sink.old sink.new) }
-{
-    let Some(row) = story.last.goroutines.get(usize::from(g.0)) else {
-        return Ok(());
-    };
-    if row.epoch > 0 {
-        sink.tell(&Fact::Latest(Readiness {
-            g,
-            epoch: row.epoch,
-        }))?;
-        return Ok(());
-    }
-    Ok(())
-}
-
-/// The goroutine that the entry names, and its latest ticket.
-fn tell_named<S: Sink>(story: &Story, entry: &Entry, sink: &mut S) -> Result<(), AllocError>
-    ensures { OnOk result (TellsThese S.told clue [] sink.old sink.new) }
-{
-    let Some(g) = named(entry) else {
-        return Ok(());
-    };
-    tell_goroutine(story, g, sink)?;
-    tell_latest(story, g, sink)
-}
-
-/// A channel that the call names.
-fn tell_one<S: Sink>(story: &Story, c: Option<CNo>, sink: &mut S) -> Result<(), AllocError>
-    ensures { OnOk result (TellsThese S.told clue [] sink.old sink.new) }
-{
-    let Some(c) = c else {
-        return Ok(());
-    };
-    let Some(channel) = story.last.channels.get(usize::from(c.0)) else {
-        return Ok(());
-    };
-    tell_state(c, channel, sink)?;
-    Ok(())
-}
-
-/// The channels that the cases name.
-fn tell_cases<S: Sink>(story: &Story, cases: &[Case], sink: &mut S) -> Result<(), AllocError>
-    ensures { OnOk result (TellsThese S.told clue [] sink.old sink.new) }
-{
-    for case in cases {
-        tell_one(story, channel_of(*case), sink)?;
-    }
-    Ok(())
-}
-
-/// The channels that the call names.
-fn tell_channels<S: Sink>(story: &Story, call: &Call, sink: &mut S) -> Result<(), AllocError>
-    ensures { OnOk result (TellsThese S.told clue [] sink.old sink.new) }
-{
-    match call {
-        Call::Send(c, _) => tell_one(story, *c, sink),
-        Call::Recv(c) | Call::Close(c) | Call::Len(c) | Call::Cap(c) => tell_one(story, *c, sink),
-        Call::Select(cases, _, _) => tell_cases(story, cases.as_slice(), sink),
-        _ => Ok(()),
-    }
 }
 
 /// The replies that are allowed.
@@ -246,14 +111,13 @@ pub fn tell_riddle<S: Sink>(
     mut entry: Entry,
     sink: &mut S,
 ) -> Result<(), OutOfMemory>
+    requires few { length story.now.last.goroutines.items < 2 ^ 16 }
+    requires same { state_of story.now.last ≡ record story.now.replay.state { outcome = None } }
     ensures { OnOk result (TellsEntry S.told story.now.replay.limits story.now.replay.state entry sink.old sink.new) }
 {
     let number = story.first.unwrap_or(0).wrapping_add(story.steps as u64);
     let line = line_of(alloc, number, &entry)?;
     sink.tell(&Fact::NoStep(&line))?;
-    tell_machine(story, entry.m, sink)?;
-    tell_runner(story, entry.m, sink)?;
-    tell_named(story, &entry, sink)?;
-    tell_channels(story, &entry.call, sink)?;
+    tell_before(story, &entry, sink)?;
     tell_allowed(alloc, story, &mut entry, sink)
 }

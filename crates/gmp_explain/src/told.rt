@@ -1,6 +1,6 @@
 //! What is told of a trace: the state to which its entries lead, as the checker has it, and what was heard on the way.
 ghost use Rattle.std.specs.Prelude.{◌≡◌, ◌≢◌, ◌<◌, ◌^◌, IfErr, IfOk, length, option_copied};
-ghost use Rattle.gmp_seq.specs.Table.{status_at};
+ghost use Rattle.gmp_seq.specs.Table.{epoch_at, status_at};
 ghost use Rattle.gmp_start.specs.Start.{table_of};
 ghost use Rattle.gmp_trace.specs.declared.bad.Why.TheVariants.{OutOfMemory};
 ghost use Rattle.gmp_trace.specs.Text.{content_of};
@@ -38,6 +38,16 @@ impl Story {
         match self.last.goroutines.get(usize::from(g.0)) {
             Some(row) => Some(&row.status),
             None => None,
+        }
+    }
+
+    /// How often a goroutine became ready.
+    pub(crate) fn epoch(&self, g: GNo) -> u64
+        ensures { result ≡ epoch_at (table_of self.now.last) g }
+    {
+        match self.last.goroutines.get(usize::from(g.0)) {
+            Some(row) => row.epoch,
+            None => 0,
         }
     }
 

@@ -1,12 +1,12 @@
 //! Of each entry of a right trace: its reply is among those that are allowed there, and its call lacks nothing.
-//! That each reply which is called allowed is a step is proved; that none is left out is seen here.
+//! That the replies which are called allowed are steps, and all of them, is proved; that an entry which is a step is found to lack nothing is seen here.
 
 ghost use Rattle.std.specs.Prelude.{[]};
 ghost use Rattle.gmp_seq.specs.Fits.{AreLimits};
 
 use crate::error::ScriptError;
+use gmp_allowed::allowed;
 use gmp_check::{Replay, begun};
-use gmp_explain::allowed;
 use gmp_history::History;
 use gmp_seq::Entry;
 use gmp_trace::{Trace, read};

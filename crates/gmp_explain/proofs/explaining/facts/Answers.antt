@@ -4,8 +4,8 @@ use Rattle.gmp_explain.specs.declared.fact.Fact.{Fact}
 use Rattle.gmp_explain.specs.declared.fact.Fact.TheVariants as fact
 use Rattle.gmp_explain.specs.declared.lines.Lines.{Lines}
 use Rattle.gmp_explain.specs.Lines.{lines_of}
-use Rattle.gmp_explain.specs.Spoken.{doing_from}
-use Rattle.gmp_explain.proofs.Texts.{if_some, says_entry, says_doing}
+use Rattle.gmp_explain.specs.Stated.{state_said}
+use Rattle.gmp_explain.proofs.Texts.{if_some, says, says_entry}
 use Rattle.gmp_explain.proofs.explaining.facts.Goals as goal
 
 pub returns-clause-told : goal.returns-clause-told
@@ -15,7 +15,7 @@ returns-clause-told c plain right =
       n = state.n;
       last = state.last;
       walked = state.walked;
-      says = says_doing (λ (l : Lines). string_bytes l.text) c.new-lines.result c.tell-2.new.sink (doing_from state.last.outcome 0 state.last.table.goroutines) c.new-lines.ensures state.tells;
+      says = says (λ (l : Lines). string_bytes l.text) c.new-lines.result c.tell-2.new.sink (state_said state.n state.last) c.new-lines.ensures state.tells;
     }
 
 pub returns-clause-riddle : goal.returns-clause-riddle

@@ -1,11 +1,11 @@
 use Rattle.std.proofs.Common.{◌≡◌, List, map, take, ap, sym, subst, ◌∙◌}
 use Rattle.std.proofs.lemmas.List.{take_all}
 use Rattle.gmp_seq.specs.declared.call.Reply.{Reply}
-use Rattle.gmp_explain.specs.Spoken.{TellsThese, clue}
+use Rattle.gmp_explain.specs.Spoken.{TellsOf}
 use Rattle.gmp_explain.specs.Told.{may}
 use Rattle.gmp_seq.specs.declared.call.Entry.{Entry}
-use Rattle.gmp_explain.proofs.ReplyWords.{alike_place, reply_told}
-use Rattle.gmp_explain.proofs.Spoken.{none}
+use Rattle.gmp_explain.proofs.ReplyWords.{alike_place}
+use Rattle.gmp_explain.proofs.Spoken.{element_told, none}
 use Rattle.gmp_explain.proofs.riddle.tell_replies.Goals as goal
 
 pub loop-reply-init : goal.loop-reply-init
@@ -24,7 +24,7 @@ tell_reply-requires g c =
 pub loop-reply-preserved : goal.loop-reply-preserved
 loop-reply-preserved g c = record {
   alike = λ r. ap (λ (e : Entry). let x : Entry = record e { reply = r } in x) c.in_ok-tell_reply.ensures.reply ∙ c.loop-reply.invariant.alike r;
-  tells = reply_told g.S.Sink.told c.deref-reply-items.result.now c.loop-reply.reply-index _ c.args.sink.now c.loop-reply.sink c.tell_reply.new.sink
+  tells = element_told g.S.Sink.told c.deref-reply-items.result.now c.loop-reply.reply-index _ may c.args.sink.now c.loop-reply.sink c.tell_reply.new.sink
       c.loop-reply-test.true c.loop-reply.invariant.tells c.in_ok-tell_reply.ensures.tells;
 }
 
@@ -36,5 +36,5 @@ returns g c =
       replies = c.in_ok-replies.replies.items;
       right = c.in_ok-replies.ensures.right;
       whole = c.in_ok-replies.ensures.whole;
-      tells = subst (λ (l : List Reply). TellsThese g.S.Sink.told clue (map may l) c.args.sink.now c.loop-reply.sink) all c.loop-reply.invariant.tells;
+      tells = subst (λ (l : List Reply). TellsOf g.S.Sink.told (map may l) c.args.sink.now c.loop-reply.sink) all c.loop-reply.invariant.tells;
     }

@@ -1,20 +1,18 @@
-use Rattle.std.proofs.Common.{ℕ, List, Some, [], ap, ◌∙◌}
+use Rattle.std.proofs.Common.{ℕ, List, Some, ap, subst, ◌∙◌}
+use Rattle.gmp_seq.specs.State.{State}
 use Rattle.gmp_explain.specs.Spoken.{Line}
-use Rattle.gmp_explain.proofs.Parts.{on_ok}
+use Rattle.gmp_explain.specs.Told.{TellsBefore}
+use Rattle.gmp_allowed.proofs.Results.{on_ok}
 use Rattle.gmp_explain.proofs.ReplyWords.{entry_told}
-use Rattle.gmp_explain.proofs.Spoken.{behind}
 use Rattle.gmp_explain.proofs.riddle.tell_riddle.Goals as goal
 
 pub returns : goal.returns
 returns g c =
     let told = g.S.Sink.told in
     let replay = c.args.story.now.replay in
-    let a = c.tell.new.self in
-    let b = c.tell_machine.new.sink in
-    let d = c.tell_runner.new.sink in
-    let e = c.tell_named.new.sink in
-    let f = c.tell_channels.new.sink in
-    let between = behind told a e f [] (behind told a d e [] (behind told a b d [] c.in_ok-tell_machine.ensures c.in_ok-tell_runner.ensures) c.in_ok-tell_named.ensures) c.in_ok-tell_channels.ensures in
+    let first = c.tell.new.self in
+    let mid = c.tell_before.new.sink in
     let words = c.deref.ensures.value ∙ c.in_ok-line.ensures in
-    on_ok c.tell_allowed.result (entry_told told replay.limits replay.state c.args.entry _ c.args.sink.now a f c.tell_allowed.new.sink c.in_ok-tell.ensures (ap (λ (l : List ℕ). Some (Line l)) words) between)
+    let before = subst (λ (s : State). TellsBefore told s c.args.entry first mid) c.requires.same c.in_ok-tell_before.ensures in
+    on_ok c.tell_allowed.result (entry_told told replay.limits replay.state c.args.entry _ c.args.sink.now first mid c.tell_allowed.new.sink c.in_ok-tell.ensures (ap (λ (l : List ℕ). Some (Line l)) words) before)
     c.tell_allowed.ensures

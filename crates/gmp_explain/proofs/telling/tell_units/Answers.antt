@@ -1,6 +1,6 @@
 use Rattle.std.proofs.Common.{refl, []}
 use Rattle.gmp_explain.specs.declared.fact.Fact.TheVariants as fact
-use Rattle.gmp_explain.proofs.Parts.{on_ok}
+use Rattle.gmp_allowed.proofs.Results.{on_ok}
 use Rattle.gmp_explain.proofs.Spoken.{behind, other}
 use Rattle.gmp_explain.proofs.telling.tell_units.Goals as goal
 

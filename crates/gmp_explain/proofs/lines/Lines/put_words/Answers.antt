@@ -1,7 +1,7 @@
 use Rattle.std.proofs.Common.{◌++◌, codes, string_bytes, rules}
 use Rattle.gmp_explain.specs.Text.{no_step_text}
 use Rattle.gmp_explain.proofs.PartLemmas.{words_added, words_done}
-use Rattle.gmp_explain.proofs.Parts.{on_ok}
+use Rattle.gmp_allowed.proofs.Results.{on_ok}
 use Rattle.gmp_explain.proofs.lines.Lines.put_words.Goals as goal
 
 pub loop-words-preserved : goal.loop-words-preserved

@@ -1,6 +1,0 @@
-use Rattle.gmp_explain.specs.Tried.{AddsEach, Before, IsOfRow}
-use Rattle.gmp_explain.proofs.replies.of_rows.Given as goal
-
--- those of the goroutines before g were added
-abbrev pub invariant-loop-g : goal.invariant-loop-g
-invariant-loop-g l = AddsEach (Before (IsOfRow l.m l.call l.rows) l.g) l.initial.out.items l.out.items
