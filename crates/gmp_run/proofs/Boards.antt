@@ -8,7 +8,7 @@ use Rattle.gmp_driver.specs.Machine.{Machine}
 use Rattle.gmp_run.specs.Boards.{AreCounted, IsCounted}
 
 -- what a place has once there is one value more
-push_get : {X : Type 0} (xs : List X) (y : X) (k : ℕ) (x : X) → slice_get (xs ++ y ∷ []) k ≡ Some x → ((k ≡ length xs) × (x ≡ y)) ⊎ (slice_get xs k ≡ Some x)
+pub push_get : {X : Type 0} (xs : List X) (y : X) (k : ℕ) (x : X) → slice_get (xs ++ y ∷ []) k ≡ Some x → ((k ≡ length xs) × (x ≡ y)) ⊎ (slice_get xs k ≡ Some x)
 push_get [] y zero x has = inl (refl, (let same : Some y ≡ Some x = has in cc))
 push_get [] y (suc k) x has = absurd (let none : None ≡ Some x = has in cc)
 push_get (w ∷ xs) y zero x has = inr has

@@ -94,11 +94,11 @@ numbered old now before after call reply values none made =
     let counts = made.step.2 in
     place_counted old.state.counts before.m.0 _ (sym (ap (λ (l : List ℕ). sum l) counts) ∙ made.made) ∙ ap (λ (k : ℕ). Some k) (sym turn)
 
-module _ {S : Type 0} (run : ℕ) (first : S → Type 0) (takes refuses : S → List Entry → S → Type 0) (old now : Log) (total total' : ℕ) (sink : S) (spare : HistoryContents)
-    (desk : IsDesk run first takes refuses old total sink spare) where
+module _ {S : Type 0} (run : ℕ) (first : S → Type 0) (takes refuses : S → List Entry → S → Type 0) (Made Made' : List Entry → Type 0) (old now : Log) (total total' : ℕ) (sink : S) (spare : HistoryContents)
+    (desk : IsDesk run first takes refuses Made old total sink spare) where
   -- no entry was made
-  pub unchanged : now ≡ old → entries_made now ≡ total' → IsDesk run first takes refuses now total' sink spare
-  unchanged same counted = record {
+  pub unchanged : now ≡ old → ((h : List Entry) → Made h → Made' h) → entries_made now ≡ total' → IsDesk run first takes refuses Made' now total' sink spare
+  unchanged same stays counted = record {
     run_is = ap (λ (l : Log). l.run) same ∙ desk.run_is;
     counted = counted;
     began = desk.began;
@@ -111,6 +111,7 @@ module _ {S : Type 0} (run : ℕ) (first : S → Type 0) (takes refuses : S → 
     left_full = subst (λ (l : Log). l.stopped ≡ true → IsFull l.limits spare.list) (sym same) desk.left_full;
     few = subst (λ (l : Log). length (spare.list ++ l.history) ≤ l.limits.room) (sym same) desk.few;
     legal = subst (λ (l : Log). IsLegal l.limits l.bodies l.capacities (joined desk.pieces ++ (spare.list ++ l.history)) l.state) (sym same) desk.legal;
+    made = subst (λ (l : Log). Made' (joined desk.pieces ++ (spare.list ++ l.history))) (sym same) (stays _ desk.made);
     whole = subst (λ (l : Log). l.limits.room ≡ l.limits.entries → desk.pieces ≡ []) (sym same) desk.whole;
     lasts = subst (λ (l : Log). l.limits.room ≡ l.limits.entries → l.stopped ≡ false) (sym same) desk.lasts;
     no_outcome = subst (λ (l : Log). l.stopped ≡ true → l.state.outcome ≡ None) (sym same) desk.no_outcome;
@@ -122,9 +123,10 @@ module _ {S : Type 0} (run : ℕ) (first : S → Type 0) (takes refuses : S → 
   }
 
   -- an entry more was made
-  pub recorded : (before after : Pass) (call : Call) (reply : Reply) (values : Handed) → refusal_of old before call values ≡ None → Records old before call reply now after → entries_made now ≡ total'
-      → IsDesk run first takes refuses now total' sink spare
-  recorded before after call reply values none made counted =
+  pub recorded : (before after : Pass) (call : Call) (reply : Reply) (values : Handed) → refusal_of old before call values ≡ None → Records old before call reply now after
+      → ((h : List Entry) → Made h → Made' (h ++ record { m = before.m; k = before.calls; call = call; reply = reply } ∷ [])) → entries_made now ≡ total'
+      → IsDesk run first takes refuses Made' now total' sink spare
+  recorded before after call reply values none made grows counted =
       let number = numbered old now before after call reply values none made in
       let room = more_room old now before after call reply values none made in
       let e : Entry = record { m = before.m; k = before.calls; call = call; reply = reply } in
@@ -142,6 +144,8 @@ module _ {S : Type 0} (run : ℕ) (first : S → Type 0) (takes refuses : S → 
       append_assoc (joined desk.pieces) old.history (e ∷ []) ∙ ap (λ (h : List Entry). joined desk.pieces ++ h) (sym made.entry) in
       let plain : Run old.limits start (joined desk.pieces ++ now.history) now.state = subst (λ (h : List Entry). Run old.limits start h now.state) history all in
       let legal : Run old.limits start (joined desk.pieces ++ (spare.list ++ now.history)) now.state = subst (λ (h : List Entry). Run old.limits start (joined desk.pieces ++ (h ++ now.history)) now.state) (sym empty) plain in
+      let made_before : Made (joined desk.pieces ++ old.history) = subst (λ (h : List Entry). Made (joined desk.pieces ++ (h ++ old.history))) empty desk.made in
+      let made_plain : Made' (joined desk.pieces ++ now.history) = subst Made' history (grows _ made_before) in
       let legal_by_capacities : IsLegal old.limits old.bodies now.capacities (joined desk.pieces ++ (spare.list ++ now.history)) now.state =
       subst (λ (cs : List ℕ). IsLegal old.limits old.bodies cs (joined desk.pieces ++ (spare.list ++ now.history)) now.state) (sym capacities) legal in
       let legal_by_bodies : IsLegal old.limits now.bodies now.capacities (joined desk.pieces ++ (spare.list ++ now.history)) now.state =
@@ -161,6 +165,7 @@ module _ {S : Type 0} (run : ℕ) (first : S → Type 0) (takes refuses : S → 
             subst (λ (l : Limits). length (spare.list ++ now.history) ≤ l.room) (sym limits)
             (subst (λ (h : List Entry). length (h ++ now.history) ≤ old.limits.room) (sym empty) room);
         legal = subst (λ (l : Limits). IsLegal l now.bodies now.capacities (joined desk.pieces ++ (spare.list ++ now.history)) now.state) (sym limits) legal_by_bodies;
+        made = subst (λ (h : List Entry). Made' (joined desk.pieces ++ (h ++ now.history))) (sym empty) made_plain;
         whole = subst (λ (l : Limits). l.room ≡ l.entries → desk.pieces ≡ []) (sym limits) desk.whole;
         lasts = λ e. on;
         no_outcome = λ stopped. absurd (false≢true (sym on ∙ stopped));
@@ -172,8 +177,8 @@ module _ {S : Type 0} (run : ℕ) (first : S → Type 0) (takes refuses : S → 
       }
 
 -- the history was handed out while the run goes on, and the sink took it
-module _ {S : Type 0} (run : ℕ) (first : S → Type 0) (takes refuses : S → List Entry → S → Type 0) (old : Log) (total : ℕ) (sink : S) (spare : HistoryContents)
-    (desk : IsDesk run first takes refuses old total sink spare) where
+module _ {S : Type 0} (run : ℕ) (first : S → Type 0) (takes refuses : S → List Entry → S → Type 0) (Made : List Entry → Type 0) (old : Log) (total : ℕ) (sink : S) (spare : HistoryContents)
+    (desk : IsDesk run first takes refuses Made old total sink spare) where
   -- the history is no longer than the entries made
   made_at_least : length old.history ≤ entries_made old
   made_at_least =
@@ -186,16 +191,19 @@ module _ {S : Type 0} (run : ℕ) (first : S → Type 0) (takes refuses : S → 
   legal_on : old.stopped ≡ false → IsLegal old.limits old.bodies old.capacities (joined desk.pieces ++ old.history) old.state
   legal_on on = subst (λ (h : List Entry). IsLegal old.limits old.bodies old.capacities (joined desk.pieces ++ (h ++ old.history)) old.state) (desk.empty on) desk.legal
 
+  made_on : old.stopped ≡ false → Made (joined desk.pieces ++ old.history)
+  made_on on = subst (λ (h : List Entry). Made (joined desk.pieces ++ (h ++ old.history))) (desk.empty on) desk.made
+
   -- the sink is as the pieces left it
   taken_on : old.stopped ≡ false → TakesAll takes desk.began desk.pieces sink
   taken_on on =
       let same : sink ≡ desk.behind = subst (λ (b : Bool). IsLeftSo refuses b desk.behind spare.list sink) on desk.left_so in
       subst (TakesAll takes desk.began desk.pieces) (sym same) desk.taken
 
-  pub taken_by : (now : Log) (sink' : S) (spare' : HistoryContents) → now ≡ handed_out old → takes sink old.history sink'
+  pub taken_by : (Made' : List Entry → Type 0) → ((h : List Entry) → Made h → Made' h) → (now : Log) (sink' : S) (spare' : HistoryContents) → now ≡ handed_out old → takes sink old.history sink'
       → IsFull old.limits old.history → entries_made old < old.limits.entries → old.stopped ≡ false → spare'.list ≡ [] → old.limits.room ≤ spare'.room → old.limits.room ≤ spare'.lasting
-      → IsDesk run first takes refuses now total sink' spare'
-  taken_by now sink' spare' same took full goes on empty room lasting = subst (λ (l : Log). IsDesk run first takes refuses l total sink' spare') (sym same) (record {
+      → IsDesk run first takes refuses Made' now total sink' spare'
+  taken_by Made' stays now sink' spare' same took full goes on empty room lasting = subst (λ (l : Log). IsDesk run first takes refuses Made' l total sink' spare') (sym same) (record {
     run_is = desk.run_is;
     counted = desk.counted;
     began = desk.began;
@@ -210,6 +218,9 @@ module _ {S : Type 0} (run : ℕ) (first : S → Type 0) (takes refuses : S → 
     legal =
         subst (λ (h : List Entry). IsLegal old.limits old.bodies old.capacities (joined (desk.pieces ++ old.history ∷ []) ++ (h ++ [])) old.state) (sym empty)
         (subst (λ (h : List Entry). IsLegal old.limits old.bodies old.capacities h old.state) (sym (append-nil _ ∙ joined_one_more desk.pieces old.history)) (legal_on on));
+    made =
+        subst (λ (h : List Entry). Made' (joined (desk.pieces ++ old.history ∷ []) ++ (h ++ []))) (sym empty)
+        (subst Made' (sym (append-nil _ ∙ joined_one_more desk.pieces old.history)) (stays _ (made_on on)));
     whole = λ e. absurd (let made = made_at_least in omega (arith, e, goes, made, full));
     lasts = λ e. on;
     no_outcome = λ stopped. absurd (false≢true (sym on ∙ stopped));
@@ -221,10 +232,10 @@ module _ {S : Type 0} (run : ℕ) (first : S → Type 0) (takes refuses : S → 
   })
 
   -- the sink refused it, and the run was stopped
-  pub stopped_by : (now : Log) (sink' : S) (spare' : HistoryContents) → now ≡ record (handed_out old) { stopped = true } → refuses sink old.history sink'
+  pub stopped_by : (Made' : List Entry → Type 0) → ((h : List Entry) → Made h → Made' h) → (now : Log) (sink' : S) (spare' : HistoryContents) → now ≡ record (handed_out old) { stopped = true } → refuses sink old.history sink'
       → IsFull old.limits old.history → entries_made old < old.limits.entries → is_over old ≡ false → spare'.list ≡ old.history → All Fits old.history
-      → IsDesk run first takes refuses now total sink' spare'
-  stopped_by now sink' spare' same refused full goes lasts left fit = subst (λ (l : Log). IsDesk run first takes refuses l total sink' spare') (sym same) (record {
+      → IsDesk run first takes refuses Made' now total sink' spare'
+  stopped_by Made' stays now sink' spare' same refused full goes lasts left fit = subst (λ (l : Log). IsDesk run first takes refuses Made' l total sink' spare') (sym same) (record {
     run_is = desk.run_is;
     counted = desk.counted;
     began = desk.began;
@@ -238,6 +249,7 @@ module _ {S : Type 0} (run : ℕ) (first : S → Type 0) (takes refuses : S → 
     few = (let long = ap (λ (h : List Entry). length h) (append-nil _ ∙ left) in omega (arith, long, full));
     legal =
         subst (λ (h : List Entry). IsLegal old.limits old.bodies old.capacities (joined desk.pieces ++ h) old.state) (sym (append-nil _ ∙ left)) (legal_on (not_over old lasts).1);
+    made = subst (λ (h : List Entry). Made' (joined desk.pieces ++ h)) (sym (append-nil _ ∙ left)) (stays _ (made_on (not_over old lasts).1));
     whole = λ e. absurd (let made = made_at_least in omega (arith, e, goes, made, full));
     lasts = λ e. absurd (let made = made_at_least in omega (arith, e, goes, made, full));
     no_outcome = λ stopped. (not_over old lasts).0;
@@ -277,9 +289,9 @@ module _ {S : Type 0} (run : ℕ) (first : S → Type 0) (takes refuses : S → 
     by None is = absurd (false≢true (sym (rw (is, desk.lasts whole) refl) ∙ over))
 
 -- no call was made
-pub opened : {S : Type 0} (run : ℕ) (first : S → Type 0) (takes refuses : S → List Entry → S → Type 0) (limits : Limits) (bodies : ℕ) (capacities : List ℕ) (sink : S) → first sink
-    → IsDesk run first takes refuses (opening_log run limits bodies capacities) 0 sink (record { list = []; room = limits.room; lasting = limits.room })
-opened run first takes refuses limits bodies capacities sink is_first = record {
+pub opened : {S : Type 0} (run : ℕ) (first : S → Type 0) (takes refuses : S → List Entry → S → Type 0) (Made : List Entry → Type 0) (limits : Limits) (bodies : ℕ) (capacities : List ℕ) (sink : S) → first sink → Made []
+    → IsDesk run first takes refuses Made (opening_log run limits bodies capacities) 0 sink (record { list = []; room = limits.room; lasting = limits.room })
+opened run first takes refuses Made limits bodies capacities sink is_first none = record {
   run_is = refl;
   counted = none_yet limits.machines;
   began = sink;
@@ -292,6 +304,7 @@ opened run first takes refuses limits bodies capacities sink is_first = record {
   left_full = λ stopped. absurd (false≢true stopped);
   few = omega arith;
   legal = refl;
+  made = none;
   whole = λ e. refl;
   lasts = λ e. refl;
   no_outcome = λ stopped. refl;

@@ -61,9 +61,9 @@ abbrev pub Stops : {T Q S : Type 0} → (S → List Entry → S → Type 0) → 
 Stops refuses old new = (new.book ≡ stopped_book old.book) × refuses old.sink old.book.log.history new.sink
 
 -- All entries, those that the sink took since the run began and those that are left, are a legal run to the present state, and as many as the
--- machines made calls. What the sink was handed was full each time. Where the run was stopped, the sink refused what is in the spare, and no
--- entry follows. A run that has as much room as entries hands none out.
-pub record IsDesk {S : Type 0} (run : ℕ) (first : S → Type 0) (takes refuses : S → List Entry → S → Type 0) (log : Log) (total : ℕ) (sink : S) (spare : HistoryContents) : Type 0 where
+-- machines made calls; and so much is so of them (`Made`). What the sink was handed was full each time. Where the run was stopped, the sink
+-- refused what is in the spare, and no entry follows. A run that has as much room as entries hands none out.
+pub record IsDesk {S : Type 0} (run : ℕ) (first : S → Type 0) (takes refuses : S → List Entry → S → Type 0) (Made : List Entry → Type 0) (log : Log) (total : ℕ) (sink : S) (spare : HistoryContents) : Type 0 where
   pub run_is : log.run ≡ run
   pub counted : entries_made log ≡ total
   pub began : S
@@ -76,6 +76,7 @@ pub record IsDesk {S : Type 0} (run : ℕ) (first : S → Type 0) (takes refuses
   pub left_full : log.stopped ≡ true → IsFull log.limits spare.list
   pub few : length (spare.list ++ log.history) ≤ log.limits.room
   pub legal : IsLegal log.limits log.bodies log.capacities (joined pieces ++ (spare.list ++ log.history)) log.state
+  pub made : Made (joined pieces ++ (spare.list ++ log.history))
   pub whole : log.limits.room ≡ log.limits.entries → pieces ≡ []
   pub lasts : log.limits.room ≡ log.limits.entries → log.stopped ≡ false
   pub no_outcome : log.stopped ≡ true → log.state.outcome ≡ None

@@ -5,7 +5,9 @@ ghost use Rattle.gmp_base.specs.declared.pass.Pass.{Pass};
 ghost use Rattle.gmp_driver.specs.Table.{next_act};
 ghost use Rattle.gmp_worker.specs.AtQueue.{IsQueueAct};
 ghost use Rattle.gmp_worker.specs.Local.{IsOfBodyOrClock};
+ghost use Rattle.gmp_acts.specs.Hands.{plain_machine};
 ghost use Rattle.gmp_run.specs.Counts.{calls_in};
+ghost use Rattle.gmp_run.specs.Trails.{GoesAlone, first_machine};
 
 use crate::desk::{RunLedger, SinkLedger};
 use crate::outside::{Clock, Sink};
@@ -58,6 +60,7 @@ pub(crate) struct Machine<T, L: RunLedger> {
     pub ghost counted: { share.amount ≡ calls_in driver.pass },
     pub ghost board: { stub.name ≡ L.board },
     pub ghost left: { driver.pass ≡ stub.value.pass },
+    pub ghost alone: { ∥ GoesAlone (plain_machine stub.value) (plain_machine driver) ∥₁ },
 }
 
 impl<T: Drop, L: RunLedger> Machine<T, L> {
@@ -79,7 +82,7 @@ impl<T: Drop, L: RunLedger> Machine<T, L> {
         requires one_part { share.parts ≡ 1 }
         requires board { board.old.name ≡ L.board }
         ensures board { board.new.name ≡ board.old.name }
-        ensures added { (x : _) × (x.pass ≡ Some pass) × (board.new.values ≡ board.old.values ++ x ∷ []) }
+        ensures added { (x : _) × (x.pass ≡ Some pass) × (plain_machine x ≡ first_machine pass procs L.fair) × (board.new.values ≡ board.old.values ++ x ∷ []) }
     {
         let m = pass.m;
         let driver = Driver::new_fair(pass, procs, is_fair);
@@ -190,7 +193,9 @@ impl<T: Drop, L: RunLedger> Machine<T, L> {
 /// finds by itself.
 pub(crate) trait Runs: Drop {
     ghost use Rattle.std.specs.Prelude.{◌≡◌, IsSome, is_some};
+    ghost use Rattle.gmp_acts.specs.Hands.{plain_machine};
     ghost use Rattle.gmp_driver.specs.Table.{next_act};
+    ghost use Rattle.gmp_run.specs.Trails.{GoesOn};
     ghost use Rattle.gmp_worker.specs.Local.{IsOfBodyOrClock};
 
     /// Makes the act on a body or the clock that the driver names next. The moment is the clock's reading.
@@ -199,7 +204,8 @@ pub(crate) trait Runs: Drop {
         requires pass { IsSome driver.old.pass }
         ensures pass { driver.new.pass ≡ driver.old.pass }
         ensures run { driver.new.run ≡ driver.old.run }
-        ensures fair { is_some driver.new.aside ≡ is_some driver.old.aside };
+        ensures fair { is_some driver.new.aside ≡ is_some driver.old.aside }
+        ensures goes { GoesOn (plain_machine driver.old) (plain_machine driver.new) };
 }
 
 impl Runs for Boxed {

@@ -1,13 +1,13 @@
 //! Runs the machines of a run: opens book and queues, seats the machines, starts the threads, and gathers what they leave.
 //! A machine lies in a seat, a mutex of its own, from which its thread takes it and to which it brings it back. Not moved into the thread's
 //! closure: where that can't be started it is dropped with the machine, and its share of the calls would be lost.
-ghost use Rattle.std.specs.Prelude.{◌≡◌, ◌≤◌, [], All, IsSome, length, replicate, vec_capacity, IfErr, IfOk, OnErr, OnOk};
+ghost use Rattle.std.specs.Prelude.{◌≡◌, ◌≤◌, [], All, IsSome, false, length, replicate, vec_capacity, IfErr, IfOk, OnErr, OnOk};
 ghost use Rattle.gmp_run.specs.Counts.{IsCountOf, all_calls};
 ghost use Rattle.gmp_seq.specs.Fits.{AreLimits};
 ghost use Rattle.gmp_book.specs.Book.{opening_passes};
 ghost use Rattle.gmp_turn.specs.Whole.{IsWholeRun};
-ghost use Rattle.gmp_run.specs.Boards.{AreCounted};
-ghost use Rattle.gmp_run.specs.Reports.{AreLogs, IsPiecesReport, IsRunReport, WhyUnrun};
+ghost use Rattle.gmp_run.specs.Boards.{AreCounted, AreFirst};
+ghost use Rattle.gmp_run.specs.Reports.{AreLogs, IsPiecesReport, IsPiecesReportOf, IsRunReport, IsRunReportOf, WhyUnrun};
 
 use crate::desk::{Bench, Desk, RunLedger, SinkLedger};
 use crate::ending::{Report, Unrun, finish, hang};
@@ -53,6 +53,7 @@ pub fn run<R: Threads + Wait + Sync, C: Clock + Sync, G: Gate + Sync>(
     random: u64,
 ) -> Result<Report<Boxed>, Unrun<Boxed>>
     ensures report { IfOk result (IsRunReport limits capacities.now (length bodies.items) []) }
+    ensures of { IfOk result (IsRunReportOf run false limits capacities.now (length bodies.items) []) }
     ensures ended { IfOk result (λ r. IsSome r.outcome) }
     ensures whole { OnOk result (limits.room ≡ limits.entries) }
     ensures why { IfErr result (λ u. WhyUnrun (IsWholeRun limits (length bodies.items) capacities.now) u.why) }
@@ -77,6 +78,7 @@ pub fn run_fair<R: Threads + Wait + Sync, C: Clock + Sync, G: Gate + Sync>(
     is_fair: bool,
 ) -> Result<Report<Boxed>, Unrun<Boxed>>
     ensures report { IfOk result (IsRunReport limits capacities.now (length bodies.items) []) }
+    ensures of { IfOk result (IsRunReportOf run is_fair limits capacities.now (length bodies.items) []) }
     ensures ended { IfOk result (λ r. IsSome r.outcome) }
     ensures whole { OnOk result (limits.room ≡ limits.entries) }
     ensures why { IfErr result (λ u. WhyUnrun (IsWholeRun limits (length bodies.items) capacities.now) u.why) }
@@ -111,6 +113,7 @@ pub fn run_into<R: Threads + Wait + Sync, C: Clock + Sync, G: Gate + Sync, S: Si
     sink: S,
 ) -> (Result<Report<Boxed>, Unrun<Boxed>>, S)
     ensures report { IfOk result.0 (λ r. IsPiecesReport S.takes S.refuses limits capacities.now (length bodies.items) sink r result.1) }
+    ensures of { IfOk result.0 (λ r. IsPiecesReportOf run false S.takes S.refuses limits capacities.now (length bodies.items) sink r result.1) }
     ensures why { IfErr result.0 (λ u. WhyUnrun (AreLimits limits (length bodies.items) capacities.now) u.why) }
     ensures back { IfErr result.0 (λ u. u.bodies.items ≡ bodies.items) }
     ensures unused { OnErr result.0 (result.1 ≡ sink) }
@@ -135,6 +138,7 @@ pub fn run_into_fair<R: Threads + Wait + Sync, C: Clock + Sync, G: Gate + Sync, 
     is_fair: bool,
 ) -> (Result<Report<Boxed>, Unrun<Boxed>>, S)
     ensures report { IfOk result.0 (λ r. IsPiecesReport S.takes S.refuses limits capacities.now (length bodies.items) sink r result.1) }
+    ensures of { IfOk result.0 (λ r. IsPiecesReportOf run is_fair S.takes S.refuses limits capacities.now (length bodies.items) sink r result.1) }
     ensures why { IfErr result.0 (λ u. WhyUnrun (AreLimits limits (length bodies.items) capacities.now) u.why) }
     ensures back { IfErr result.0 (λ u. u.bodies.items ≡ bodies.items) }
     ensures unused { OnErr result.0 (result.1 ≡ sink) }
@@ -186,6 +190,7 @@ fn run_as<
     requires first { (s : S) → L.first s → s ≡ sink }
     requires begins { L.first sink }
     ensures report { IfOk result.0 (λ r. IsPiecesReport S.takes S.refuses limits capacities.now (length bodies.items) sink r result.1) }
+    ensures of { IfOk result.0 (λ r. IsPiecesReportOf run is_fair S.takes S.refuses limits capacities.now (length bodies.items) sink r result.1) }
     ensures why { IfErr result.0 (λ u. WhyUnrun (AreLimits limits (length bodies.items) capacities.now) u.why) }
     ensures back { IfErr result.0 (λ u. u.bodies.items ≡ bodies.items) }
     ensures unused { OnErr result.0 (result.1 ≡ sink) }
@@ -273,6 +278,8 @@ fn seat_all<L: RunLedger>(
     ensures amount { all.new.amount ≡ 0 }
     ensures board { board.new.name ≡ L.board }
     ensures counted { AreCounted (replicate L.parts 0) L.parts board.new.values }
+    ensures all { length board.new.values ≡ L.parts }
+    ensures first { AreFirst L.parts L.run L.fair procs board.new.values }
 {
     let mut seats = room;
     let mut passes = passes;

@@ -1,6 +1,12 @@
-use Rattle.std.proofs.Common.{◌≡◌, ℕ, List, Some, refl, rules, slice_get, subst, sym, ◌∙◌}
+use Rattle.std.proofs.Common.{◌≡◌, ℕ, List, Some, ap, length, refl, rules, slice_get, subst, sym, ◌∙◌}
+use Rattle.std.proofs.lemmas.List.{length-set}
+use Rattle.gmp_seq.specs.declared.call.Entry.{Entry}
 use Rattle.gmp_driver.specs.Machine.{Machine}
-use Rattle.gmp_run.specs.Boards.{AreCounted}
+use Rattle.gmp_acts.specs.Hands.{plain_machine}
+use Rattle.gmp_run.specs.Boards.{AreCounted, AreLed}
+use Rattle.gmp_run.proofs.Desks.{unchanged}
+use Rattle.gmp_run.proofs.Leading.{acts}
+use Rattle.gmp_run.proofs.Trails.{rests}
 use Rattle.gmp_run.proofs.Boards.{of_pass, stays}
 use Rattle.gmp_run.proofs.desk.Desk+T+Owner+L+S.log_of.Goals as goal
 
@@ -9,8 +15,21 @@ invariant_of-self g c =
     let d = c.self.inside in
     let x = c.args.machine in
     let set = c.set.ensures in
-    let board = stays d.book.log.state.counts g.L.Ledger.parts d.board.values c.self.invariant.2 x.stub.at x.stub.value x.driver set.agreed x.left x.driver refl in
-    (c.self.invariant.0, set.name ∙ c.self.invariant.1, subst (λ (b : List (Machine _ _)). AreCounted d.book.log.state.counts g.L.Ledger.parts b) (sym set.values) board)
+    let run = g.L.RunLedger.run in
+    let is_fair = g.L.RunLedger.fair in
+    let machines = g.L.Ledger.parts in
+    let log = d.book.log in
+    let Led : List (Machine _ _) → List Entry → Type 0 = λ b h. AreLed machines run is_fair log b h in
+    let desk = unchanged run g.L.SinkLedger.first g.S.Sink.takes g.S.Sink.refuses (Led d.board.values) (Led c.set.new.self.values) log log d.tally.total d.tally.total d.sink d.spare c.self.invariant.0 refl
+    (λ h led. subst (λ (b : List (Machine _ _)). Led b h) (sym set.values)
+    (acts machines run is_fair d.board.values x.stub.at x.stub.value x.driver x.driver set.agreed x.alone log h (rests (plain_machine x.driver)) led)) c.self.invariant.0.counted in
+    let board = stays log.state.counts machines d.board.values c.self.invariant.2 x.stub.at x.stub.value x.driver set.agreed x.left x.driver refl in
+    let long = ap (λ (b : List (Machine _ _)). length b) set.values ∙ length-set d.board.values x.stub.at x.driver in (
+      desk,
+      set.name ∙ c.self.invariant.1,
+      subst (λ (b : List (Machine _ _)). AreCounted log.state.counts machines b) (sym set.values) board,
+      long ∙ c.self.invariant.3,
+    )
 
 pub returns-clause-counted : goal.returns-clause-counted
 returns-clause-counted g c =

@@ -1,7 +1,9 @@
-use Rattle.std.proofs.Common.{List, arith, subst, sym, ◌∙◌}
+use Rattle.std.proofs.Common.{List, ap, arith, length, refl, subst, sym, ◌∙◌}
+use Rattle.std.proofs.lemmas.List.{length-set}
 use Rattle.gmp_driver.specs.Machine.{Machine}
 use Rattle.gmp_driver.specs.Table.{next_act}
-use Rattle.gmp_run.specs.Boards.{AreCounted}
+use Rattle.gmp_run.specs.Boards.{AreCounted, AreLed}
+use Rattle.gmp_run.specs.Desks.{IsDesk}
 use Rattle.gmp_run.proofs.Keeping.{counted as on_board, kept}
 use Rattle.gmp_run.proofs.desk.Desk+T+Owner+L+S.turn.Goals as goal
 
@@ -11,12 +13,24 @@ invariant_of-self g c =
     let machine = c.args.machine.now in
     let turn = c.counted_turn-woken in
     let desk = c.self.invariant.0 in
+    let run = g.L.RunLedger.run in
+    let is_fair = g.L.RunLedger.fair in
+    let machines = g.L.Ledger.parts in
+    let first = g.L.SinkLedger.first in
+    let takes = g.S.Sink.takes in
+    let refuses = g.S.Sink.refuses in
     let counted = desk.counted in
     let made = turn.ensures.entries in
     let added = c.add.ensures.total in
     let set = c.set.ensures in
-    let kept_desk = kept g.L.RunLedger.run g.L.SinkLedger.first g.S.Sink.takes g.S.Sink.refuses old.tally.total c.add.new.self.total old.sink old.spare (next_act machine.driver) machine.driver old.book machine.random
-    _ turn.new.driver turn.new.book turn.new.random turn.ensures.turn desk (omega (arith, counted, made, added)) in
-    let board = on_board g.L.Ledger.parts old.board.values machine.stub.at machine.stub.value set.agreed (next_act machine.driver) machine.driver old.book machine.random
+    let fits = turn.ensures.keeps.fits machine.pass in
+    let kept_desk = kept run is_fair machines first takes refuses old.tally.total c.add.new.self.total old.sink old.spare old.board.values machine.stub.at machine.stub.value set.agreed machine.driver old.book turn.new.driver turn.new.book
+    machine.alone desk (next_act machine.driver) refl machine.random _ turn.new.random fits machine.left c.self.invariant.2 turn.ensures.turn (omega (arith, counted, made, added)) in
+    let board = on_board machines old.board.values machine.stub.at machine.stub.value set.agreed (next_act machine.driver) machine.driver old.book machine.random
     _ turn.new.driver turn.new.book turn.new.random turn.ensures.turn machine.left c.self.invariant.2 in
-    (kept_desk, set.name ∙ c.self.invariant.1, subst (λ (b : List (Machine _ _)). AreCounted turn.new.book.log.state.counts g.L.Ledger.parts b) (sym set.values) board)
+    let long = ap (λ (b : List (Machine _ _)). length b) set.values ∙ length-set old.board.values machine.stub.at turn.new.driver in (
+      subst (λ (b : List (Machine _ _)). IsDesk run first takes refuses (AreLed machines run is_fair turn.new.book.log b) turn.new.book.log c.add.new.self.total old.sink old.spare) (sym set.values) kept_desk,
+      set.name ∙ c.self.invariant.1,
+      subst (λ (b : List (Machine _ _)). AreCounted turn.new.book.log.state.counts machines b) (sym set.values) board,
+      long ∙ c.self.invariant.3,
+    )

@@ -1,6 +1,13 @@
 use Rattle.std.proofs.Common.{rules}
+use Rattle.std.proofs.Math.Logic.{∥∥₁_map}
 use Rattle.gmp_run.proofs.Fair.{queue_fair}
+use Rattle.gmp_run.proofs.Making.{at_queue}
+use Rattle.gmp_run.proofs.Trails.{alone_join, goes}
 use Rattle.gmp_run.proofs.machine.Machine.queue_turn.Goals as goal
 
 pub invariant_of-self : goal.invariant_of-self
-invariant_of-self g c = (let fair = queue_fair _ _ _ _ _ c.queue_turn.ensures.turns in search (rules, fair))
+invariant_of-self g c =
+    let turns = c.queue_turn.ensures.turns in
+    let fair = queue_fair _ _ _ _ _ turns in
+    let alone = ∥∥₁_map c.args.self.now.alone (λ since. alone_join _ _ _ since (goes _ _ (at_queue _ _ _ _ _ turns))) in
+    search (rules, fair, alone)
