@@ -61,7 +61,7 @@ abbrev pub Stops : {T Q S : Type 0} → (S → List Entry → S → Type 0) → 
 Stops refuses old new = (new.book ≡ stopped_book old.book) × refuses old.sink old.book.log.history new.sink
 
 -- All entries, those that the sink took since the run began and those that are left, are a legal run to the present state, and as many as the
--- machines made calls; and so much is so of them (`Made`). What the sink was handed was full each time. Where the run was stopped, the sink
+-- machines made calls, and `Made` holds of them. What the sink was handed was full each time. Where the run was stopped, the sink
 -- refused what is in the spare, and no entry follows. A run that has as much room as entries hands none out.
 pub record IsDesk {S : Type 0} (run : ℕ) (first : S → Type 0) (takes refuses : S → List Entry → S → Type 0) (Made : List Entry → Type 0) (log : Log) (total : ℕ) (sink : S) (spare : HistoryContents) : Type 0 where
   pub run_is : log.run ≡ run

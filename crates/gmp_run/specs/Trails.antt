@@ -34,7 +34,7 @@ HoldsThen (told.Drew word (tried.Got hint)) hand hand' = (r : Readiness) × (han
 HoldsThen told.Pushed hand hand' = (r : Readiness) × (hand.to_store ≡ Some r) × (hand' ≡ record hand { to_store = None })
 HoldsThen what hand hand' = hand' ≡ hand
 
--- What came of its act at a queue, of a body or of the clock it was told. A body may ask for anything.
+-- It was told what came of its act at a queue, on a body or the clock. A queue may give any ticket, a body ask anything, the clock show any moment.
 pub record IsTold (x y : PlainMachine) : Type 0 where
   pub what : Told
   pub hand : PlainHand
@@ -42,12 +42,12 @@ pub record IsTold (x y : PlainMachine) : Type 0 where
   pub holds : HoldsThen what x.hand hand
   pub machine : y ≡ after (record x { hand = hand }) what
 
--- what it holds once its call was refused: the goroutine of a make is to be told of want of memory
+-- what it holds once its call was refused: where memory was, the goroutine of a make is to be told so
 abbrev pub hand_refused : Call → Refusal → PlainHand → PlainHand
 hand_refused (call.Make capacity) OutOfMemory hand = hand_unmade hand
 hand_refused asked why hand = hand
 
--- The call that it names was refused, and it was told why.
+-- It was told that the call which it names was refused, for any reason.
 pub record IsRefused (x y : PlainMachine) : Type 0 where
   pub asked : Call
   pub why : Refusal
@@ -101,7 +101,7 @@ GoesAlong limits m old (e ∷ h) new x z = (mid : State) × (y : PlainMachine) �
 abbrev pub first_pass : ℕ → ℕ → Pass
 first_pass run m = record { run = run; m = record { 0 = m }; calls = 0; seen = 0 }
 
--- a machine with this pass before its first act, one of so many processors, fair or not
+-- a machine with this pass before its first act, in a run with so many processors, fair or not
 abbrev pub first_machine : Pass → ℕ → Bool → PlainMachine
 first_machine pass procs is_fair = record { run = pass.run; procs = procs; place = place.Start; fresh = false; turns = 0; aside = first_aside is_fair; pass = Some pass; hand = nothing }
 

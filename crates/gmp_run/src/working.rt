@@ -3,6 +3,7 @@
 //! (`mind`; a call, the watched deadline, or the run's end), and in a hunt (`lie_in_wait`; a push, a call, or so many looks).
 
 ghost use Rattle.std.specs.Prelude.{◌≡◌};
+ghost use Rattle.gmp_driver.specs.Fits.{IsDriver};
 ghost use Rattle.gmp_driver.specs.Table.{next_act};
 ghost use Rattle.gmp_turn.specs.Turns.{HasMemory};
 ghost use Rattle.gmp_worker.specs.Turn.{IsAtBook};
@@ -81,6 +82,7 @@ impl<'a, T: Runs, C: Clock, G: Gate, L: SinkLedger<S>, S: Sink> Floor<'a, T, C, 
         memory: Option<Global>,
         machine: &mut Machine<T, L>,
     )
+        requires fits { IsDriver machine.old.driver }
         requires act { IsAtBook (next_act machine.old.driver) }
         requires memory { HasMemory (next_act machine.old.driver) memory }
     {
@@ -150,7 +152,8 @@ impl<'a, T: Runs, C: Clock, G: Gate, L: SinkLedger<S>, S: Sink> Floor<'a, T, C, 
     // Not inlined: whoever makes a frequent act pays for no local of another.
     #[inline(never)]
     fn make<R: Wait>(&self, rt: &R, alloc: Global, machine: &mut Machine<T, L>, act: Act)
-        requires { act ≡ next_act machine.old.driver }
+        requires fits { IsDriver machine.old.driver }
+        requires act { act ≡ next_act machine.old.driver }
     {
         match act {
             Act::Nothing => {}

@@ -23,7 +23,7 @@ invariant_of-self g c =
     let made = turn.ensures.entries in
     let added = c.add.ensures.total in
     let set = c.set.ensures in
-    let fits = turn.ensures.keeps.fits machine.pass in
+    let fits = c.requires.fits.fits machine.pass in
     let kept_desk = kept run is_fair machines first takes refuses old.tally.total c.add.new.self.total old.sink old.spare old.board.values machine.stub.at machine.stub.value set.agreed machine.driver old.book turn.new.driver turn.new.book
     machine.alone desk (next_act machine.driver) refl machine.random _ turn.new.random fits machine.left c.self.invariant.2 turn.ensures.turn (omega (arith, counted, made, added)) in
     let board = on_board machines old.board.values machine.stub.at machine.stub.value set.agreed (next_act machine.driver) machine.driver old.book machine.random
