@@ -52,8 +52,8 @@ impl Outside<ScriptBody> for Clock {
 
     ghost shows = { Reads };
 
-    fn ask(&mut self, body: &mut ScriptBody, woke: Woke) -> Ask {
-        body.resume(woke)
+    fn ask(&mut self, body: &mut ScriptBody, woke: Woke, out: &mut Ask) {
+        body.resume_into(woke, out);
     }
 
     fn number(&mut self, body: &mut ScriptBody) -> u64 {

@@ -9,7 +9,6 @@ ghost use Rattle.gmp_driver.specs.Table.{next_act};
 ghost use Rattle.gmp_turn.specs.Turns.{HasMemory};
 ghost use Rattle.gmp_core.specs.Doing.{Does};
 
-use crate::copies::copied_ask;
 use crate::local::{pop, push, steal, tell};
 use crate::queues::Queues;
 use gmp_acts::Choice;
@@ -40,7 +39,7 @@ pub(crate) fn act<T>(
     match driver.frequent() {
         Frequent::Pop => pop(driver, queues, false),
         Frequent::Push => push(driver, queues, choice.push_refused),
-        Frequent::Resume => driver.tell_asked(copied_ask(&choice.ask)),
+        Frequent::Resume => driver.tell_asked(&choice.ask),
         Frequent::Other => any_act(alloc, driver, book, queues, m, choice),
         // The six calls that come most often. Whom to wake is of no use here, where nobody waits in a thread.
         which => {
@@ -108,7 +107,7 @@ fn act_next<T>(
             steal(driver, queues, Some(choice.word), victim, choice.unsure);
         }
         Act::Steal(victim) => steal(driver, queues, None, victim, choice.unsure),
-        Act::Resume => tell(driver, Told::Asked(copied_ask(&choice.ask))),
+        Act::Resume => tell(driver, Told::Asked(choice.ask.copied())),
         Act::Block => tell(driver, Told::Number(choice.number)),
         Act::Clock(_) => tell(driver, Told::Moment(choice.moment)),
         Act::Surrender(which) => {

@@ -30,17 +30,17 @@ pub(crate) fn choose<T, O: Outside<T>>(
     choice.push_refused = false;
     choice.unsure = false;
     match core.wants(m) {
-        Want::Ask => choice.ask = ask(core, outside, m),
+        Want::Ask => ask(core, outside, m, &mut choice.ask),
         Want::Number => choice.number = number(core, outside, m),
         Want::Moment(minded) => choice.moment = outside.moment(minded),
         Want::Nothing => {}
     }
 }
 
-/// What the body in the machine's hand asks next.
-fn ask<T, O: Outside<T>>(core: &mut Core<T>, outside: &mut O, m: MNo) -> Ask
+/// Writes what the body in the machine's hand asks next.
+fn ask<T, O: Outside<T>>(core: &mut Core<T>, outside: &mut O, m: MNo, out: &mut Ask)
     requires { IsSome (held_at (machine_at core.old.system m).place (machine_at core.old.system m).hand.held) }
-    ensures asks { Asks O.asks core.old outside.old m result core.new.stock outside.new }
+    ensures asks { Asks O.asks core.old outside.old m out.new core.new.stock outside.new }
     ensures system { core.new.system ≡ core.old.system }
     ensures shelf { core.new.shelf ≡ core.old.shelf }
 {
@@ -48,7 +48,7 @@ fn ask<T, O: Outside<T>>(core: &mut Core<T>, outside: &mut O, m: MNo) -> Ask
         unreachable!()
     };
     match core.body(m) {
-        Some(body) => outside.ask(body, woke),
+        Some(body) => outside.ask(body, woke, out),
         None => unreachable!(),
     }
 }

@@ -15,7 +15,7 @@ ghost use Rattle.gmp_core.specs.Whole.{wanted_by};
 ghost use Rattle.gmp_driver.specs.Table.{next_act};
 
 use crate::acting::act;
-use crate::copies::has_few;
+use crate::few::has_few;
 use crate::opening::{let_go, starting};
 use crate::queues::Queues;
 use crate::want::Want;
@@ -312,7 +312,7 @@ impl<T> Core<T> {
     pub fn parked(&self, m: MNo) -> bool
         ensures { result ≡ option_map_or is_parked_mode (slice_get self.now.system.book.state.machines.modes m.0) false }
     {
-        self.book.is_parked(m)
+        self.book.machines().is_parked(m)
     }
 
     /// Whether the machine's program is done: the run has its outcome, and the machine has given back all that it held. That of one that

@@ -25,8 +25,8 @@
 
 mod acting;
 mod choosing;
-mod copies;
 mod engine;
+mod few;
 mod laws;
 mod local;
 mod opening;

@@ -17,9 +17,9 @@ pub trait Outside<T> {
     /// From itself before, where this deadline is minded, to this moment and itself after.
     ghost shows: { Self → Option ℕ → ℕ → Self → Type 0 };
 
-    /// Goes on with the body, by this answer, until it asks again.
-    fn ask(&mut self, body: &mut T, woke: Woke) -> Ask
-        ensures { asks self.old body.old woke result self.new body.new };
+    /// Goes on with the body, by this answer, until it asks again, and writes what it asks.
+    fn ask(&mut self, body: &mut T, woke: Woke, out: &mut Ask)
+        ensures { asks self.old body.old woke out.new self.new body.new };
 
     /// Makes the body's blocking call.
     fn number(&mut self, body: &mut T) -> u64

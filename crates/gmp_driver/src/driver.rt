@@ -188,8 +188,8 @@ impl<T, Q> Driver<T, Q> {
 
     /// Is told what the body asks, and goes on to the call that stands for it. At another place than Run nothing changes.
     #[inline(always)]
-    pub fn tell_asked(&mut self, ask: Ask)
-        ensures { self.new ≡ after self.old (Told.Asked ask) }
+    pub fn tell_asked(&mut self, ask: &Ask)
+        ensures { self.new ≡ after self.old (Told.Asked ask.now) }
     {
         ask_on(&mut self.place, ask);
     }

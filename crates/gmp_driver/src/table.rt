@@ -147,20 +147,29 @@ pub(crate) fn frequent_at(
 }
 
 /// Goes where an ask of the body leads.
-// A narrow ask is written in place: a wide one alone is copied.
+// Those that come most often are written in place: any other is copied whole.
 #[inline(always)]
-pub(crate) fn ask_on(here: &mut Place, ask: Ask)
-    ensures { (x : Seen) → here.new ≡ table.next_place x here.old (Told.Asked ask) }
+pub(crate) fn ask_on(here: &mut Place, ask: &Ask)
+    ensures { (x : Seen) → here.new ≡ table.next_place x here.old (Told.Asked ask.now) }
 {
     if !matches!(here, Place::Run) {
         return;
     }
     match ask {
         Ask::Yield => *here = Place::Do(Ask::Yield),
-        Ask::Send(c, v) => *here = Place::Do(Ask::Send(c, v)),
-        Ask::Recv(c) => *here = Place::Do(Ask::Recv(c)),
-        ask => *here = Place::Do(ask),
+        Ask::Send(c, v) => *here = Place::Do(Ask::Send(*c, *v)),
+        Ask::Recv(c) => *here = Place::Do(Ask::Recv(*c)),
+        _ => any_ask_on(here, ask),
     }
+}
+
+/// Goes where any ask leads, from Run.
+// Not inlined: whoever asks something narrow pays for no wide local.
+#[inline(never)]
+fn any_ask_on(here: &mut Place, ask: &Ask)
+    ensures { here.new ≡ Place.Do ask.now }
+{
+    *here = Place::Do(ask.copied());
 }
 
 /// Whether more processors are active than before: then there may be work that waited for one.

@@ -48,27 +48,29 @@ impl Command {
     ghost use Rattle.std.specs.Prelude.{◌≡◌, Some};
     ghost use Rattle.gmp_script.specs.Script.{ask_of};
 
-    /// What the command asks. No body asks by its `Again`.
+    /// Writes what the command asks. No body asks by its `Again`.
     #[inline(always)]
-    fn ask(&self) -> Ask
-        ensures { result ≡ ask_of (Some self.now) }
+    fn ask(&self, out: &mut Ask)
+        ensures { out.new ≡ ask_of (Some self.now) }
     {
         match self {
-            Command::Yield => Ask::Yield,
-            Command::Go(g) => Ask::Go(*g),
-            Command::Make(capacity) => Ask::Make(*capacity),
-            Command::Send(c, value) => Ask::Send(*c, *value),
-            Command::Recv(c) => Ask::Recv(*c),
-            Command::Close(c) => Ask::Close(*c),
-            Command::Len(c) => Ask::Len(*c),
-            Command::Cap(c) => Ask::Cap(*c),
-            Command::Procs(n) => Ask::Procs(*n),
-            Command::Select(cases, has_default, until) => select_ask(cases, *has_default, *until),
-            Command::Sleep(until) => Ask::Sleep(*until),
-            Command::Park => Ask::Park,
-            Command::Ready(g) => Ask::Ready(*g),
-            Command::Block(_) => Ask::Block,
-            Command::Exit | Command::Again => Ask::Exit,
+            Command::Yield => *out = Ask::Yield,
+            Command::Go(g) => *out = Ask::Go(*g),
+            Command::Make(capacity) => *out = Ask::Make(*capacity),
+            Command::Send(c, value) => *out = Ask::Send(*c, *value),
+            Command::Recv(c) => *out = Ask::Recv(*c),
+            Command::Close(c) => *out = Ask::Close(*c),
+            Command::Len(c) => *out = Ask::Len(*c),
+            Command::Cap(c) => *out = Ask::Cap(*c),
+            Command::Procs(n) => *out = Ask::Procs(*n),
+            Command::Select(cases, has_default, until) => {
+                select_ask(cases, *has_default, *until, out);
+            }
+            Command::Sleep(until) => *out = Ask::Sleep(*until),
+            Command::Park => *out = Ask::Park,
+            Command::Ready(g) => *out = Ask::Ready(*g),
+            Command::Block(_) => *out = Ask::Block,
+            Command::Exit | Command::Again => *out = Ask::Exit,
         }
     }
 
@@ -101,10 +103,10 @@ impl Command {
 
 /// The ask of a select. It has a function of its own, since it is wide: whoever asks something else makes none.
 #[inline(never)]
-fn select_ask(cases: &Cases, has_default: bool, until: Option<u64>) -> Ask
-    ensures { result ≡ Ask.Select cases.now has_default until }
+fn select_ask(cases: &Cases, has_default: bool, until: Option<u64>, out: &mut Ask)
+    ensures { out.new ≡ Ask.Select cases.now has_default until }
 {
-    Ask::Select(cases.copied(), has_default, until)
+    *out = Ask::Select(cases.copied(), has_default, until);
 }
 
 impl Model for ScriptBody {
@@ -190,16 +192,22 @@ impl Body for ScriptBody {
 
     ghost blocked = { λ before n after. (n ≡ asked_last before) × (after ≡ before) };
 
+    fn resume(&mut self, woke: Woke) -> Ask {
+        let mut ask = Ask::Exit;
+        self.resume_into(woke, &mut ask);
+        ask
+    }
+
     // Whatever it is told: a fault, too, is passed over.
-    fn resume(&mut self, _woke: Woke) -> Ask {
+    fn resume_into(&mut self, _woke: Woke, out: &mut Ask) {
         let place = self.place();
         self.next = place;
         match self.commands.get(place) {
             Some(command) => {
                 self.next += 1;
-                command.ask()
+                command.ask(out);
             }
-            None => Ask::Exit,
+            None => *out = Ask::Exit,
         }
     }
 

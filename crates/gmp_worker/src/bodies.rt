@@ -6,12 +6,12 @@ use gmp_base::{Ask, Body, Woke};
 /// A body of any type. What its calls may do is what the body in the box says of them, and the same box holds it afterwards.
 pub type Boxed = Box<dyn Body + Send>;
 
-/// Resumes the body in the box.
+/// Resumes the body in the box, and writes what it asks.
 #[inline(always)]
-pub fn resume_boxed(body: &mut Boxed, woke: Woke) -> Ask
-    ensures { (left : _) × (body.new ≡ record body.old { value = left }) × resumed body.old woke result left }
+pub fn resume_boxed(body: &mut Boxed, woke: Woke, out: &mut Ask)
+    ensures { (left : _) × (body.new ≡ record body.old { value = left }) × resumed body.old woke out.new left }
 {
-    body.resume(woke)
+    body.resume_into(woke, out);
 }
 
 /// Makes the blocking call of the body in the box.

@@ -9,6 +9,7 @@ ghost use Rattle.gmp_driver.specs.Table.{after, next_act};
 ghost use Rattle.gmp_worker.specs.Local.{CalledWhere, HeldWhere, IsOfBodyOrClock};
 
 use crate::bodies::{Boxed, block_boxed, resume_boxed};
+use gmp_base::Ask;
 use gmp_driver::{Act, Driver, Frequent, Told};
 
 /// Resumes the body of the goroutine that the driver's machine runs, or makes the blocking call of the one in it, or tells the machine this
@@ -62,8 +63,9 @@ fn resume<Q>(driver: &mut Driver<Boxed, Q>)
     let Some(body) = driver.body() else {
         unreachable!()
     };
-    let ask = resume_boxed(body, woke);
-    driver.tell_asked(ask);
+    let mut ask = Ask::Exit;
+    resume_boxed(body, woke, &mut ask);
+    driver.tell_asked(&ask);
 }
 
 /// Makes the blocking call of the body in it, and tells the machine the number.

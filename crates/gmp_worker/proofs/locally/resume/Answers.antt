@@ -8,7 +8,7 @@ use Rattle.gmp_worker.proofs.locally.resume.Goals as goal
 pub returns-clause-resumes : goal.returns-clause-resumes
 returns-clause-resumes g c =
     let x = c.args.driver.now in
-    let ask = c.resume_boxed-ask.result in
-    let did = c.resume_boxed-ask.ensures in
+    let ask = c.resume_boxed.new.out in
+    let did = c.resume_boxed.ensures in
     held_where x c.in-Some.woke c.in-Some-body.body.now _ c.requires.act c.in-Some.ensures c.in-Some-body.ensures.body
     (λ n. (ask, did.0, did.2, c.tell_asked.ensures ∙ ap (λ body. after (with_body x body) (Asked ask)) did.1))

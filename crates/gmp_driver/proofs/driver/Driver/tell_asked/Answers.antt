@@ -12,11 +12,11 @@ invariant_of-self g c =
       few_procs = kept.few_procs;
       few_turns = kept.few_turns;
       pass = kept.pass;
-      fits = λ out. rw (c.ask_on.ensures sees) (asked_fits sees i.place c.args.ask i.hand (kept.fits out));
+      fits = λ out. rw (c.ask_on.ensures sees) (asked_fits sees i.place c.args.ask.now i.hand (kept.fits out));
     }
 
 pub returns : goal.returns
 returns g c =
     let i = c.self.inside in
     asked_is c.args.self.now (record { run = i.run; procs = i.procs; place = i.place; fresh = i.fresh; turns = i.turns; aside = i.aside; pass = i.pass; hand = i.hand })
-    c.args.ask c.ask_on.new.here c.self.view_is (c.ask_on.ensures (seen_of i.procs i.fresh i.turns i.aside i.hand))
+    c.args.ask.now c.ask_on.new.here c.self.view_is (c.ask_on.ensures (seen_of i.procs i.fresh i.turns i.aside i.hand))
