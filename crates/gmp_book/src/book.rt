@@ -1,11 +1,9 @@
 //! The book.
-ghost use Rattle.std.specs.Prelude.{◌≡◌, ◌↔◌, ◌≤◌, ◌<◌, [], None, false, true, length, slice_get, IsTrue, OnOk, OnErr, IfOk, IfErr, IfNone};
-ghost use Rattle.gmp_seq.specs.Machines.{is_parked_mode};
+ghost use Rattle.std.specs.Prelude.{◌≡◌, ◌↔◌, ◌≤◌, ◌<◌, [], None, false, true, length, slice_index, IsTrue, OnOk, OnErr, IfOk, IfErr, IfNone};
 ghost use Rattle.gmp_seq.specs.Laws.{IsInOrder, NobodyCouldProceed};
 ghost use Rattle.gmp_seq.specs.Table.{is_shelved};
 ghost use Rattle.gmp_start.specs.Start.{state_of};
 ghost use Rattle.gmp_table.specs.Kept.{IsListing};
-ghost use Rattle.std.specs.Option.{option_map_or};
 ghost use Rattle.gmp_seq.specs.Needs.{WantsMemory};
 ghost use Rattle.gmp_journal.specs.Grants.{Chooses, Grants, NeedsMemory, Suits};
 ghost use Rattle.gmp_journal.specs.Done.{IsDoneTo};
@@ -27,7 +25,9 @@ use crate::settling::{settle_body, settle_owner};
 use crate::slots::Slots;
 use crate::values::{Values, claimed, handed, ticket_out, told_by, way_of};
 use gmp_base::{MNo, Pass, Refusal};
+use gmp_goroutines::Goroutines;
 use gmp_history::History;
+use gmp_idle::Machines;
 use gmp_journal::{Journal, Segment};
 use gmp_seq::{Call, Limits, Outcome, Reply};
 use gmp_start::Start;
@@ -204,11 +204,26 @@ impl<T, Q> Book<T, Q> {
         self.journal.stop();
     }
 
-    /// Whether the machine is parked.
-    pub fn is_parked(&self, m: MNo) -> bool
-        ensures { result ≡ option_map_or is_parked_mode (slice_get self.now.log.state.machines.modes m.0) false }
+    /// The goroutines as they stand: who is on the shelf, how many go on, until when they wait.
+    pub fn goroutines(&self) -> &Goroutines
+        ensures table { result.now.table ≡ self.now.log.state.table }
+        ensures shelf { result.now.shelf ≡ self.now.log.shelf }
     {
-        self.journal.is_parked(m)
+        self.journal.goroutines()
+    }
+
+    /// The machines as they stand: which are parked, and who holds which processor.
+    pub fn machines(&self) -> &Machines
+        ensures { result.now ≡ self.now.log.state.machines }
+    {
+        self.journal.machines()
+    }
+
+    /// How many calls the machine made. Of one that isn't there 0.
+    pub fn calls(&self, m: MNo) -> u64
+        ensures { result ≡ slice_index self.now.log.state.counts m.0 }
+    {
+        self.journal.calls(m)
     }
 
     /// The machine of the pass makes the call, with these values, or it is refused and hands them back. A make, and no other call, is given

@@ -16,8 +16,7 @@
 //!
 //! - `take`, `put`, `claim`, `go`, `yield_to`, `exit`, `make`, `len`, `cap`, `park_g`, `ready`, `enter`, `leave` are constant: a row of the
 //!   status table, an end of the shelf, a place of bodies, one entry.
-//! - `acquire`, `declare`, `declare_bare`, `spin`, `unspin`, `poke`, `woken` are constant: a mask of processors or of machines, one entry;
-//!   `is_parked` is, without one.
+//! - `acquire`, `declare`, `declare_bare`, `spin`, `unspin`, `poke`, `woken` are constant: a mask of processors or of machines, one entry.
 //! - `send`, `recv` and each case of a `select` are constant: who waits first on the channel, the offers of a goroutine that is served, and
 //!   no row but those of the two.
 //! - `sleep`, and a `select` that waits until a moment, find the place of their deadline by halves, and move those that are sooner; so does

@@ -13,13 +13,13 @@ ghost use Rattle.gmp_seq.specs.declared.status.Goroutine.{Goroutine};
 ghost use Rattle.gmp_seq.specs.declared.status.Kind.{Kind};
 ghost use Rattle.gmp_seq.specs.declared.status.Status.{Status};
 ghost use Rattle.gmp_seq.specs.Step.{Claims, Goparks, Puts, Readies, Resumes, Sleeps, Spawns, Starts, Takes, Ticks, Yields};
-ghost use Rattle.gmp_seq.specs.Table.{IsCalling, IsRunning, RunsNothing, all_woken, epoch_at, how_many_woken, is_astir, is_outstanding, is_running_on, is_shelved, is_startable, made_wait, minded, set_status, some_status, status_at, stored_at};
+ghost use Rattle.gmp_seq.specs.Table.{IsCalling, IsRunning, RunsNothing, all_woken, epoch_at, how_many_woken, is_astir, is_outstanding, is_ready_or_running, is_running_on, is_shelved, is_startable, least_deadline, made_wait, minded, set_status, some_status, status_at, stored_at};
 ghost use Rattle.gmp_start.specs.Start.{channel_of};
 ghost use Rattle.gmp_seq.specs.declared.call.Call.{Call};
 ghost use Rattle.gmp_seq.specs.Waits.{waiters};
 ghost use Rattle.gmp_table.specs.declared.wake.Wake.{Wake};
 ghost use Rattle.gmp_table.specs.Waking.{IsFirst, answer_of};
-ghost use Rattle.gmp_table.specs.Kept.{IsListing};
+ghost use Rattle.gmp_table.specs.Kept.{IsListing, count_status};
 ghost use Rattle.gmp_chan.specs.Order.{are_made, rise};
 ghost use Rattle.gmp_goroutines.specs.Shelf.{Shelves, WokenLast};
 ghost use Rattle.gmp_goroutines.specs.Present.{opening_present};
@@ -190,6 +190,20 @@ impl Goroutines {
         ensures listing { IsListing is_shelved self.now.table.goroutines self.now.shelf }
     {
         self.table.has_shelved()
+    }
+
+    /// How many are ready or running.
+    pub fn count_going(&self) -> usize
+        ensures { result ≡ count_status is_ready_or_running self.now.table.goroutines }
+    {
+        self.table.count_going()
+    }
+
+    /// The least deadline of all that wait, in nanoseconds.
+    pub fn least_deadline(&self) -> Option<u64>
+        ensures { result ≡ least_deadline self.now.table }
+    {
+        self.table.least_deadline()
     }
 
     /// Whether somebody is ready, running or calling, or waits with a deadline.

@@ -124,13 +124,6 @@ abbrev pub is_select : Call → Bool
 is_select (call.Select cases has_default until) = true
 is_select _ = false
 
--- The machine, the call in brief and the reply in brief are those of the entry. What a select asks and whom a receive served lie elsewhere, each
--- under a number of its own.
-pub record IsBriefOf (b : MNo × BriefCall × BriefReply) (e : Entry) : Type 0 where
-  pub machine : b.0 ≡ e.m
-  pub call : (s : List Choosing) × IsCallIn (length s) b.1 × (call_of s b.1 ≡ e.call)
-  pub reply : (r : List Relay) × IsReplyIn (length r) b.2 × (reply_of r b.2 ≡ e.reply)
-
 -- what a call adds to the choosings
 abbrev pub choosing_in : Call → List Choosing
 choosing_in (call.Select cases has_default until) = record { cases = cases; has_default = has_default; until = until } ∷ []

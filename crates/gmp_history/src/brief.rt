@@ -14,7 +14,7 @@ pub(crate) struct Choosing {
 /// A call. Each variant has 16 bytes at most: a readiness is a number and an epoch, side by side, since a `Readiness` alone has 16, which
 /// leave no room for the variant's mark.
 #[derive(Clone, Copy, Debug, PartialEq, Eq)]
-pub enum BriefCall {
+pub(crate) enum BriefCall {
     Acquire,
     Take,
     Put(GNo, u64),
@@ -50,7 +50,7 @@ pub enum BriefCall {
 
 /// A reply. A sender that a receive served has a number of its own, from 0, and whether one was served is told by the variant.
 #[derive(Clone, Copy, Debug, PartialEq, Eq)]
-pub enum BriefReply {
+pub(crate) enum BriefReply {
     Proc(PNo),
     Nothing,
     Ticket(GNo, u64),

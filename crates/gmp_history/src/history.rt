@@ -1,8 +1,8 @@
 //! The history: its rows, made brief, beside the vectors of what is wide. Entries are added at the end and never changed.
-ghost use Rattle.std.specs.Prelude.{◌≡◌, ◌<◌, ◌≤◌, ◌-◌, ◌^◌, ◌↔◌, IsTrue, [], ◌∷◌, ◌++◌, length, slice_get, true, false, Some, IfNone, IfOk, IfSome, IsOk, OnOk};
+ghost use Rattle.std.specs.Prelude.{◌≡◌, ◌<◌, ◌≤◌, ◌-◌, ◌^◌, ◌↔◌, IsTrue, [], ◌∷◌, ◌++◌, length, slice_get, true, false, Some, IfOk, IsOk, OnOk};
 ghost use Rattle.gmp_seq.specs.declared.call.Entry.{Entry};
 ghost use Rattle.gmp_seq.specs.Fits.{Fits};
-ghost use Rattle.gmp_history.specs.Brief.{IsBriefOf, is_select};
+ghost use Rattle.gmp_history.specs.Brief.{is_select};
 
 use crate::brief::{BriefCall, BriefReply, Choosing, Row};
 use crate::entries::Entries;
@@ -172,19 +172,6 @@ impl History {
             rows: &self.rows,
             choosings: &self.choosings,
             relays: &self.relays,
-        }
-    }
-
-    /// The machine of the last entry, its call and its reply in brief, if there is one. For whoever looks at each entry as it is made, and
-    /// needs no cases.
-    #[inline(always)]
-    pub fn last_brief(&self) -> Option<(MNo, BriefCall, BriefReply)>
-        ensures some { IfSome result (λ b. (e : Entry) × (slice_get self.now.list (length self.now.list - 1) ≡ Some e) × IsBriefOf b e) }
-        ensures none { IfNone result (self.now.list ≡ []) }
-    {
-        match self.rows.last() {
-            Some(row) => Some((row.m, row.call, row.reply)),
-            None => None,
         }
     }
 

@@ -1,10 +1,15 @@
 -- A table, and for each of its elements a flag that says whether it passes a test.
 use Rattle.std.proofs.Common.{◌≡◌, ℕ, zero, suc, ◌+◌, ◌≤◌, Bool, true, false, not, cond, ◌||◌, Option, Some, None, List, [], ◌∷◌, length, map, replicate, set, refl, sym, ap, ◌∙◌, arith}
-use Rattle.std.specs.Prelude.{nat_lt, take}
+use Rattle.std.specs.Prelude.{nat_lt, slice_get, take}
+use Rattle.std.specs.Option.{option_map}
 use Rattle.std.specs.List.{list_any, position, position_from, position_or_len, prefix_len}
 use Rattle.std.proofs.lemmas.Iterator.Adapters.{position_from-zero}
 use Rattle.std.proofs.lemmas.Bool.{false≢true, le-ltb, lt-ltb}
 use Rattle.std.proofs.lemmas.List.{length-map, map-set}
+use Rattle.std.proofs.lemmas.Option.{slice_get-map}
+use Rattle.gmp_seq.specs.declared.status.Mode.{Mode}
+use Rattle.gmp_seq.specs.declared.status.Mode.TheVariants.{Awake, Calling, Parked}
+use Rattle.gmp_seq.specs.Machines.{is_parked_mode}
 
 pub not-not : (b : Bool) → not (not b) ≡ b
 not-not true = refl
@@ -105,3 +110,18 @@ module _ {X : Type 0} (p : X → Bool) where
       by_place : (r : Option ℕ) → position p xs ≡ r → (i : ℕ) × (position p xs ≡ Some i)
       by_place (Some i) is = (i, is)
       by_place None is = absurd (false≢true (sym (none_passes xs is) ∙ e))
+
+-- The parked machines
+
+parked_by : (mode : Option Mode) → option_map is_parked_mode mode ≡ Some true → mode ≡ Some Parked
+parked_by None e = absurd cc
+parked_by (Some Parked) e = refl
+parked_by (Some Awake) e = absurd cc
+parked_by (Some Calling) e = absurd cc
+
+-- a machine is parked where its flag is true
+pub parked_at : (modes : List Mode) (n : ℕ) → slice_get (map is_parked_mode modes) n ≡ Some true → slice_get modes n ≡ Some Parked
+parked_at modes n flag = parked_by (slice_get modes n) (sym (slice_get-map is_parked_mode modes n) ∙ flag)
+
+pub flag_at_parked : (modes : List Mode) (n : ℕ) → slice_get modes n ≡ Some Parked → slice_get (map is_parked_mode modes) n ≡ Some true
+flag_at_parked modes n is = slice_get-map is_parked_mode modes n ∙ ap (option_map is_parked_mode) is

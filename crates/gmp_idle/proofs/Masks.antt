@@ -1,18 +1,18 @@
 -- Sets of small numbers, by their bits.
 use Rattle.std.proofs.Common.{◌≡◌, ℕ, ◌+◌, ◌-◌, ◌*◌, ◌/◌, ◌%◌, ◌<◌, ◌≤◌, ◌==◌, ◌^◌, ◌⊎◌, Bool, true, false, not, cond, Some, None, List, [], ◌∷◌, length, replicate, get_or, set, bit_and, bit_or, w64, refl, sym, ap, ◌∙◌, inl, inr, arith}
-use Rattle.std.specs.Prelude.{count_by, count_ones, position, slice_get, unwrap_or}
+use Rattle.std.specs.Prelude.{◌≢◌, count_by, count_ones, position, slice_get, unwrap_or}
 use Rattle.std.specs.Int.{bit_at}
 use Rattle.std.specs.Int.Count.{count_trailing_zeros}
 use Rattle.std.specs.List.{list_any, position_or_len}
 use Rattle.std.specs.Simd.Lanes.{mask_l}
-use Rattle.std.proofs.lemmas.Bool.{cases_eq, cases_lt, lt-ltb, le-ltb, ne_eqb}
+use Rattle.std.proofs.lemmas.Bool.{cases_eq, cases_lt, eqb-true, lt-ltb, le-ltb, ne_eqb}
 use Rattle.std.proofs.lemmas.Bool.Decides.{nat_tests}
 use Rattle.std.proofs.lemmas.List.{get_or-replicate, get_or-set_same, get_or-set_other, get_or_past, length-replicate, length-set, map-id}
 use Rattle.std.proofs.lemmas.List.FromFn.{fill_by_all, get_or-map-range_with_len, length-map-range_with_len}
 use Rattle.std.proofs.lemmas.List.Sums.{position_or_len_is}
 use Rattle.std.proofs.lemmas.Nat.{and_le_l, or_lt, one_shl, pow_below}
-use Rattle.std.proofs.lemmas.Nat.Bits.{bit_at-lt, bit_at-trailing_zeros, bit_at-zero, bit_at_above, bit_at_clear_other, bit_at_clear_same, bit_at_ones, bit_at_set_other, bit_at_set_same, ones_shr, same_from_bits, shr_and_one}
-use Rattle.std.proofs.lemmas.Option.{unwrap_or-slice_get}
+use Rattle.std.proofs.lemmas.Nat.Bits.{bit_at-lt, bit_at-trailing_zeros, bit_at-zero, bit_at_above, bit_at_clear_other, bit_at_clear_same, bit_at_ones, bit_at_ones_above, bit_at_set_other, bit_at_set_same, ones_shr, same_from_bits, shr_and_one}
+use Rattle.std.proofs.lemmas.Option.{get_or_from_slice_get, slice_get-get_or, unwrap_or-slice_get}
 use Rattle.std.proofs.lemmas.Simd.{bit_mask_l, ones-mask_l}
 use Rattle.gmp_idle.specs.Flags.{flags}
 
@@ -89,6 +89,37 @@ mask_none (false ∷ xs) =
 
 pub empty : (bits size : ℕ) → bits < 2 ^ size → (bits == 0) ≡ not (list_any (λ b. b) (flags bits size))
 empty bits size fits = ap (λ n. n == 0) (sym (mask-flags bits size fits)) ∙ mask_none (flags bits size)
+
+-- All but one
+
+-- with the bit of one of them set too, all are set
+abbrev with_bit : ℕ → ℕ → ℕ
+with_bit bits i = bit_or bits (1 * 2 ^ i % 2 ^ 64)
+
+pub others_set : (bits size i : ℕ) → size ≤ 64 → i < size → with_bit bits i ≡ 2 ^ size - 1 → (n : ℕ) → n < size → n ≢ i → slice_get (flags bits size) n ≡ Some true
+others_set bits size i room below ones n inside other =
+    let within : i < 64 = omega arith in
+    let long = length-flags bits size in
+    let one : bit_at bits n ≡ 1 = sym (bit_at_set_other w64 bits i within n other) ∙ (ap (λ k. bit_at k n) ones ∙ bit_at_ones size n inside) in
+    slice_get-get_or (flags bits size) n false (omega arith) ∙ ap Some (flag_at bits size n inside ∙ ap (λ b. b == 1) one)
+
+pub all_set : (bits size i : ℕ) → size ≤ 64 → i < size → bits < 2 ^ size → ((n : ℕ) → n < size → n ≢ i → slice_get (flags bits size) n ≡ Some true) → with_bit bits i ≡ 2 ^ size - 1
+all_set bits size i room below fits others = same_from_bits (with_bit bits i) (2 ^ size - 1) (λ n. each n (cases_lt n size))
+  where
+    each : (n : ℕ) → (n < size) ⊎ (size ≤ n) → bit_at (with_bit bits i) n ≡ bit_at (2 ^ size - 1) n
+    each n (inl inside) = one (cases_eq n i) ∙ sym (bit_at_ones size n inside)
+      where
+        one : (n ≡ i) ⊎ (n ≡ i → ⊥) → bit_at (with_bit bits i) n ≡ 1
+        one (inl same) =
+            let within : i < 64 = omega arith in
+            rw same (bit_at_set_same w64 bits i within)
+        one (inr other) =
+            let within : i < 64 = omega arith in
+            let flag = get_or_from_slice_get (flags bits size) n true false (others n inside other) in
+            bit_at_set_other w64 bits i within n other ∙ eqb-true (bit_at bits n) 1 (sym (flag_at bits size n inside) ∙ flag)
+    each n (inr past) =
+        let within : i < 64 = omega arith in
+        bit_at_set_other w64 bits i within n (λ same. omega (arith, same)) ∙ (bit_at_above bits size n fits past ∙ sym (bit_at_ones_above size n past))
 
 -- The least
 

@@ -4,13 +4,14 @@
 //! Go's runtime (proc.go) has the like: `acquire` is `pidleget` with `acquirep`, `declare` `releasep` with `pidleput`, `poke` `wakep`,
 //! `park` `stopm`, `enter` `entersyscallblock`, `leave` `exitsyscall`, `spin` and `unspin` the count `nmspinning`. Go's lists of idle Ps
 //! and Ms are stacks; here the least number is taken.
-ghost use Rattle.std.specs.Prelude.{◌≡◌, true, ◌⊎◌, ◌≤◌, ◌==◌, ◌&&◌, false, None, Some, ◌<◌, length, is_none, position, replicate, slice_get, IfNone, IfOk, IfSome};
+ghost use Rattle.std.specs.Prelude.{◌≡◌, ◌↔◌, true, ◌⊎◌, ◌≤◌, ◌==◌, ◌&&◌, false, None, Some, ◌<◌, length, is_none, position, replicate, slice_get, IfNone, IfOk, IfSome};
 ghost use Rattle.std.specs.Option.{option_map_or};
 ghost use Rattle.gmp_base.specs.declared.number.Readiness.{Readiness};
 ghost use Rattle.gmp_seq.specs.declared.call.Reply.{Reply};
 ghost use Rattle.gmp_seq.specs.declared.status.Mode.{Mode};
 ghost use Rattle.gmp_seq.specs.Machines.{Acquires, Bares, Declares, Enters, Holds, MayKeep, Sets, is_good_number, IsAwake, IsBare, IsParked, Looks, Pokes, Returns, Spins, Unspins, has_processor, how_many_spin, is_held_by, is_marked, unmarked, is_parked_mode, may_spin, set_holder, set_mode, some_idle, spins, is_awake_mode, is_calling_mode};
 ghost use Rattle.gmp_idle.specs.Replies.{acquire_reply, poke_reply, procs_reply};
+ghost use Rattle.gmp_idle.specs.Tables.{AreOthersParked};
 
 use crate::modes::Modes;
 use crate::processors::Processors;
@@ -124,6 +125,13 @@ impl Machines {
         ensures { result ≡ option_map_or is_parked_mode (slice_get self.now.modes m.0) false }
     {
         matches!(self.modes.of(m), Some(Mode::Parked))
+    }
+
+    /// Whether all machines but m are parked. Of a machine that isn't there: no.
+    pub fn is_alone(&self, m: MNo) -> bool
+        ensures { (result ≡ true) ↔ ((m.0 < length self.now.modes) × AreOthersParked m self.now.modes) }
+    {
+        usize::from(m.0) < self.modes.as_slice().len() && self.modes.are_others_parked(m)
     }
 
     /// Whether m looks for work.

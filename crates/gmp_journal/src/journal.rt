@@ -1,12 +1,11 @@
 //! The run so far, and the call that goes on with it.
 //! One function makes all calls (`Journal::call`): refusal, effect, count and entry are stated and proved once, and not 29 times.
-ghost use Rattle.std.specs.Prelude.{◌≡◌, ◌↔◌, ◌<◌, ◌≤◌, [], None, Some, true, false, length, slice_get, IfErr, IfNone, IfOk, IfSome, IsTrue, OnErr, OnOk};
+ghost use Rattle.std.specs.Prelude.{◌≡◌, ◌↔◌, ◌<◌, ◌≤◌, [], None, Some, true, false, length, slice_index, IfErr, IfNone, IfOk, IfSome, IsTrue, OnErr, OnOk};
 ghost use Rattle.gmp_seq.specs.Fits.{AreLimits};
-ghost use Rattle.gmp_seq.specs.Machines.{is_parked_mode};
 ghost use Rattle.gmp_seq.specs.Table.{is_outstanding, is_shelved};
 ghost use Rattle.gmp_start.specs.Start.{state_of};
 ghost use Rattle.gmp_table.specs.Kept.{IsListing};
-ghost use Rattle.std.specs.Option.{option_map, option_map_or};
+ghost use Rattle.std.specs.Option.{option_map};
 ghost use Rattle.gmp_seq.specs.Needs.{WantsMemory};
 ghost use Rattle.gmp_journal.specs.Frequent.{is_frequent};
 ghost use Rattle.gmp_journal.specs.Grants.{Chooses, Grants, NeedsMemory, Suits};
@@ -21,7 +20,9 @@ use crate::handed::Handed;
 use crate::scheduler::Scheduler;
 use crate::segment::{Begun, Segment};
 use gmp_base::{MNo, Pass, Readiness, Refusal, Woke};
+use gmp_goroutines::Goroutines;
 use gmp_history::History;
+use gmp_idle::Machines;
 use gmp_seq::{Call, Limits, Outcome, Reply};
 use gmp_start::Start;
 use std::alloc::{AllocError, Global};
@@ -144,11 +145,26 @@ impl Journal {
         self.scheduler.goroutines.is_outstanding(r)
     }
 
-    /// Whether the machine is parked. One that isn't there is not.
-    pub fn is_parked(&self, m: MNo) -> bool
-        ensures { result ≡ option_map_or is_parked_mode (slice_get self.now.state.machines.modes m.0) false }
+    /// The goroutines as they stand.
+    pub fn goroutines(&self) -> &Goroutines
+        ensures table { result.now.table ≡ self.now.state.table }
+        ensures shelf { result.now.shelf ≡ self.now.shelf }
     {
-        self.scheduler.machines.is_parked(m)
+        &self.scheduler.goroutines
+    }
+
+    /// The machines as they stand.
+    pub fn machines(&self) -> &Machines
+        ensures { result.now ≡ self.now.state.machines }
+    {
+        &self.scheduler.machines
+    }
+
+    /// How many calls the machine made. Of one that isn't there 0.
+    pub fn calls(&self, m: MNo) -> u64
+        ensures { result ≡ slice_index self.now.state.counts m.0 }
+    {
+        self.scheduler.counts.of(m)
     }
 
     /// What a call has for a goroutine to be told, whatever the reply: of a claim what was stored for the goroutine when it became ready,

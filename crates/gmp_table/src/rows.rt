@@ -199,6 +199,13 @@ impl Rows {
         found.map(GNo)
     }
 
+    /// How many are ready or running.
+    pub(crate) fn count_going(&self) -> usize
+        ensures { result ≡ count_status is_ready_or_running self.now }
+    {
+        self.going
+    }
+
     /// Whether anybody is ready or running.
     pub(crate) fn any_going(&self) -> bool
         ensures { result ≡ nat_lt 0 (count_status is_ready_or_running self.now) }

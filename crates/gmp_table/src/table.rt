@@ -12,7 +12,7 @@ ghost use Rattle.gmp_base.specs.declared.number.GNo.{GNo};
 ghost use Rattle.gmp_seq.specs.declared.status.Goroutine.{Goroutine};
 ghost use Rattle.gmp_seq.specs.Step.{Takes, Puts, Claims, Spawns, Starts};
 ghost use Rattle.gmp_seq.specs.Table.{IsReady, IsOffShelf, status_at, epoch_at, next_of, some_status, is_running_on, is_shelved, is_astir, is_ready_or_running, is_outstanding, is_startable, least_deadline, set_status, made_ready, made_wait};
-ghost use Rattle.gmp_table.specs.Kept.{IsListing};
+ghost use Rattle.gmp_table.specs.Kept.{IsListing, count_status};
 ghost use Rattle.gmp_table.specs.Contents.{TableContents, opening_contents};
 ghost use Rattle.gmp_table.specs.declared.wake.Wake.{Wake};
 ghost use Rattle.gmp_table.specs.Waking.{IsFirst};
@@ -112,6 +112,13 @@ impl StatusTable {
         ensures { result ≡ some_status is_ready_or_running self.now.table }
     {
         self.rows.any_going()
+    }
+
+    /// How many are ready or running.
+    pub fn count_going(&self) -> usize
+        ensures { result ≡ count_status is_ready_or_running self.now.table.goroutines }
+    {
+        self.rows.count_going()
     }
 
     /// Whether somebody is ready, running or calling, or waits with a deadline. If not, all are asleep for good.
