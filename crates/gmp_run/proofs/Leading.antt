@@ -20,7 +20,7 @@ Came run is_fair log h m x = CameTo run is_fair log.limits log.bodies log.capaci
 abbrev start : ℕ → Bool → Log → ℕ → PlainMachine
 start run is_fair log m = first_machine (first_pass run m) log.limits.procs is_fair
 
-gap : (m n : ℕ) → m < n → (i : ℕ) × (m + (i + 1) ≡ n)
+pub gap : (m n : ℕ) → m < n → (i : ℕ) × (m + (i + 1) ≡ n)
 gap m zero less = absurd (omega (arith, less))
 gap zero (suc n) less = (n, omega arith)
 gap (suc m) (suc n) less =

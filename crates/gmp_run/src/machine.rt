@@ -6,16 +6,18 @@ ghost use Rattle.gmp_driver.specs.Table.{next_act};
 ghost use Rattle.gmp_worker.specs.AtQueue.{IsQueueAct};
 ghost use Rattle.gmp_worker.specs.Local.{IsOfBodyOrClock};
 ghost use Rattle.gmp_acts.specs.Hands.{plain_machine};
+ghost use Rattle.gmp_run.specs.Bodies.{HandLed};
 ghost use Rattle.gmp_run.specs.Counts.{calls_in};
 ghost use Rattle.gmp_run.specs.Trails.{GoesAlone, first_machine};
 
-use crate::desk::{RunLedger, SinkLedger};
+use crate::desk::{DeskLedger, RunLedger};
 use crate::outside::{Clock, Sink};
 use crate::shared::Shared;
+use crate::watch::Then;
 use crossbeam_utils::Backoff;
 use crossbeam_utils::sync::Parker;
 use gmp_base::{MNo, PNo, Pass};
-use gmp_driver::Driver;
+use gmp_driver::{Act, Driver, Frequent};
 use gmp_queue::{Owner, Thief};
 use gmp_stub::{Board, Stub};
 use gmp_worker::{Boxed, PassLog, local_turn, queue_turn};
@@ -36,9 +38,9 @@ const MOST_RESTS: u32 = 3;
 /// How long a hunter rests between two looks, in nanoseconds.
 const REST: u64 = 20_000;
 
-/// A machine's driver with its pass, beside the driver as it last left the lock; its thieves of all queues, its generator and its parker,
-/// beside its share of the calls.
-pub(crate) struct Machine<T, L: RunLedger> {
+/// A machine's driver with its pass, beside the driver as it last left the lock, from which its own acts led it and the bodies in its hand;
+/// its thieves of all queues, its generator and its parker, beside its share of the calls.
+pub(crate) struct Machine<T: Runs, L: RunLedger> {
     /// Which machine it is, which its pass says too.
     pub m: MNo,
     /// Its program, with its pass and all that it holds, as parts.
@@ -61,9 +63,10 @@ pub(crate) struct Machine<T, L: RunLedger> {
     pub ghost board: { stub.name ≡ L.board },
     pub ghost left: { driver.pass ≡ stub.value.pass },
     pub ghost alone: { ∥ GoesAlone (plain_machine stub.value) (plain_machine driver) ∥₁ },
+    pub ghost led: { ∥ HandLed T.resumes T.blocks stub.value.hand driver.hand ∥₁ },
 }
 
-impl<T: Drop, L: RunLedger> Machine<T, L> {
+impl<T: Runs, L: RunLedger> Machine<T, L> {
     /// A machine that has made no act, fair or not, which is added to the board.
     pub fn new(
         board: &mut Board<Driver<T, Owner>>,
@@ -149,7 +152,7 @@ impl<T: Drop, L: RunLedger> Machine<T, L> {
     /// change its machine.
     pub fn lie_in_wait<C: Clock, S: Sink>(&self, clock: &C, shared: &Shared<T, L, S>)
     where
-        L: SinkLedger<S>,
+        L: DeskLedger<T, S>,
     {
         let pause = Backoff::new();
         for _ in 0..MOST_SPINS {
@@ -174,6 +177,18 @@ impl<T: Drop, L: RunLedger> Machine<T, L> {
         }
     }
 
+    /// What it does next, as far as whoever wakes machines has to know.
+    pub fn then(&self) -> Then {
+        match self.driver.frequent() {
+            Frequent::Push => Then::Stores,
+            Frequent::Other => match self.driver.next() {
+                Act::Clock(Some(_)) => Then::Minds,
+                _ => Then::Acts,
+            },
+            _ => Then::Acts,
+        }
+    }
+
     /// Makes the act on a queue that the driver names next.
     /// It tries once and waits for nobody.
     pub fn queue_turn(&mut self)
@@ -192,11 +207,20 @@ impl<T: Drop, L: RunLedger> Machine<T, L> {
 /// A body that machines in threads run. The threads' code has it as a parameter, and no box: that such threads may be started the check
 /// finds by itself.
 pub(crate) trait Runs: Drop {
-    ghost use Rattle.std.specs.Prelude.{◌≡◌, IsSome, is_some};
+    ghost use Rattle.std.specs.Prelude.{◌≡◌, ℕ, IsSome, is_some};
+    ghost use Rattle.gmp_base.specs.declared.ask.Ask.{Ask};
+    ghost use Rattle.gmp_base.specs.declared.ask.Woke.{Woke};
     ghost use Rattle.gmp_acts.specs.Hands.{plain_machine};
     ghost use Rattle.gmp_driver.specs.Table.{next_act};
+    ghost use Rattle.gmp_run.specs.Bodies.{HandLed};
     ghost use Rattle.gmp_run.specs.Trails.{GoesOn};
     ghost use Rattle.gmp_worker.specs.Local.{IsOfBodyOrClock};
+
+    /// From the body before, with this answer, to this ask and the body after.
+    ghost resumes: { Self → Woke → Ask → Self → Type 0 };
+
+    /// From the body before, by its blocking call, to this number and the body after.
+    ghost blocks: { Self → ℕ → Self → Type 0 };
 
     /// Makes the act on a body or the clock that the driver names next. The moment is the clock's reading.
     fn local_turn(driver: &mut Driver<Self, Owner>, moment: u64)
@@ -205,10 +229,17 @@ pub(crate) trait Runs: Drop {
         ensures pass { driver.new.pass ≡ driver.old.pass }
         ensures run { driver.new.run ≡ driver.old.run }
         ensures fair { is_some driver.new.aside ≡ is_some driver.old.aside }
-        ensures goes { GoesOn (plain_machine driver.old) (plain_machine driver.new) };
+        ensures goes { GoesOn (plain_machine driver.old) (plain_machine driver.new) }
+        ensures led { HandLed resumes blocks driver.old.hand driver.new.hand };
 }
 
 impl Runs for Boxed {
+    ghost use Rattle.std.specs.Prelude.{◌≡◌};
+
+    ghost resumes = { λ b woke ask c. (left : _) × (c ≡ record b { value = left }) × (Body-box b).resumed b.value woke ask left };
+
+    ghost blocks = { λ b number c. (left : _) × (c ≡ record b { value = left }) × (Body-box b).blocked b.value number left };
+
     fn local_turn(driver: &mut Driver<Self, Owner>, moment: u64) {
         local_turn(driver, moment);
     }

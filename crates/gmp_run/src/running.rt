@@ -7,14 +7,16 @@ ghost use Rattle.gmp_seq.specs.Fits.{AreLimits};
 ghost use Rattle.gmp_book.specs.Book.{opening_passes};
 ghost use Rattle.gmp_turn.specs.Whole.{IsWholeRun};
 ghost use Rattle.gmp_run.specs.Boards.{AreCounted, AreFirst};
+ghost use Rattle.gmp_run.specs.Bodies.{AllLedFrom};
 ghost use Rattle.gmp_run.specs.Reports.{AreLogs, IsPiecesReport, IsPiecesReportOf, IsRunReport, IsRunReportOf, WhyUnrun};
 
-use crate::desk::{Bench, Desk, RunLedger, SinkLedger};
+use crate::desk::{Bench, Desk, DeskLedger, RunLedger};
 use crate::ending::{Report, Unrun, finish, hang};
 use crate::machine::{Machine, Runs};
 use crate::outside::{Clock, Gate, Sink, Whole};
 use crate::room::Room;
 use crate::shared::Shared;
+use crate::watch::Watch;
 use crate::working::{Floor, Seat, Works};
 use crossbeam_utils::sync::{Parker, Unparker};
 use gmp_base::{MNo, Pass, Refusal};
@@ -54,6 +56,7 @@ pub fn run<R: Threads + Wait + Sync, C: Clock + Sync, G: Gate + Sync>(
 ) -> Result<Report<Boxed>, Unrun<Boxed>>
     ensures report { IfOk result (IsRunReport limits capacities.now (length bodies.items) []) }
     ensures of { IfOk result (IsRunReportOf run false limits capacities.now (length bodies.items) []) }
+    ensures bodies { IfOk result (λ r. AllLedFrom (λ b woke ask c. (left : _) × (c ≡ record b { value = left }) × resumed b woke ask left) (λ b number c. (left : _) × (c ≡ record b { value = left }) × blocked b number left) bodies.items r.bodies.items) }
     ensures ended { IfOk result (λ r. IsSome r.outcome) }
     ensures whole { OnOk result (limits.room ≡ limits.entries) }
     ensures why { IfErr result (λ u. WhyUnrun (IsWholeRun limits (length bodies.items) capacities.now) u.why) }
@@ -79,6 +82,7 @@ pub fn run_fair<R: Threads + Wait + Sync, C: Clock + Sync, G: Gate + Sync>(
 ) -> Result<Report<Boxed>, Unrun<Boxed>>
     ensures report { IfOk result (IsRunReport limits capacities.now (length bodies.items) []) }
     ensures of { IfOk result (IsRunReportOf run is_fair limits capacities.now (length bodies.items) []) }
+    ensures bodies { IfOk result (λ r. AllLedFrom (λ b woke ask c. (left : _) × (c ≡ record b { value = left }) × resumed b woke ask left) (λ b number c. (left : _) × (c ≡ record b { value = left }) × blocked b number left) bodies.items r.bodies.items) }
     ensures ended { IfOk result (λ r. IsSome r.outcome) }
     ensures whole { OnOk result (limits.room ≡ limits.entries) }
     ensures why { IfErr result (λ u. WhyUnrun (IsWholeRun limits (length bodies.items) capacities.now) u.why) }
@@ -114,6 +118,7 @@ pub fn run_into<R: Threads + Wait + Sync, C: Clock + Sync, G: Gate + Sync, S: Si
 ) -> (Result<Report<Boxed>, Unrun<Boxed>>, S)
     ensures report { IfOk result.0 (λ r. IsPiecesReport S.takes S.refuses limits capacities.now (length bodies.items) sink r result.1) }
     ensures of { IfOk result.0 (λ r. IsPiecesReportOf run false S.takes S.refuses limits capacities.now (length bodies.items) sink r result.1) }
+    ensures bodies { IfOk result.0 (λ r. AllLedFrom (λ b woke ask c. (left : _) × (c ≡ record b { value = left }) × resumed b woke ask left) (λ b number c. (left : _) × (c ≡ record b { value = left }) × blocked b number left) bodies.items r.bodies.items) }
     ensures why { IfErr result.0 (λ u. WhyUnrun (AreLimits limits (length bodies.items) capacities.now) u.why) }
     ensures back { IfErr result.0 (λ u. u.bodies.items ≡ bodies.items) }
     ensures unused { OnErr result.0 (result.1 ≡ sink) }
@@ -139,11 +144,12 @@ pub fn run_into_fair<R: Threads + Wait + Sync, C: Clock + Sync, G: Gate + Sync, 
 ) -> (Result<Report<Boxed>, Unrun<Boxed>>, S)
     ensures report { IfOk result.0 (λ r. IsPiecesReport S.takes S.refuses limits capacities.now (length bodies.items) sink r result.1) }
     ensures of { IfOk result.0 (λ r. IsPiecesReportOf run is_fair S.takes S.refuses limits capacities.now (length bodies.items) sink r result.1) }
+    ensures bodies { IfOk result.0 (λ r. AllLedFrom (λ b woke ask c. (left : _) × (c ≡ record b { value = left }) × resumed b woke ask left) (λ b number c. (left : _) × (c ≡ record b { value = left }) × blocked b number left) bodies.items r.bodies.items) }
     ensures why { IfErr result.0 (λ u. WhyUnrun (AreLimits limits (length bodies.items) capacities.now) u.why) }
     ensures back { IfErr result.0 (λ u. u.bodies.items ≡ bodies.items) }
     ensures unused { OnErr result.0 (result.1 ≡ sink) }
 {
-    run_as::<Brand, R, C, G, S>(
+    run_as::<Boxed, Brand, R, C, G, S>(
         rt,
         alloc,
         Blank::new(u64::from(limits.machines)),
@@ -162,7 +168,8 @@ pub fn run_into_fair<R: Threads + Wait + Sync, C: Clock + Sync, G: Gate + Sync, 
 
 /// The same by a ledger of this run. All memory but the book's is taken before it, so that the bodies come back whole.
 fn run_as<
-    L: SinkLedger<S> + Sync,
+    T: Runs + Send,
+    L: DeskLedger<T, S> + Sync,
     R: Threads + Wait + Sync,
     C: Clock + Sync,
     G: Gate + Sync,
@@ -171,17 +178,17 @@ fn run_as<
     rt: &R,
     alloc: Global,
     blank: Blank,
-    board: Board<Driver<Boxed, Owner>>,
+    board: Board<Driver<T, Owner>>,
     run: u64,
     limits: Limits,
     capacities: &[u32],
-    bodies: Vec<Boxed>,
+    bodies: Vec<T>,
     clock: &C,
     gate: &G,
     random: u64,
     sink: S,
     is_fair: bool,
-) -> (Result<Report<Boxed>, Unrun<Boxed>>, S)
+) -> (Result<Report<T>, Unrun<T>>, S)
     requires name { blank.name ≡ L.name }
     requires parts { (blank.parts ≡ L.parts) × (blank.parts ≡ limits.machines) }
     requires board { (board.name ≡ L.board) × (board.values ≡ []) }
@@ -189,8 +196,10 @@ fn run_as<
     requires fair { is_fair ≡ L.fair }
     requires first { (s : S) → L.first s → s ≡ sink }
     requires begins { L.first sink }
+    requires given { bodies.items ≡ L.given }
     ensures report { IfOk result.0 (λ r. IsPiecesReport S.takes S.refuses limits capacities.now (length bodies.items) sink r result.1) }
     ensures of { IfOk result.0 (λ r. IsPiecesReportOf run is_fair S.takes S.refuses limits capacities.now (length bodies.items) sink r result.1) }
+    ensures bodies { IfOk result.0 (λ r. AllLedFrom T.resumes T.blocks bodies.items r.bodies.items) }
     ensures why { IfErr result.0 (λ u. WhyUnrun (AreLimits limits (length bodies.items) capacities.now) u.why) }
     ensures back { IfErr result.0 (λ u. u.bodies.items ≡ bodies.items) }
     ensures unused { OnErr result.0 (result.1 ≡ sink) }
@@ -200,7 +209,7 @@ fn run_as<
         let why = Refusal::BadLimits;
         return (Err(Unrun { why, bodies }), sink);
     }
-    let Ok(room) = Room::<Boxed, L>::of(alloc, run, limits, count) else {
+    let Ok(room) = Room::<T, L>::of(alloc, run, limits) else {
         let why = Refusal::OutOfMemory;
         return (Err(Unrun { why, bodies }), sink);
     };
@@ -211,7 +220,6 @@ fn run_as<
         unparkers,
         seats,
         logs,
-        watch,
         spare,
     } = room;
     let (book, passes) = match Book::open(alloc, run, limits, capacities, bodies, owners) {
@@ -237,6 +245,7 @@ fn run_as<
         is_fair,
     );
     let desk = Desk::new(book, tally, board, sink, spare);
+    let watch = Watch::new();
     let shared = Shared::new(Bench { desk, watch });
     let floor = Floor {
         shared: &shared,
@@ -244,7 +253,7 @@ fn run_as<
         clock,
         gate,
     };
-    let started = on_floor(rt, alloc, &floor, seats.as_slice());
+    let started = in_threads(rt, alloc, &floor, seats.as_slice());
     let Bench { mut desk, .. } = shared.into_inner();
     let logs = gather(rt, &mut desk, &mut all, logs, seats, limits.machines);
     let (report, sink) = finish(rt, desk, all, logs, started, limits, capacities, count);
@@ -253,9 +262,9 @@ fn run_as<
 
 /// A seat for each pass, the last first, in room that is there.
 /// Lists are taken from their end, so the first machine is seated last, and `gather` meets it first of all.
-fn seat_all<L: RunLedger>(
-    board: &mut Board<Driver<Boxed, Owner>>,
-    room: Vec<Seat<Boxed, L>>,
+fn seat_all<T: Runs, L: RunLedger>(
+    board: &mut Board<Driver<T, Owner>>,
+    room: Vec<Seat<T, L>>,
     passes: Vec<Pass>,
     thieves: Vec<Vec<Thief>>,
     parkers: Vec<Parker>,
@@ -263,7 +272,7 @@ fn seat_all<L: RunLedger>(
     procs: u8,
     random: u64,
     is_fair: bool,
-) -> Vec<Seat<Boxed, L>>
+) -> Vec<Seat<T, L>>
     requires empty { room.items ≡ [] }
     requires room { length passes.items ≤ vec_capacity room }
     requires passes { passes.items ≡ opening_passes L.run L.parts }
@@ -336,26 +345,13 @@ fn in_threads<T: Runs + Send, L: RunLedger + Sync, R: Threads + Wait + Sync, W: 
     })
 }
 
-/// The same on this floor.
-// Apart from `run_as`, where bodies are boxes: that a floor may be shared the check finds of a parameter.
-fn on_floor<
-    T: Runs + Send,
-    L: SinkLedger<S> + Sync,
-    R: Threads + Wait + Sync,
-    C: Clock + Sync,
-    G: Gate + Sync,
-    S: Sink + Send,
->(rt: &R, alloc: Global, floor: &Floor<'_, T, C, G, L, S>, seats: &[Seat<T, L>]) -> u8 {
-    in_threads(rt, alloc, floor, seats)
-}
-
 /// Takes the machines from their seats, in order: a log of each, in room that is there, and their shares.
-fn gather<L: SinkLedger<S>, R: Wait, S: Sink>(
+fn gather<T: Runs, L: DeskLedger<T, S>, R: Wait, S: Sink>(
     rt: &R,
-    desk: &mut Desk<Boxed, Owner, L, S>,
+    desk: &mut Desk<T, Owner, L, S>,
     all: &mut Share<L>,
     room: Vec<PassLog>,
-    seats: Vec<Seat<Boxed, L>>,
+    seats: Vec<Seat<T, L>>,
     machines: u8,
 ) -> Vec<PassLog>
     requires empty { room.items ≡ [] }

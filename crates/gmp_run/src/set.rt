@@ -18,15 +18,6 @@ impl Set {
         Set { bits: u64::MAX }
     }
 
-    /// Machines 0 to `count` - 1.
-    pub fn first(count: u8) -> Self {
-        let mut set = Set::none();
-        for m in 0..count {
-            set = set.with(MNo(m));
-        }
-        set
-    }
-
     pub fn of(m: MNo) -> Self {
         Set {
             bits: 1u64.wrapping_shl(u32::from(m.0)),

@@ -1,7 +1,8 @@
 //! The lock, and how a thread waits for it.
 //! Not by the mutex alone: a thread that misses it sleeps and is handed it some 50 µs later, while an act takes less than one.
 
-use crate::desk::{Bench, SinkLedger};
+use crate::desk::{Bench, DeskLedger};
+use crate::machine::Runs;
 use crate::outside::Sink;
 use crossbeam_utils::CachePadded;
 use std::hint::spin_loop;
@@ -25,7 +26,7 @@ const CALLS: u8 = 2;
 
 /// The bench under the lock, away from the lock's own word, which threads that wait read and write.
 #[derive(Drop)]
-pub(crate) struct Shared<T, L: SinkLedger<S>, S: Sink> {
+pub(crate) struct Shared<T: Runs, L: DeskLedger<T, S>, S: Sink> {
     bench: Mutex<CachePadded<Bench<T, L, S>>>,
     /// What those who wait and those who hunt look at, apart from the lock's own word: `HELD` and `CALLS`, each where it is so. No more
     /// than a hint; whoever has the lock writes it.
@@ -39,7 +40,7 @@ fn pause(count: u32) {
     }
 }
 
-impl<T: Drop, L: SinkLedger<S>, S: Sink> Shared<T, L, S> {
+impl<T: Runs, L: DeskLedger<T, S>, S: Sink> Shared<T, L, S> {
     pub fn new(bench: Bench<T, L, S>) -> Self {
         Shared {
             bench: Mutex::new(CachePadded::new(bench)),
@@ -67,11 +68,7 @@ impl<T: Drop, L: SinkLedger<S>, S: Sink> Shared<T, L, S> {
     /// Lets the lock go, and says to those who look outside that it is free, and whether hunters are called. The hint is written while the
     /// lock is still held, so the holders write in the order of their holds.
     pub fn let_go(&self, bench: MutexGuard<'_, CachePadded<Bench<T, L, S>>>) {
-        let hints = if bench.watch.calls_hunters() {
-            CALLS
-        } else {
-            0
-        };
+        let hints = if bench.calls_hunters() { CALLS } else { 0 };
         self.hints.store(hints, Ordering::SeqCst);
         drop(bench);
     }

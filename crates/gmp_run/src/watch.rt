@@ -1,15 +1,15 @@
 //! Who waits at Mind, which of them watches the least deadline, and who is to be called.
 //!
-//! A machine at Mind waits on its parker. All that is said here of who waits, looks, runs and is ready lies under the lock, and is kept by
-//! the entries of the history alone. No clause speaks of it: that no wake-up is lost rests on the order of these steps.
+//! A machine at Mind waits on its parker, and is awake to the book: no poke wakes it. Who waits, who watches and until when lies here, under
+//! the lock; all else is asked of the book (`Census`), and only while somebody waits. No clause speaks of it: that no wake-up is lost rests on
+//! the order of these steps.
 //!
-//! 1. **Note.** An act at the book is noted in the hold that makes it (`note_last`). So a machine counts as one that waits from the very
-//!    entry on that tells it to mind a deadline, before it reads the clock or its thread waits. A ticket that is given out counts as ready
-//!    from its machine's next entry on: by then it is in a queue or on the shelf, and whoever is called for it finds it. A thief may claim
-//!    it before that entry, so tickets that were given out and claims are counted apart.
-//! 2. **Settle: the call.** At the end of the same hold (`settle`) one of those that wait is called, where more goroutines are ready
-//!    than machines look for them, and more active processors are idle than machines that look have none. It waits no more, and counts as
-//!    one that looks from then on, so that it isn't called twice.
+//! 1. **Note.** Each hold in which acts were made ends by saying what its machine does next (`Then`). So a machine waits here from the hold
+//!    on in which it was told to mind a deadline, before it reads the clock or its thread waits. A ticket that is given out counts as ready
+//!    from the hold on in which its machine pokes: by then it is in a queue or on the shelf, and whoever is called for it finds it.
+//! 2. **Settle: the call.** Then one of those that wait is called (`settle`), where more goroutines are ready than machines look for them,
+//!    and more active processors are idle than machines that look have none. It waits no more, so from then on it counts as one that looks,
+//!    and isn't called twice.
 //! 3. **Settle: the watch.** Then, where the least deadline that stands is before the watcher's limit, or nobody watches, the watcher is
 //!    told the new limit; where there is none, one of those that wait becomes the watcher, rather the machine itself. This is put off while
 //!    more machines look than goroutines are ready: each of them comes to another act at the book, as it claims, takes a processor, gives
@@ -20,9 +20,8 @@
 //!    until when (`stays`), lets the lock go and waits: with no limit, or as the watcher until the limit. After each wait it looks again.
 //!    It comes back where it waits no more, where the run is over, and as the watcher at its limit; then it counts as one that looks, and
 //!    the watch is free.
-//! 6. **Act.** Whoever comes back ticks, takes a processor and looks for work by its table, and 1 to 4 hold of each of its acts at the
-//!    book.
-//! 7. **The end.** The hold that brings the outcome has all unparked, and whoever looks from then on comes back.
+//! 6. **Act.** Whoever comes back ticks, takes a processor and looks for work by its table, and 1 to 4 hold of each of its holds.
+//! 7. **The end.** The hold in which the run is over has all unparked, and whoever looks from then on comes back.
 //!
 //! Who waits changes after step 5's look in a later hold alone, whose unpark (step 4) comes after that look: so its token is still there
 //! for the wait. Calls end, since each of them leaves one less that waits, and only `park -> mind D` brings one, after the machine has
@@ -33,12 +32,10 @@
 //! and an active processor is idle for it. Not all marked ones come back: each would make some ten entries at each blocking call, and with
 //! many machines these alone would fill the book.
 
-use crate::processors::Processors;
 use crate::set::Set;
-use gmp_base::{GNo, MNo};
-use gmp_history::{BriefCall, BriefReply, History};
-use gmp_seq::{Call, Limits};
-use std::alloc::{AllocError, Global};
+use gmp_base::MNo;
+use gmp_book::Book;
+use gmp_idle::Machines;
 
 /// What a machine at Mind does.
 #[derive(Drop)]
@@ -51,6 +48,17 @@ pub(crate) enum Stay {
     Watches(u64),
 }
 
+/// What a machine does once the lock is let go.
+#[derive(Clone, Copy)]
+pub(crate) enum Then {
+    /// It minds a deadline.
+    Minds,
+    /// It pushes a ticket that it was given, and then pokes.
+    Stores,
+    /// Anything else.
+    Acts,
+}
+
 /// Whether the first of two deadlines is before the second, or alone.
 fn is_before(a: Option<u64>, b: Option<u64>) -> bool {
     match (a, b) {
@@ -60,46 +68,77 @@ fn is_before(a: Option<u64>, b: Option<u64>) -> bool {
     }
 }
 
-/// Until when the goroutine of the last entry's select waits.
-#[inline(never)]
-fn select_deadline(history: &History) -> Option<u64> {
-    match history.last() {
-        Some(entry) => match entry.call {
-            Call::Select(_, _, until) => until,
-            _ => None,
-        },
-        None => None,
+/// What the book tells of machines and goroutines, to whoever wakes machines.
+#[derive(Drop)]
+struct Census {
+    /// How many goroutines are ready, but for those whose tickets are still to be stored.
+    ready: usize,
+    /// How many machines look for work: those that are awake, run nothing and don't wait at Mind, since their first call.
+    looks: usize,
+    /// How many of these have no processor.
+    bare: usize,
+    /// How many active processors nobody holds.
+    idle: usize,
+    /// The least deadline.
+    least: Option<u64>,
+}
+
+/// How many active processors nobody holds.
+fn count_idle(machines: &Machines) -> usize {
+    let active = usize::from(machines.active());
+    let mut idle = 0usize;
+    for holder in machines.holders().iter().take(active) {
+        if holder.is_none() {
+            idle = idle.saturating_add(1);
+        }
+    }
+    idle
+}
+
+impl Census {
+    /// What stands now, where these wait at Mind, and these have a ticket to store. A machine that made no call yet may have been left out,
+    /// and looks for nothing.
+    fn of<T, Q>(book: &Book<T, Q>, waits: Set, stores: Set) -> Self {
+        let (machines, goroutines) = (book.machines(), book.goroutines());
+        let (mut running, mut looks, mut bare) = (0usize, 0usize, 0usize);
+        let count = u8::try_from(machines.modes().len()).unwrap_or(u8::MAX);
+        for m in 0..count {
+            let m = MNo(m);
+            if goroutines.runs_some(m) {
+                running = running.saturating_add(1);
+            } else if machines.is_awake(m) && !waits.has(m) && book.calls(m) > 0 {
+                looks = looks.saturating_add(1);
+                if !machines.has_processor(m) {
+                    bare = bare.saturating_add(1);
+                }
+            }
+        }
+        Census {
+            ready: goroutines
+                .count_going()
+                .saturating_sub(running)
+                .saturating_sub(stores.count() as usize),
+            looks,
+            bare,
+            idle: count_idle(machines),
+            least: goroutines.least_deadline(),
+        }
+    }
+
+    /// Whether there is work for one more.
+    fn wants(&self) -> bool {
+        self.ready > self.looks && self.idle > self.bare
     }
 }
 
-/// What the entries tell of machines, tickets and deadlines. Not a part of the book: to wake who minds as it wakes who is parked would be
-/// another poke, enter, close, tick and leave in the definitions.
+/// Who waits at Mind, and who of them watches. Not a part of the book: to wake who minds as it wakes who is parked would be another poke,
+/// enter, close, tick and leave in the definitions.
 #[derive(Drop)]
 pub(crate) struct Watch {
-    /// How many entries are noted.
-    noted: usize,
-    processors: Processors,
-    /// How many tickets were given out, and how many were claimed. One that was stolen may be claimed before it counts as given out.
-    given: u64,
-    claims: u64,
-    /// How many tickets are on the shelf.
-    shelved: u64,
-    /// Who is neither parked nor at Mind, and has no goroutine, since its first act.
-    looks: Set,
-    /// Who runs a goroutine, with a processor.
-    runs: Set,
-    /// Who isn't parked: awake to the book, or in a blocking call.
-    unparked: Set,
     /// Who is at Mind, and isn't called.
     waits: Set,
-    /// Who has been given a ticket, which isn't stored yet.
-    owes: Set,
-    /// The goroutine that each machine claimed last.
-    claimed: [u16; 64],
-    /// The deadline of each goroutine, some of which may be waited for no more.
-    deadlines: Vec<Option<u64>>,
-    /// None of them is before this one.
-    least: Option<u64>,
+    /// Who was given a ticket, and didn't poke since.
+    stores: Set,
     watcher: Option<MNo>,
     /// The watcher's limit.
     until: Option<u64>,
@@ -107,270 +146,29 @@ pub(crate) struct Watch {
 }
 
 impl Watch {
-    /// What stands at the opening: one ticket, main's, is on the shelf, and nobody is parked.
-    pub fn new(alloc: Global, limits: Limits, bodies: usize) -> Result<Self, AllocError> {
-        let mut deadlines = Vec::with_capacity(alloc, bodies)?;
-        for _ in 0..bodies {
-            deadlines.push(None)?;
-        }
-        Ok(Watch {
-            noted: 0,
-            processors: Processors::idle(limits.procs),
-            given: 1,
-            claims: 0,
-            shelved: 1,
-            looks: Set::none(),
-            runs: Set::none(),
-            unparked: Set::first(limits.machines),
+    /// Nobody waits.
+    pub fn new() -> Self {
+        Watch {
             waits: Set::none(),
-            owes: Set::none(),
-            claimed: [0; 64],
-            deadlines,
-            least: None,
+            stores: Set::none(),
             watcher: None,
             until: None,
             over: false,
-        })
-    }
-
-    /// m neither looks nor runs any more, nor waits at Mind. Where it stands then the caller says.
-    #[inline(always)]
-    fn goes(&mut self, m: MNo) {
-        self.looks = self.looks.without(m);
-        self.runs = self.runs.without(m);
-        if self.waits.has(m) {
-            self.comes_back(m);
         }
     }
 
+    /// Whether the run is over: all were told.
+    pub fn is_over(&self) -> bool {
+        self.over
+    }
+
     /// m waits no more. The watcher is one of those who wait.
-    #[inline(never)]
-    fn comes_back(&mut self, m: MNo) {
+    fn goes(&mut self, m: MNo) {
         self.waits = self.waits.without(m);
         if self.watcher == Some(m) {
             self.watcher = None;
             self.until = None;
         }
-    }
-
-    /// m looks for work from now on.
-    #[inline(always)]
-    fn look(&mut self, m: MNo) {
-        self.goes(m);
-        self.looks = self.looks.with(m);
-    }
-
-    /// m, which was parked, looks for work from now on.
-    fn wake(&mut self, m: MNo) {
-        self.look(m);
-        self.unparked = self.unparked.with(m);
-    }
-
-    /// m runs a goroutine from now on.
-    #[inline(always)]
-    fn run(&mut self, m: MNo) {
-        self.goes(m);
-        self.runs = self.runs.with(m);
-    }
-
-    /// So many tickets more count as given out.
-    fn more_ready(&mut self, count: u64) {
-        self.given = self.given.saturating_add(count);
-    }
-
-    /// So many more became ready, on the shelf.
-    fn more_on_shelf(&mut self, count: u64) {
-        self.more_ready(count);
-        self.shelved = self.shelved.saturating_add(count);
-    }
-
-    /// Whether whoever lies in wait for a queue is to come out: a ticket is on the shelf, or the run is over.
-    pub fn calls_hunters(&self) -> bool {
-        self.over || self.shelved > 0
-    }
-
-    /// Whether all machines but m are parked: then none of them needs the lock until m wakes it. One in a blocking call needs it at the
-    /// call's end; one that minds a deadline is awake, and one that was left out never parks.
-    pub fn is_alone(&self, m: MNo) -> bool {
-        self.unparked.without(m).is_empty()
-    }
-
-    /// The deadline of the goroutine that m claimed last.
-    fn deadline(&mut self, m: MNo) -> Option<&mut Option<u64>> {
-        let g = *self.claimed.get(usize::from(m.0))?;
-        self.deadlines.get_mut(usize::from(g))
-    }
-
-    /// m runs g, whose deadline is over: who runs waits for nothing.
-    #[inline(always)]
-    fn claim(&mut self, m: MNo, g: GNo) {
-        self.claims = self.claims.saturating_add(1);
-        self.run(m);
-        if let Some(claimed) = self.claimed.get_mut(usize::from(m.0)) {
-            *claimed = g.0;
-        }
-        if let Some(deadline) = self.deadline(m) {
-            *deadline = None;
-        }
-    }
-
-    /// The goroutine that m claimed last waits, until this deadline, where there is one.
-    fn sleeps(&mut self, m: MNo, until: Option<u64>) {
-        if is_before(until, self.least) {
-            self.least = until;
-        }
-        if let Some(deadline) = self.deadline(m) {
-            *deadline = until;
-        }
-    }
-
-    /// All deadlines up to the moment are over. It goes over all of them, but only where the least one is.
-    fn ticked(&mut self, moment: u64) {
-        if is_before(Some(moment), self.least) {
-            return;
-        }
-        let mut least = None;
-        for deadline in self.deadlines.iter_mut() {
-            if !is_before(Some(moment), *deadline) {
-                *deadline = None;
-            } else if is_before(*deadline, least) {
-                least = *deadline;
-            }
-        }
-        self.least = least;
-    }
-
-    /// The history was handed out: the next entry is its first.
-    pub fn begin_anew(&mut self) {
-        self.noted = 0;
-    }
-
-    /// Notes the last entry, unless it is noted.
-    #[inline(always)]
-    pub fn note_last(&mut self, history: &History) {
-        if history.len() > self.noted {
-            self.noted = history.len();
-            if let Some((m, call, reply)) = history.last_brief() {
-                self.note(m, call, reply, history);
-            }
-        }
-    }
-
-    /// Notes an entry: where machines stand, and which goroutines are ready and which run. One that is told to look again looks as before.
-    /// A ticket that is put onto the shelf was ready before.
-    #[inline(always)]
-    fn note(&mut self, m: MNo, call: BriefCall, reply: BriefReply, history: &History) {
-        if self.owes.has(m) {
-            self.owes = self.owes.without(m);
-            self.more_ready(1);
-        }
-        match (reply, call) {
-            (BriefReply::Held, BriefCall::Claim(g, _)) => self.claim(m, g),
-            (BriefReply::Ticket(_, _), BriefCall::Take) => {
-                self.shelved = self.shelved.saturating_sub(1);
-            }
-            (BriefReply::Nothing, BriefCall::Take | BriefCall::Poke) => {}
-            (BriefReply::Sent | BriefReply::Got(_, _), _) => {}
-            (BriefReply::Shelved(_, _), _) => {
-                self.look(m);
-                self.more_on_shelf(1);
-            }
-            (
-                BriefReply::Ticket(_, _)
-                | BriefReply::SentTo(_, _)
-                | BriefReply::GotFrom(_, _, _)
-                | BriefReply::ChoseSentTo(_, _, _)
-                | BriefReply::ChoseGotFrom(_, _, _, _),
-                _,
-            ) => self.owes = self.owes.with(m),
-            (BriefReply::Waits, BriefCall::Send(_, _) | BriefCall::Recv(_)) => {
-                self.look(m);
-                self.sleeps(m, None);
-            }
-            _ => self.note_rare(history),
-        }
-    }
-
-    /// The same of what seldom comes: also which processors are held and active, and until when goroutines wait. Where a select waits, its
-    /// deadline is in the history.
-    // It reads the entry again: whoever notes what comes often has it nowhere but in the history.
-    #[inline(never)]
-    fn note_rare(&mut self, history: &History) {
-        let Some((m, call, reply)) = history.last_brief() else {
-            return;
-        };
-        match (reply, call) {
-            (BriefReply::Proc(p), _) => {
-                self.look(m);
-                self.processors.hold(p);
-            }
-            (BriefReply::Nothing, BriefCall::Acquire) => self.look(m),
-            (BriefReply::Runs(p), _) => {
-                self.run(m);
-                self.processors.hold(p);
-            }
-            (BriefReply::Idle(p), _) => self.processors.release(p),
-            (BriefReply::Entered(p, woken), _) => {
-                self.goes(m);
-                self.processors.release(p);
-                if let Some(n) = woken {
-                    self.wake(n);
-                }
-            }
-            (BriefReply::Wakes(n), _) => self.wake(n),
-            (BriefReply::Parked, _) => {
-                self.goes(m);
-                self.unparked = self.unparked.without(m);
-            }
-            (BriefReply::Mind(until), _) => {
-                self.goes(m);
-                self.waits = self.waits.with(m);
-                self.least = Some(until);
-            }
-            (BriefReply::Shelf, _) => self.shelved = self.shelved.saturating_add(1),
-            (BriefReply::Closed(count), _) => self.more_on_shelf(count),
-            (BriefReply::Woke(count), BriefCall::Tick(moment)) => {
-                self.more_on_shelf(count);
-                self.ticked(moment);
-            }
-            (BriefReply::Waits, BriefCall::Sleep(until)) => {
-                self.look(m);
-                self.sleeps(m, Some(until));
-            }
-            (BriefReply::Waits, BriefCall::Select(_)) => {
-                self.look(m);
-                self.sleeps(m, select_deadline(history));
-            }
-            (BriefReply::Waits, _) => {
-                self.look(m);
-                self.sleeps(m, None);
-            }
-            (BriefReply::Dead, _) => self.look(m),
-            (BriefReply::Number(_), BriefCall::Procs(active)) => self.processors.set_active(active),
-            (_, _) => {}
-        }
-    }
-
-    /// How many tickets are claimed, or have a machine that looks.
-    fn taken_up(&self) -> u64 {
-        self.claims.saturating_add(u64::from(self.looks.count()))
-    }
-
-    /// Whether a goroutine is ready for each machine that looks.
-    fn is_taken_up(&self) -> bool {
-        self.taken_up() <= self.given
-    }
-
-    /// How many look and have no processor.
-    fn bare(&self) -> u32 {
-        let held = self.processors.count_held();
-        let with = held.saturating_sub(self.runs.count());
-        self.looks.count().saturating_sub(with)
-    }
-
-    /// Whether there is work for one more.
-    fn wants(&self) -> bool {
-        self.given > self.taken_up() && self.processors.count_idle() > self.bare()
     }
 
     /// The least of those who wait, and rather one who doesn't watch.
@@ -382,19 +180,46 @@ impl Watch {
         others.least().or(self.waits.least())
     }
 
-    /// Calls one, where there is work for it, and sees to it that somebody watches: whom to unpark once m has let the lock go.
-    pub fn settle(&mut self, m: MNo) -> Set {
-        let mut told = Set::none();
+    /// At the end of a hold in which m made acts, and after which it does this: calls one, where there is work for it, and sees to it that
+    /// somebody watches. Whom to unpark once m has let the lock go.
+    #[inline(always)]
+    pub fn settle<T, Q>(&mut self, m: MNo, then: Then, book: &Book<T, Q>) -> Set {
+        self.stores = self.stores.without(m);
+        match then {
+            Then::Minds => self.waits = self.waits.with(m),
+            Then::Stores => self.stores = self.stores.with(m),
+            Then::Acts => {}
+        }
         if self.waits.is_empty() {
+            return Set::none();
+        }
+        self.settle_waits(m, book)
+    }
+
+    /// Whether nobody is to be called, and the watcher is told nothing, whatever machines do: no processor is idle or nobody is ready, and no
+    /// deadline is before the watcher's limit.
+    fn is_settled<T, Q>(&self, book: &Book<T, Q>) -> bool {
+        let goroutines = book.goroutines();
+        let has_work = book.machines().has_idle() && goroutines.count_going() > 0;
+        !has_work && !is_before(goroutines.least_deadline(), self.until)
+    }
+
+    /// The same, where somebody waits.
+    #[inline(never)]
+    fn settle_waits<T, Q>(&mut self, m: MNo, book: &Book<T, Q>) -> Set {
+        let mut told = Set::none();
+        if self.is_settled(book) {
             return told;
         }
-        if self.wants() {
+        let mut census = Census::of(book, self.waits, self.stores);
+        if census.wants() {
             if let Some(n) = self.waiting() {
-                self.look(n);
+                self.goes(n);
+                census.looks = census.looks.saturating_add(1);
                 told = told.with(n);
             }
         }
-        if is_before(self.least, self.until) && self.is_taken_up() {
+        if is_before(census.least, self.until) && census.looks <= census.ready {
             let n = match self.watcher {
                 Some(n) => Some(n),
                 None if self.waits.has(m) => Some(m),
@@ -402,7 +227,7 @@ impl Watch {
             };
             if let Some(n) = n {
                 self.watcher = Some(n);
-                self.until = self.least;
+                self.until = census.least;
                 told = told.with(n);
             }
         }
@@ -419,7 +244,7 @@ impl Watch {
                 if now < until {
                     return Stay::Watches(until.saturating_sub(now));
                 }
-                self.look(m);
+                self.goes(m);
                 Stay::Back
             }
             _ => Stay::Waits,

@@ -8,7 +8,7 @@ ghost use Rattle.gmp_driver.specs.Table.{next_act};
 ghost use Rattle.gmp_turn.specs.Turns.{HasMemory};
 ghost use Rattle.gmp_worker.specs.Turn.{IsAtBook};
 
-use crate::desk::{RunLedger, SinkLedger};
+use crate::desk::{DeskLedger, RunLedger};
 use crate::machine::{Machine, Runs};
 use crate::outside::{Clock, Gate, Sink};
 use crate::set::Set;
@@ -45,7 +45,7 @@ pub(crate) type Seat<T, L> = Mutex<Option<Machine<T, L>>>;
 
 /// What the threads of a run share.
 #[derive(Drop)]
-pub(crate) struct Floor<'a, T, C, G, L: SinkLedger<S>, S: Sink> {
+pub(crate) struct Floor<'a, T: Runs, C, G, L: DeskLedger<T, S>, S: Sink> {
     pub shared: &'a Shared<T, L, S>,
     /// Machine m's at place m.
     pub unparkers: &'a [Unparker],
@@ -55,7 +55,7 @@ pub(crate) struct Floor<'a, T, C, G, L: SinkLedger<S>, S: Sink> {
     pub gate: &'a G,
 }
 
-impl<'a, T: Runs, C: Clock, G: Gate, L: SinkLedger<S>, S: Sink> Floor<'a, T, C, G, L, S> {
+impl<'a, T: Runs, C: Clock, G: Gate, L: DeskLedger<T, S>, S: Sink> Floor<'a, T, C, G, L, S> {
     /// Wakes these machines. With no lock held: who is woken wants it at once.
     fn wake(&self, machines: Set) {
         let mut left = machines;
@@ -90,7 +90,7 @@ impl<'a, T: Runs, C: Clock, G: Gate, L: SinkLedger<S>, S: Sink> Floor<'a, T, C, 
         let is_open = self.gate.is_open();
         let mut bench = self.shared.take(rt);
         // It stays so: who is parked is woken by an act of this hold alone, which is its last then.
-        let is_alone = is_open && bench.watch.is_alone(machine.m);
+        let is_alone = is_open && bench.is_alone(machine.m);
         let mut woken = bench.turn(memory, machine);
         for _ in 0..most_more(is_open, is_alone) {
             if woken.is_some() {
@@ -111,7 +111,7 @@ impl<'a, T: Runs, C: Clock, G: Gate, L: SinkLedger<S>, S: Sink> Floor<'a, T, C, 
                 _ => woken = bench.turn(None, machine),
             }
         }
-        let told = bench.settle(machine.m);
+        let told = bench.settle(machine);
         self.shared.let_go(bench);
         self.wake(woken.map_or(told, |m| told.with(m)));
     }
@@ -185,7 +185,7 @@ impl<'a, T: Runs, C: Clock, G: Gate, L: SinkLedger<S>, S: Sink> Floor<'a, T, C, 
 }
 
 /// Where the machines of a run work. The threads' code has it as a parameter: of whatever it is made, it is one that threads may share.
-pub(crate) trait Works<T, L: RunLedger> {
+pub(crate) trait Works<T: Runs, L: RunLedger> {
     /// Whether the machine is let in.
     fn admits(&self, m: MNo) -> bool;
 
@@ -193,7 +193,7 @@ pub(crate) trait Works<T, L: RunLedger> {
     fn works<R: Wait>(&self, rt: &R, alloc: Global, seat: &Seat<T, L>);
 }
 
-impl<'a, T: Runs, C: Clock, G: Gate, L: SinkLedger<S>, S: Sink> Works<T, L>
+impl<'a, T: Runs, C: Clock, G: Gate, L: DeskLedger<T, S>, S: Sink> Works<T, L>
     for Floor<'a, T, C, G, L, S> {
     fn admits(&self, m: MNo) -> bool {
         self.gate.admits(m)

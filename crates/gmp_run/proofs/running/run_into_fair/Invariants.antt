@@ -7,6 +7,6 @@ ghosts-run_as-L-RunLedger g a = record { run = a.run; fair = a.is_fair; board = 
 abbrev pub ghosts-run_as-L-Ledger : goal.ghosts-run_as-L-Ledger
 ghosts-run_as-L-Ledger g a = record { name = a.blank.name; parts = a.blank.parts }
 
--- the sink before the run
-abbrev pub ghosts-run_as-L-SinkLedger : goal.ghosts-run_as-L-SinkLedger
-ghosts-run_as-L-SinkLedger g a = record { first = λ s. s ≡ a.sink }
+-- the sink before the run, and the bodies
+abbrev pub ghosts-run_as-L-DeskLedger : goal.ghosts-run_as-L-DeskLedger
+ghosts-run_as-L-DeskLedger g a = record { first = λ s. s ≡ a.sink; given = a.bodies.items }

@@ -4,10 +4,13 @@ use Rattle.gmp_seq.specs.declared.call.Entry.{Entry}
 use Rattle.gmp_driver.specs.Machine.{Machine}
 use Rattle.gmp_acts.specs.Hands.{plain_machine}
 use Rattle.gmp_run.specs.Boards.{AreCounted, AreLed}
+use Rattle.gmp_run.specs.Bodies.{ArePlaced}
+use Rattle.gmp_run.proofs.Bodies.{same_led}
 use Rattle.gmp_run.proofs.Desks.{unchanged}
 use Rattle.gmp_run.proofs.Leading.{acts}
 use Rattle.gmp_run.proofs.Trails.{rests}
 use Rattle.gmp_run.proofs.Boards.{of_pass, stays}
+use Rattle.gmp_run.proofs.Turning.{all_settled}
 use Rattle.gmp_run.proofs.desk.Desk+T+Owner+L+S.log_of.Goals as goal
 
 pub invariant_of-self : goal.invariant_of-self
@@ -20,15 +23,20 @@ invariant_of-self g c =
     let machines = g.L.Ledger.parts in
     let log = d.book.log in
     let Led : List (Machine _ _) → List Entry → Type 0 = λ b h. AreLed machines run is_fair log b h in
-    let desk = unchanged run g.L.SinkLedger.first g.S.Sink.takes g.S.Sink.refuses (Led d.board.values) (Led c.set.new.self.values) log log d.tally.total d.tally.total d.sink d.spare c.self.invariant.0 refl
+    let desk = unchanged run g.L.DeskLedger.first g.S.Sink.takes g.S.Sink.refuses (Led d.board.values) (Led c.set.new.self.values) log log d.tally.total d.tally.total d.sink d.spare c.self.invariant.0 refl
     (λ h led. subst (λ (b : List (Machine _ _)). Led b h) (sym set.values)
     (acts machines run is_fair d.board.values x.stub.at x.stub.value x.driver x.driver set.agreed x.alone log h (rests (plain_machine x.driver)) led)) c.self.invariant.0.counted in
     let board = stays log.state.counts machines d.board.values c.self.invariant.2 x.stub.at x.stub.value x.driver set.agreed x.left x.driver refl in
-    let long = ap (λ (b : List (Machine _ _)). length b) set.values ∙ length-set d.board.values x.stub.at x.driver in (
+    let long = ap (λ (b : List (Machine _ _)). length b) set.values ∙ length-set d.board.values x.stub.at x.driver in
+    let resumes = g.T.Runs.resumes in
+    let blocks = g.T.Runs.blocks in
+    let given = g.L.DeskLedger.given in
+    let bodies = all_settled resumes blocks given d.board.values x.stub.at x.stub.value x.driver set.agreed x.alone x.led d.book.bodies c.self.invariant.4 in (
       desk,
       set.name ∙ c.self.invariant.1,
       subst (λ (b : List (Machine _ _)). AreCounted log.state.counts machines b) (sym set.values) board,
       long ∙ c.self.invariant.3,
+      subst (λ (b : List (Machine _ _)). ∥ ArePlaced resumes blocks given b d.book.bodies ∥₁) (sym set.values) bodies,
     )
 
 pub returns-clause-counted : goal.returns-clause-counted
@@ -41,3 +49,7 @@ returns-clause-counted g c =
     subst (λ (l : List ℕ). slice_get l c.into_log.result.0.m.0 ≡ Some c.into_log.result.0.calls) counts
     (subst (λ (calls : _). slice_get d.book.log.state.counts c.into_log.result.0.m.0 ≡ Some calls) (sym log.3)
     (subst (λ (m : _). slice_get d.book.log.state.counts m.0 ≡ Some log.0.calls) (sym log.2) own.1))
+
+-- the board has the machine as it is
+pub invariant_of-machine-clause-led : goal.invariant_of-machine-clause-led
+invariant_of-machine-clause-led g c = same_led g.T.Runs.resumes g.T.Runs.blocks c.set.new.stub.value c.args.machine.driver c.set.ensures.stub_value

@@ -1,8 +1,9 @@
-use Rattle.std.proofs.Common.{◌≡◌, ◌<◌, ◌∙◌, true, false, List, length, ap, arith, rules, subst, sym, tests}
+use Rattle.std.proofs.Common.{◌≡◌, ◌<◌, ◌∙◌, true, false, List, Option, length, ap, arith, rules, subst, sym, tests}
 use Rattle.gmp_history.specs.Brief.{HistoryContents}
 use Rattle.gmp_seq.specs.declared.call.Entry.{Entry}
 use Rattle.gmp_journal.specs.Log.{Log, entries_made, is_over}
 use Rattle.gmp_run.specs.Boards.{AreCounted, AreLed}
+use Rattle.gmp_run.specs.Bodies.{ArePlaced}
 use Rattle.gmp_run.proofs.Desks.{not_over, stopped_by, taken_by}
 use Rattle.gmp_run.proofs.desk.Desk.hand_out.Goals as goal
 
@@ -17,11 +18,12 @@ invariant_of-self g c =
     let full : length log.history ≡ log.limits.room = search (rules, tests) in
     let goes : entries_made log < log.limits.entries = search (rules, tests) in
     let lasts : is_over log ≡ false = search (rules, tests) in
-    let desk = taken_by g.L.RunLedger.run g.L.SinkLedger.first g.S.Sink.takes g.S.Sink.refuses (Led log) log old.tally.total old.sink old.spare c.self.invariant.0 (Led c.hand_out.new.self.log)
+    let desk = taken_by g.L.RunLedger.run g.L.DeskLedger.first g.S.Sink.takes g.S.Sink.refuses (Led log) log old.tally.total old.sink old.spare c.self.invariant.0 (Led c.hand_out.new.self.log)
     (λ h led. subst (λ (l : Log). Led l h) (sym out.rest) led) c.hand_out.new.self.log c.take.new.self c.take.new.history out.rest
     (subst (λ (h : List Entry). g.S.Sink.takes old.sink h c.take.new.self) out.out took.takes) full goes (not_over log lasts).1 took.empty
     (let lasts = out.lasting in let room = took.room in omega (arith, lasts, room)) (let lasts = out.lasting in let lasting = took.lasting in omega (arith, lasts, lasting)) in
-    (desk, c.self.invariant.1, subst (λ (l : Log). AreCounted l.state.counts g.L.Ledger.parts old.board.values) (sym out.rest) c.self.invariant.2, c.self.invariant.3)
+    let bodies = subst (λ (l : List (Option g.row.T.Denot)). ∥ ArePlaced g.T.Runs.resumes g.T.Runs.blocks g.L.DeskLedger.given old.board.values l ∥₁) (sym out.values.bodies) c.self.invariant.4 in
+    (desk, c.self.invariant.1, subst (λ (l : Log). AreCounted l.state.counts g.L.Ledger.parts old.board.values) (sym out.rest) c.self.invariant.2, c.self.invariant.3, bodies)
 
 -- it left them, and the run was stopped
 pub invariant_of-self-in-Err : goal.invariant_of-self-in-Err
@@ -35,8 +37,9 @@ invariant_of-self-in-Err g c =
     let goes : entries_made log < log.limits.entries = search (rules, tests) in
     let lasts : is_over log ≡ false = search (rules, tests) in
     let rest = c.stop.ensures.log ∙ ap (λ (l : Log). record l { stopped = true }) out.rest in
-    let desk = stopped_by g.L.RunLedger.run g.L.SinkLedger.first g.S.Sink.takes g.S.Sink.refuses (Led log) log old.tally.total old.sink old.spare c.self.invariant.0 (Led c.stop.new.self.log)
+    let desk = stopped_by g.L.RunLedger.run g.L.DeskLedger.first g.S.Sink.takes g.S.Sink.refuses (Led log) log old.tally.total old.sink old.spare c.self.invariant.0 (Led c.stop.new.self.log)
     (λ h led. subst (λ (l : Log). Led l h) (sym rest) led) c.stop.new.self.log c.take.new.self c.take.new.history rest
     (subst (λ (h : List Entry). g.S.Sink.refuses old.sink h c.take.new.self) out.out left.stops) full goes lasts
     (ap (λ (h : HistoryContents). h.list) left.kept ∙ out.out) c.history.ensures.part.part.fits in
-    (desk, c.self.invariant.1, subst (λ (l : Log). AreCounted l.state.counts g.L.Ledger.parts old.board.values) (sym rest) c.self.invariant.2, c.self.invariant.3)
+    let bodies = subst (λ (l : List (Option g.row.T.Denot)). ∥ ArePlaced g.T.Runs.resumes g.T.Runs.blocks g.L.DeskLedger.given old.board.values l ∥₁) (sym (c.stop.ensures.values.bodies ∙ out.values.bodies)) c.self.invariant.4 in
+    (desk, c.self.invariant.1, subst (λ (l : Log). AreCounted l.state.counts g.L.Ledger.parts old.board.values) (sym rest) c.self.invariant.2, c.self.invariant.3, bodies)
