@@ -1,7 +1,7 @@
 //! How far a check is, on one line of standard error, which is written over and gone at the end.
 //! Shown only where standard error is a terminal and the input is long: what goes into a file has no such line.
 
-use gmp_check_cli::Progress;
+use gmp_judge::Progress;
 use gmp_trace::{Watch, Work};
 
 /// An input of more bytes takes long enough for a line: one of more than 100,000 entries has more.

@@ -4,7 +4,7 @@ use Rattle.std.specs.Io.KnownBytes.{Appends}
 use Rattle.gmp_trace.specs.Text.{Content, text}
 use Rattle.gmp_check.specs.Parts.{IsPart, IsPast}
 use Rattle.gmp_parts.specs.Parts.{IsRightTrace}
-use Rattle.gmp_check_cli.specs.Check.{IsRead}
+use Rattle.gmp_judge.specs.Judged.{IsRead}
 
 -- What was read is the text of a right trace, and what was written is the text of its part from this entry on, which is right too.
 pub record WritesPart (at : ℕ) (input old new : Option (List ℕ)) : Type 0 where

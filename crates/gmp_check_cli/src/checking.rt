@@ -1,12 +1,12 @@
 //! The check of a trace.
 
 ghost use Rattle.std.specs.Prelude.{◌≡◌, ◌≢◌, ◌↔◌, true, IfSome};
-ghost use Rattle.gmp_check_cli.specs.Check.{HasRightTrace, SaysOfTrace, WritesSummary};
+ghost use Rattle.gmp_check_cli.specs.Check.{WritesSummary};
+ghost use Rattle.gmp_judge.specs.Judged.{HasRightTrace, SaysOfTrace};
 ghost use Rattle.gmp_words.specs.Said.{is_of_check};
 ghost use Rattle.gmp_words.specs.declared.said.Said.TheVariants.{Nothing, OutputFailed};
 
-use crate::judging::right_trace;
-use crate::progress::Progress;
+use gmp_judge::{Progress, right_trace};
 use gmp_trace::summary;
 use gmp_words::Ended;
 use std::alloc::Global;

@@ -1,13 +1,13 @@
 //! A part of a trace: it begins at the state before its first entry, so anybody can check it alone.
 
 ghost use Rattle.std.specs.Prelude.{◌≡◌, ◌↔◌, true, IfSome};
-ghost use Rattle.gmp_check_cli.specs.Check.{SaysOfTrace};
+ghost use Rattle.gmp_judge.specs.Judged.{SaysOfTrace};
 ghost use Rattle.gmp_check_cli.specs.Cut.{HasNoPart, HasPart, WritesPart};
 ghost use Rattle.gmp_words.specs.Said.{is_before_writing, is_of_cut};
 ghost use Rattle.gmp_words.specs.declared.said.Said.TheVariants.{BadLimits, Nothing, OutputFailed};
 
-use crate::judging::right_trace;
 use gmp_check::{SplitError, split};
+use gmp_judge::right_trace;
 use gmp_trace::write;
 use gmp_words::Ended;
 use std::alloc::Global;

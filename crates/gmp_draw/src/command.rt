@@ -1,12 +1,12 @@
 //! The command `draw` as a function: it reads and checks a trace as `check` does, and writes its picture.
 ghost use Rattle.std.specs.Prelude.{◌≡◌, ◌≢◌, ◌↔◌, true, IfSome};
-ghost use Rattle.gmp_check_cli.specs.Check.{HasRightTrace, SaysOfTrace};
+ghost use Rattle.gmp_judge.specs.Judged.{HasRightTrace, SaysOfTrace};
 ghost use Rattle.gmp_words.specs.Said.{is_of_check};
 ghost use Rattle.gmp_words.specs.declared.said.Said.TheVariants.{Nothing, OutputFailed};
 
 use crate::drawing::picture;
 use crate::range::Range;
-use gmp_check_cli::{Progress, right_trace};
+use gmp_judge::{Progress, right_trace};
 use gmp_trace::Trace;
 use gmp_walk::first_number;
 use gmp_words::Ended;

@@ -11,7 +11,7 @@ use Rattle.gmp_trace.specs.declared.bad.Why.TheVariants as why
 use Rattle.gmp_trace.specs.Reading.{IsFault}
 use Rattle.gmp_trace.specs.Text.{Content}
 use Rattle.gmp_check.specs.Checked.{IsFirstBad}
-use Rattle.gmp_check_cli.specs.Check.{IsJudged, said_of}
+use Rattle.gmp_judge.specs.Judged.{IsJudged, said_of}
 use Rattle.gmp_words.specs.declared.said.Said.{Said}
 use Rattle.gmp_words.specs.declared.said.Said.TheVariants as said
 use Rattle.gmp_explain.specs.declared.fact.Fact.{Fact}

@@ -14,7 +14,7 @@ use Rattle.gmp_trace.specs.Text.{Content, end_of}
 use Rattle.gmp_words.specs.declared.said.Said.{Said}
 use Rattle.gmp_words.specs.declared.said.Said.TheVariants.{Nothing, BadTrace}
 use Rattle.gmp_check.specs.Checked.{IsFirstBad}
-use Rattle.gmp_check_cli.specs.Check.{IsJudged, IsRead}
+use Rattle.gmp_judge.specs.Judged.{IsJudged, IsRead}
 use Rattle.gmp_walk.specs.Led.{IsWalked}
 use Rattle.gmp_explain.specs.declared.fact.Fact.{Fact}
 use Rattle.gmp_explain.specs.declared.fact.Fact.TheVariants as fact

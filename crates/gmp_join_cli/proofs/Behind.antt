@@ -6,7 +6,7 @@ use Rattle.gmp_trace.specs.declared.bad.Bad.{Bad}
 use Rattle.gmp_trace.specs.declared.trace.End.{End}
 use Rattle.gmp_trace.specs.Summary.{entries_line, outcome_line}
 use Rattle.gmp_trace.specs.Text.{Content, text}
-use Rattle.gmp_check_cli.specs.Check.{IsWrong}
+use Rattle.gmp_judge.specs.Judged.{IsWrong}
 use Rattle.gmp_join_cli.specs.declared.joining.Joined.{Joined}
 use Rattle.gmp_join_cli.specs.declared.stopping.Stop.{Stop}
 use Rattle.gmp_parts.proofs.Parts.{one_run}

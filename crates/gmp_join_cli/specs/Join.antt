@@ -10,7 +10,7 @@ use Rattle.gmp_trace.specs.Text.{Content, text}
 use Rattle.gmp_check.specs.Checked.{start_of}
 use Rattle.gmp_parts.specs.Parts.{AreInOrder, Follows, IsRightTrace, Parts, count, entries_of, joined_text, texts, whole}
 use Rattle.gmp_parts.specs.Parts.Parts.{NoPart, Then}
-use Rattle.gmp_check_cli.specs.Check.{IsWrong}
+use Rattle.gmp_judge.specs.Judged.{IsWrong}
 use Rattle.gmp_join_cli.specs.declared.joining.Joined.{Joined}
 use Rattle.gmp_join_cli.specs.declared.stopping.Stop.{Stop}
 

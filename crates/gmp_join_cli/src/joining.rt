@@ -7,14 +7,14 @@ ghost use Rattle.gmp_trace.specs.declared.bad.Bad.{Bad};
 ghost use Rattle.gmp_trace.specs.Text.{content};
 ghost use Rattle.gmp_check.specs.Checked.{IsRight};
 ghost use Rattle.gmp_parts.specs.Parts.{Follows, IsRightTrace, Parts};
-ghost use Rattle.gmp_check_cli.specs.Check.{IsBadLine, IsRead, IsWrong};
+ghost use Rattle.gmp_judge.specs.Judged.{IsBadLine, IsRead, IsWrong};
 ghost use Rattle.gmp_words.specs.Said.{is_of_input, is_of_join, is_of_next, is_of_part, is_of_trace};
 ghost use Rattle.gmp_words.specs.declared.said.Said.TheVariants.{Apart, BadPart, BadTrace, InputTooLong, Nothing, OutputFailed};
 ghost use Rattle.gmp_join_cli.specs.Join.{HasRunInParts, IsApart, IsBadPart, IsLongBehind, IsNextApart, IsTold, JoinsNext, Tells, WritesJoined};
 
 use crate::stopping::{Stop, goes_on, stop_of};
 use crate::taking::next_part;
-use gmp_check_cli::{Progress, judged};
+use gmp_judge::{Progress, judged};
 use gmp_parts::tell;
 use gmp_trace::{Bad, Trace, Why};
 use gmp_words::{Ended, MAX_TRACE, Said};

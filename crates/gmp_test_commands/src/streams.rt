@@ -1,6 +1,6 @@
 //! What a command reads from and writes to, and who hears how far it is: `Pieces`, `Room` and `Notes`.
 
-use gmp_check_cli::Progress;
+use gmp_judge::Progress;
 use gmp_trace::{Watch, Work};
 use std::alloc::{AllocError, Global};
 use std::io;

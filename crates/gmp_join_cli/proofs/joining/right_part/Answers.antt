@@ -1,5 +1,5 @@
 use Rattle.std.proofs.Common.{ℕ, List, subst}
-use Rattle.gmp_check_cli.specs.Check.{IsWrong}
+use Rattle.gmp_judge.specs.Judged.{IsWrong}
 use Rattle.gmp_join_cli.proofs.joining.right_part.Goals as goal
 
 pub returns-clause-bad : goal.returns-clause-bad

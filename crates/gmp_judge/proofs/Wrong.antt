@@ -7,7 +7,7 @@ use Rattle.gmp_trace.specs.HasText.{HasText}
 use Rattle.gmp_trace.specs.Reading.{IsFault}
 use Rattle.gmp_trace.specs.Text.{Content, text}
 use Rattle.gmp_parts.specs.Parts.{IsRightTrace}
-use Rattle.gmp_check_cli.specs.Check.{HasNoRightTrace, IsJudged, IsRead, IsWrong}
+use Rattle.gmp_judge.specs.Judged.{HasNoRightTrace, IsJudged, IsRead, IsWrong}
 use Rattle.gmp_words.specs.declared.said.Said.{Said}
 use Rattle.gmp_words.specs.declared.said.Said.TheVariants.{BadTrace, OutOfMemory}
 use Rattle.gmp_words.specs.Said.{is_of_line, said_for}

@@ -1,8 +1,8 @@
 use Rattle.std.proofs.Common.{refl, subst, sym}
 use Rattle.gmp_check.specs.Checked.{IsFirstBad, IsRight}
 use Rattle.gmp_trace.specs.Text.{Content}
-use Rattle.gmp_check_cli.proofs.Wrong.{is_line}
-use Rattle.gmp_check_cli.proofs.judging.Judgement.of.Goals as goal
+use Rattle.gmp_judge.proofs.Wrong.{is_line}
+use Rattle.gmp_judge.proofs.judging.Judgement.of.Goals as goal
 
 pub returns-in_default : goal.returns-in_default
 returns-in_default g c =

@@ -4,13 +4,13 @@ use Rattle.gmp_trace.specs.declared.trace.Trace.{Trace}
 use Rattle.gmp_trace.specs.HasText.{HasText}
 use Rattle.gmp_trace.specs.Reading.{IsFault}
 use Rattle.gmp_trace.specs.Text.{Content, content, text}
-use Rattle.gmp_check_cli.proofs.Wrong.{fault_of, wrong_text, wrong_trace}
-use Rattle.gmp_check_cli.specs.Check.{IsJudged, IsRead, IsWrong}
-use Rattle.gmp_check_cli.specs.declared.judging.Judgement.{Judgement}
+use Rattle.gmp_judge.proofs.Wrong.{fault_of, wrong_text, wrong_trace}
+use Rattle.gmp_judge.specs.Judged.{IsJudged, IsRead, IsWrong}
+use Rattle.gmp_judge.specs.declared.judging.Judgement.{Judgement}
 use Rattle.gmp_words.specs.declared.ended.Ended.{Ended}
 use Rattle.gmp_words.specs.declared.said.Said.TheVariants.{BadTrace, OutOfMemory}
-use Rattle.gmp_check_cli.proofs.judging.judge.Goals.{in-Ok, in-Err}
-use Rattle.gmp_check_cli.proofs.judging.judge.Goals as goal
+use Rattle.gmp_judge.proofs.judging.judge.Goals.{in-Ok, in-Err}
+use Rattle.gmp_judge.proofs.judging.judge.Goals as goal
 
 -- a line that is named is bad
 Names : List ℕ → Result Judgement Ended → Type 0

@@ -6,7 +6,7 @@ ghost use Rattle.gmp_trace.specs.HasText.{HasText};
 ghost use Rattle.gmp_trace.specs.Reading.{IsFault};
 ghost use Rattle.gmp_trace.specs.Text.{content};
 ghost use Rattle.gmp_parts.specs.Parts.{IsRightTrace};
-ghost use Rattle.gmp_check_cli.specs.Check.{IsJudged, IsRead, IsWrong, SaysOfTrace, said_of};
+ghost use Rattle.gmp_judge.specs.Judged.{IsJudged, IsRead, IsWrong, SaysOfTrace, said_of};
 ghost use Rattle.gmp_words.specs.Said.{is_of_input, is_of_trace};
 ghost use Rattle.gmp_words.specs.declared.said.Said.TheVariants.{BadTrace, Nothing, OutOfMemory};
 
