@@ -31,7 +31,9 @@ impl Goroutine for Merger {
                 return Ok(Ask::Go(GNo(self.started)));
             }
             Woke::Done => {}
-            Woke::Chose(_, Some((number, true))) => self.sum.add(number),
+            Woke::Chose(_, Some((number, true))) => {
+                self.sum.add(number);
+            }
             Woke::Chose(case, Some((_, false))) => {
                 let closed = self.inputs.get_mut(usize::from(case)).ok_or(Nonsense)?;
                 *closed = Channel::NIL;

@@ -64,8 +64,12 @@ impl Shared {
     /// Notes an answer.
     fn note(&self, answer: &Answer) {
         match answer.double {
-            Some(double) => self.sum.add(double),
-            None => self.late.add(1),
+            Some(double) => {
+                self.sum.add(double);
+            }
+            None => {
+                self.late.add(1);
+            }
         }
     }
 }

@@ -1,3 +1,4 @@
 pub mod Ends
 pub mod Openings
 pub mod Played
+pub mod Search

@@ -1,12 +1,15 @@
--- A host's run by a core: its machines act in turn, time passes where one waits for a deadline, and nothing is left open but what bodies do.
+-- A host's run by a core: its machines act in turn, or as they are dealt, time passes where one waits for a deadline, and nothing is left
+-- open but what bodies do.
 use Rattle.std.specs.Prelude.{◌≡◌, ℕ, ◌*◌, max, Bool, List, Option, None, Some, length}
 use Rattle.std.specs.Option.{unwrap_or}
 use Rattle.gmp_base.specs.declared.ask.Ask.{Ask}
 use Rattle.gmp_base.specs.declared.ask.Woke.{Woke}
+use Rattle.gmp_seq.specs.declared.call.Entry.{Entry}
 use Rattle.gmp_seq.specs.declared.call.Limits.{Limits}
 use Rattle.gmp_acts.specs.System.{BookRun}
 use Rattle.gmp_core.specs.Plays.{IsPlayed}
 use Rattle.gmp_core.specs.Stage.{Stage, opening_stage}
+use Rattle.gmp_chance.specs.Drawn.{IsDrawn, Table, opening_table}
 use Rattle.gmp_host.specs.declared.ending.Ended.{Ended}
 
 -- the clock shows the moment that it showed, or the deadline that is minded, whichever is later
@@ -55,3 +58,10 @@ module _ {T : Type 0} (resumed : T → Woke → Ask → T → Type 0) (called : 
     pub last : Stage T ℕ
     pub played : IsPlayedTo is_fair limits capacities bodies last
     pub none : last.core.system.book.state.outcome ≡ None
+
+-- By what a dealer deals, too.
+module _ {T D : Type 0} (resumed : T → Woke → Ask → T → Type 0) (called : T → ℕ → T → Type 0) (deals : D → List ℕ → ℕ → ℕ → D → Type 0) where
+  -- the bodies were played so far, each machine and each word as they are dealt, by this dealer at first
+  abbrev pub IsDrawnTo : D → Bool → Limits → List ℕ → List T → Table T ℕ D → Type 0
+  IsDrawnTo dealer is_fair limits capacities bodies last =
+      IsDrawn (AsksSo resumed) (AnswersSo called) ShowsSo deals (most_acts limits) (opening_table is_fair limits capacities bodies 0 dealer) last

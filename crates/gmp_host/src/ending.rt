@@ -1,23 +1,37 @@
 //! How a run ended, or how it fell short.
 
-ghost use Rattle.std.specs.Prelude.{◌≡◌, ◌≢◌, ◌↔◌};
+ghost use Rattle.std.specs.Prelude.{◌≡◌, ◌≢◌, ◌↔◌, IsTrue};
 ghost use Rattle.gmp_base.specs.declared.refusal.Refusal.TheVariants as refusal;
 ghost use Rattle.gmp_host.specs.declared.ending.Short.TheVariants as short;
+ghost use Rattle.gmp_host.specs.Search.{IsWell};
 
 use gmp_base::{GNo, Refusal, Woke};
 use gmp_seq::Outcome;
+use gmp_waits::Waiting;
 use std::alloc::{AllocError, AllocFailed};
 use std::fmt;
 use thiserror::Error;
 
 /// How a run ended.
-#[derive(Clone, Copy, Debug, PartialEq, Eq)]
+#[derive(Debug, PartialEq, Eq, Drop)]
 pub struct Ended {
     pub outcome: Outcome,
     /// How many entries its history has, those with it that a sink took.
     pub entries: u64,
     /// The goroutine that was the first to get an answer that made no sense to it.
     pub lost: Option<Lost>,
+    /// The goroutines that began and are not done, by number, and what each waits for or does. It is empty where main ended, where a sink
+    /// took the history, and where memory was refused.
+    pub waiting: Vec<Waiting>,
+}
+
+impl Ended {
+    /// Whether main ended, and no goroutine was lost.
+    pub fn is_well(&self) -> bool
+        ensures { IsTrue result ↔ IsWell self.now }
+    {
+        matches!(self.outcome, Outcome::MainEnded) && self.lost.is_none()
+    }
 }
 
 /// A goroutine that got an answer which made no sense to it, and exited.
@@ -28,19 +42,23 @@ pub struct Lost {
 }
 
 impl fmt::Display for Ended {
-    /// Its outcome, and who was lost. Not the number of entries, which is another at each run in threads.
+    /// Its outcome, who was lost, and where all are asleep who waits for what. Not the number of entries, which is another at each run in
+    /// threads.
     fn fmt<W: fmt::Write>(&self, f: &mut fmt::Formatter<W>) -> fmt::Result {
         match self.outcome {
             Outcome::MainEnded => write!(f, "main ended")?,
             Outcome::AllAsleep => write!(f, "all goroutines are asleep")?,
             Outcome::BookFull => write!(f, "the book is full")?,
         }
-        match self.lost {
-            Some(Lost { goroutine, answer }) => {
-                write!(f, ", goroutine {} lost at {answer:?}", goroutine.0)
-            }
-            None => Ok(()),
+        if let Some(Lost { goroutine, answer }) = self.lost {
+            write!(f, ", goroutine {} lost at {answer:?}", goroutine.0)?;
         }
+        if self.outcome == Outcome::AllAsleep {
+            for waiting in &self.waiting {
+                write!(f, "; {waiting}")?;
+            }
+        }
+        Ok(())
     }
 }
 
@@ -51,6 +69,8 @@ pub enum Short {
     OutOfMemory,
     #[error("its limits, its bodies or its channels are out of range")]
     BadLimits,
+    #[error("entries above room: use run_into")]
+    AboveRoom,
     #[error("it has no end after so many acts")]
     NoEnd,
     #[error("a log disagrees with the history")]

@@ -4,17 +4,17 @@ ghost use Rattle.gmp_turn.specs.Whole.{IsWholeRun};
 ghost use Rattle.gmp_seq.specs.Fits.{AreLimits};
 ghost use Rattle.gmp_host.specs.Ends.{IsOfLegalRun, IsOfPieces, StopsPieces, TakesLeft};
 ghost use Rattle.gmp_host.specs.Openings.{limits_of};
-ghost use Rattle.gmp_host.specs.Played.{BoxAnswers, BoxAsks, HasNoEnd, IsPlayedOut};
 ghost use Rattle.gmp_run.specs.Counts.{all_calls};
 
 use crate::channel::Channel;
 use crate::ending::{Ended, Lost, Short};
 use crate::goroutine::{Go, Goroutine, Loss};
+use crate::group::Group;
 use crate::note::{Note, Time};
 use crate::settings::Settings;
 use crate::spawner::{Outputs, Spawner, Task};
 use crate::stamps::Stamps;
-use crate::stepping::play_all;
+use crate::waits::waiting;
 use gmp_base::{CNo, GNo};
 use gmp_history::History;
 use gmp_run::{Clock, Gate, Open, Since, Sink, Stop, run_fair, run_into_fair};
@@ -30,7 +30,7 @@ const RUN: u64 = 0;
 /// Goroutines and channels that a program hands over to be run. `channel` adds to the capacities, and `push` to the bodies.
 #[derive(Drop)]
 pub struct Host {
-    alloc: Global,
+    pub(crate) alloc: Global,
     pub settings: Settings,
     /// How much room each channel has, by its number.
     pub capacities: Vec<u32>,
@@ -38,14 +38,14 @@ pub struct Host {
     pub bodies: Vec<Boxed>,
     /// How many goroutines were boxed. Each is to be pushed.
     pub boxed: u64,
-    loss: Loss,
-    shown: Note,
+    pub(crate) loss: Loss,
+    pub(crate) shown: Note,
     /// Whether a goroutine reads the time.
     is_timed: bool,
 }
 
 /// Which goroutine was lost first, if one was.
-fn first(loss: &Loss) -> Option<Lost> {
+pub(crate) fn first(loss: &Loss) -> Option<Lost> {
     *loss.try_lock()?
 }
 
@@ -99,6 +99,18 @@ impl Host {
         let number = u16::try_from(self.capacities.len()).map_err(|_| Short::BadLimits)?;
         self.capacities.push(capacity)?;
         Ok(Channel::of(CNo(number)))
+    }
+
+    /// So many goroutines that are waited for, by a channel of their own, on which none of them waits.
+    pub fn group(&mut self, members: u16) -> Result<Group, Short>
+        ensures members { IfOk result (λ g. g.left ≡ members) }
+        ensures bodies { (self.new.bodies ≡ self.old.bodies) × (self.new.boxed ≡ self.old.boxed) }
+        ensures settings { self.new.settings ≡ self.old.settings }
+    {
+        Ok(Group {
+            channel: self.channel(u32::from(members))?,
+            left: u32::from(members),
+        })
     }
 
     /// A number that goroutines leave for the host.
@@ -169,55 +181,10 @@ impl Host {
     }
 
     /// Whether all that was boxed was pushed.
-    fn is_pushed(&self) -> bool
+    pub(crate) fn is_pushed(&self) -> bool
         ensures { IsTrue result ↔ (self.now.boxed ≡ length self.now.bodies.items) }
     {
         self.bodies.len() as u64 == self.boxed
-    }
-
-    /// Runs the goroutines by a core in this thread, the same every time. All entries have to be kept.
-    pub fn step(self) -> Result<Ended, Short>
-        ensures ended { IfOk result (IsOfLegalRun (limits_of self.settings) self.capacities.items (length self.bodies.items)) }
-        // Its machines, which are fair as the settings say, act in turn, and each choice is the first. What a body asks when it is resumed, and
-        // what its blocking call answers, is what the body in the box says of itself.
-        ensures played { IfOk result (IsPlayedOut (BoxAsks (λ box body. record box { value = body }) resumed) (BoxAnswers (λ box body. record box { value = body }) blocked)
-            self.settings.fair (limits_of self.settings) self.capacities.items self.bodies.items) }
-        ensures endless { IfErr result (λ e. e ≡ Short.NoEnd
-            → HasNoEnd (BoxAsks (λ box body. record box { value = body }) resumed) (BoxAnswers (λ box body. record box { value = body }) blocked)
-            self.settings.fair (limits_of self.settings) self.capacities.items self.bodies.items) }
-        ensures whole { OnOk result (self.settings.entries ≤ self.settings.room) }
-        ensures limits { IfErr result (λ e. e ≡ Short.BadLimits
-            → IsWholeRun (limits_of self.settings) (length self.bodies.items) self.capacities.items → ⊥) }
-        ensures memory { IfErr result (λ e. e ≡ Short.OutOfMemory
-            → IsWholeRun (limits_of self.settings) (length self.bodies.items) self.capacities.items) }
-        ensures pushed { (result ≡ Err Short.NotPushed) ↔ (self.boxed ≢ length self.bodies.items) }
-        ensures kinds { IfErr result (λ e. (e ≢ Short.Mismatch) × (e ≢ Short.Stopped)) }
-    {
-        if !self.is_pushed() {
-            return Err(Short::NotPushed);
-        }
-        let Host {
-            alloc,
-            settings,
-            capacities,
-            bodies,
-            loss,
-            shown,
-            ..
-        } = self;
-        let limits = settings.limits();
-        let ended = play_all(
-            alloc,
-            limits,
-            capacities.as_slice(),
-            bodies,
-            shown,
-            settings.fair,
-        )?;
-        Ok(Ended {
-            lost: first(&loss),
-            ..ended
-        })
     }
 
     /// Runs the goroutines by machines in threads, until the run is over and each thread has ended. Who goes first is the threads' own
@@ -225,6 +192,7 @@ impl Host {
     pub fn run<R: Threads + Wait + time::Clock + Sync>(self, rt: &R) -> Result<Ended, Short>
         ensures ended { IfOk result (IsOfLegalRun (limits_of self.settings) self.capacities.items (length self.bodies.items)) }
         ensures whole { OnOk result (self.settings.entries ≤ self.settings.room) }
+        ensures above { IfErr result (λ e. e ≡ Short.AboveRoom → self.settings.room < self.settings.entries) }
         ensures limits { IfErr result (λ e. e ≡ Short.BadLimits
             → IsWholeRun (limits_of self.settings) (length self.bodies.items) self.capacities.items → ⊥) }
         ensures memory { IfErr result (λ e. e ≡ Short.OutOfMemory
@@ -245,6 +213,7 @@ impl Host {
     ) -> Result<Ended, Short>
         ensures ended { IfOk result (IsOfLegalRun (limits_of self.settings) self.capacities.items (length self.bodies.items)) }
         ensures whole { OnOk result (self.settings.entries ≤ self.settings.room) }
+        ensures above { IfErr result (λ e. e ≡ Short.AboveRoom → self.settings.room < self.settings.entries) }
         ensures limits { IfErr result (λ e. e ≡ Short.BadLimits
             → IsWholeRun (limits_of self.settings) (length self.bodies.items) self.capacities.items → ⊥) }
         ensures memory { IfErr result (λ e. e ≡ Short.OutOfMemory
@@ -255,13 +224,18 @@ impl Host {
         if !self.is_pushed() {
             return Err(Short::NotPushed);
         }
+        if self.settings.entries > u64::from(self.settings.room) {
+            return Err(Short::AboveRoom);
+        }
+        let limits = self.settings.limits();
         let bodies = self.bodies;
+        let count = bodies.len();
         let gate = Stamps::of(clock, &self.shown, self.is_timed, gate);
         let ran = run_fair(
             rt,
             self.alloc,
             RUN,
-            self.settings.limits(),
+            limits,
             self.capacities.as_slice(),
             bodies,
             clock,
@@ -276,10 +250,20 @@ impl Host {
         if audit(&report.history, &report.logs).is_err() {
             return Err(Short::Mismatch);
         }
+        let outcome = report.outcome.unwrap();
+        let capacities = self.capacities.as_slice();
         Ok(Ended {
-            outcome: report.outcome.unwrap(),
+            outcome,
             entries: report.history.len() as u64,
             lost: first(&self.loss),
+            waiting: waiting(
+                self.alloc,
+                limits,
+                count,
+                capacities,
+                outcome,
+                &report.history,
+            ),
         })
     }
 
@@ -297,7 +281,7 @@ impl Host {
         ensures memory { IfErr result.0 (λ e. e ≡ Short.OutOfMemory
             → AreLimits (limits_of self.settings) (length self.bodies.items) self.capacities.items) }
         ensures pushed { (result.0 ≡ Err Short.NotPushed) ↔ (self.boxed ≢ length self.bodies.items) }
-        ensures kinds { IfErr result.0 (λ e. (e ≢ Short.NoEnd) × (e ≢ Short.Mismatch)) }
+        ensures kinds { IfErr result.0 (λ e. (e ≢ Short.NoEnd) × (e ≢ Short.Mismatch) × (e ≢ Short.AboveRoom)) }
         ensures unused { IfErr result.0 (λ e. e ≢ Short.Stopped → result.1 ≡ sink) }
         ensures stopped { IfErr result.0 (λ e. e ≡ Short.Stopped
             → StopsPieces S.takes S.refuses (limits_of self.settings) self.capacities.items (length self.bodies.items) sink result.1) }
@@ -335,6 +319,7 @@ impl Host {
             outcome,
             entries: made(&report.logs),
             lost: first(&self.loss),
+            waiting: Vec::new(self.alloc),
         };
         (Ok(ended), sink)
     }

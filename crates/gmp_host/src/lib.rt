@@ -1,8 +1,9 @@
 //! For a program that embeds the runtime: goroutines, channels and selects of its own, run by machines in threads or by a core.
 //!
 //! A `Host` takes the goroutines, the first of which is main, and runs them: `run` by machines in threads, `step` in one thread, the same
-//! every time. Both tell how it `Ended`, as a legal run from the opening ended. `run_into` runs them for as long as they like, and hands the
-//! history to a `Sink` piece by piece.
+//! every time, and `step_by` in one thread, machines and words drawn from a seed. Each tells how it `Ended`, as a legal run from the opening
+//! ended. `run_into` runs them for as long as they like, and hands the history to a `Sink` piece by piece. `search` looks for a seed whose run
+//! does not end well.
 //!
 //! A `Spawner` starts goroutines while the run goes on, and hands each its body over, a `Task`, whose output it leaves in `Outputs`.
 //!
@@ -12,27 +13,36 @@
 #![tactic(auto)]
 
 mod channel;
+mod drawing;
 mod ending;
 mod goroutine;
+mod group;
 mod host;
 mod note;
 mod queue;
+mod searching;
 mod select;
 mod settings;
+mod single;
 mod spawner;
 mod stamps;
 mod stepping;
+mod waits;
 
 pub use channel::Channel;
 pub use ending::{Ended, Lost, Short};
 pub use gmp_base::{Ask, CNo, Case, Cases, Fault, GNo, MNo, Woke};
+pub use gmp_chance::{Dealer, Ranked};
 pub use gmp_driver::Act;
 pub use gmp_history::History;
 pub use gmp_run::{Clock, Gate, MOST_REST, Open, Since, Sink, Stop};
 pub use gmp_seq::Outcome;
+pub use gmp_waits::Waiting;
 pub use goroutine::{Go, Goroutine, Nonsense};
+pub use group::Group;
 pub use host::Host;
 pub use note::{Note, Time};
+pub use searching::{Found, search};
 pub use select::Select;
 pub use settings::Settings;
 pub use spawner::{Outputs, Spawned, Spawner, Task};

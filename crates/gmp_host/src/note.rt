@@ -37,9 +37,9 @@ impl Note {
         self.number.store(number, Ordering::SeqCst);
     }
 
-    /// Adds to it. Past the greatest number it begins at 0.
-    pub fn add(&self, number: u64) {
-        self.number.fetch_add(number, Ordering::SeqCst);
+    /// Adds to it, and tells what it held before. Past the greatest number it begins at 0.
+    pub fn add(&self, number: u64) -> u64 {
+        self.number.fetch_add(number, Ordering::SeqCst)
     }
 
     /// Adds what was received, if this is a receive's answer.

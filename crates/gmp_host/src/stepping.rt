@@ -6,6 +6,7 @@ ghost use Rattle.gmp_host.specs.Played.{EndsSo, HasNoEnd, IsPlayedOut};
 
 use crate::ending::{Ended, Short};
 use crate::note::Note;
+use crate::waits::waiting;
 use gmp_base::{Ask, Woke};
 use gmp_core::{Outside, Player};
 use gmp_seq::Limits;
@@ -14,7 +15,7 @@ use std::alloc::Global;
 use std::marker::Model;
 
 /// The most acts, for each machine.
-const MOST_ACTS: u32 = 1_000_000;
+pub(crate) const MOST_ACTS: u32 = 1_000_000;
 
 /// A body that a machine of a core has in hand. Each says by two relations of its own what it does. A run has it as a parameter, and no box.
 pub(crate) trait InHand: Drop {
@@ -28,9 +29,9 @@ pub(crate) trait InHand: Drop {
     /// From the body before, by its blocking call, to this number and the body after.
     ghost called: { Self → ℕ → Self → Type 0 };
 
-    /// Goes on with this answer until it asks again.
-    fn goes_on(&mut self, woke: Woke) -> Ask
-        ensures { resumed self.old woke result self.new };
+    /// Goes on with this answer until it asks again, and writes what it asks.
+    fn goes_on(&mut self, woke: Woke, out: &mut Ask)
+        ensures { resumed self.old woke out.new self.new };
 
     /// Makes its blocking call.
     fn calls(&mut self) -> u64
@@ -45,8 +46,8 @@ impl InHand for Boxed {
 
     ghost called = { BoxAnswers (λ box body. record box { value = body }) (λ box. (Body-box box).blocked box.value) };
 
-    fn goes_on(&mut self, woke: Woke) -> Ask {
-        resume_boxed(self, woke)
+    fn goes_on(&mut self, woke: Woke, out: &mut Ask) {
+        resume_boxed(self, woke, out);
     }
 
     fn calls(&mut self) -> u64 {
@@ -56,7 +57,7 @@ impl InHand for Boxed {
 
 /// What the clock shows: it stands still until a machine minds a deadline, and then shows that. A contract sees the moment that it shows.
 #[derive(Drop)]
-struct Shown {
+pub(crate) struct Shown {
     moment: u64,
     /// Where goroutines read it.
     note: Note,
@@ -70,6 +71,15 @@ impl Model for Shown {
     ghost view = { λ s. s.moment };
 }
 
+impl Shown {
+    /// Nothing yet, where goroutines read it from this note.
+    pub fn new(note: Note) -> Self
+        ensures { result ≡ 0 }
+    {
+        Shown { moment: 0, note }
+    }
+}
+
 impl<T: InHand> Outside<T> for Shown {
     ghost use Rattle.gmp_host.specs.Played.{AnswersSo, AsksSo, ShowsSo};
 
@@ -79,8 +89,8 @@ impl<T: InHand> Outside<T> for Shown {
 
     ghost shows = { ShowsSo };
 
-    fn ask(&mut self, body: &mut T, woke: Woke) -> Ask {
-        body.goes_on(woke)
+    fn ask(&mut self, body: &mut T, woke: Woke, out: &mut Ask) {
+        body.goes_on(woke, out);
     }
 
     fn number(&mut self, body: &mut T) -> u64 {
@@ -94,18 +104,25 @@ impl<T: InHand> Outside<T> for Shown {
     }
 }
 
-/// How the run ended, if it did.
-fn ended<T: InHand>(player: &Player<T, Shown>) -> Option<Ended>
+/// How the run, of so many bodies, ended, if it did.
+fn ended<T: InHand>(
+    alloc: Global,
+    limits: Limits,
+    bodies: usize,
+    capacities: &[u32],
+    player: &Player<T, Shown>,
+) -> Option<Ended>
     ensures some { let book = player.now.core.system.book in IfSome result (IsOfLegalRun book.limits book.capacities book.bodies) }
     ensures so { let book = player.now.core.system.book in IfSome result (EndsSo book) }
     ensures none { result ≡ None → player.now.core.system.book.state.outcome ≡ None }
 {
     let outcome = player.outcome()?;
-    let entries = player.history().len() as u64;
+    let history = player.history();
     Some(Ended {
         outcome,
-        entries,
+        entries: history.len() as u64,
         lost: None,
+        waiting: waiting(alloc, limits, bodies, capacities, outcome, history),
     })
 }
 
@@ -124,21 +141,23 @@ pub(crate) fn play_all<T: InHand>(
     ensures played { IfOk result (IsPlayedOut T.resumed T.called is_fair limits capacities.now bodies.items) }
     ensures endless { IfErr result (λ e. e ≡ Short.NoEnd → HasNoEnd T.resumed T.called is_fair limits capacities.now bodies.items) }
     ensures whole { OnOk result (limits.room ≡ limits.entries) }
+    ensures above { IfErr result (λ e. e ≡ Short.AboveRoom → limits.room ≢ limits.entries) }
     ensures limits { IfErr result (λ e. e ≡ Short.BadLimits → IsWholeRun limits (length bodies.items) capacities.now → ⊥) }
     ensures memory { IfErr result (λ e. e ≡ Short.OutOfMemory → IsWholeRun limits (length bodies.items) capacities.now) }
     ensures kinds { IfErr result (λ e. (e ≢ Short.Mismatch) × (e ≢ Short.Stopped) × (e ≢ Short.NotPushed)) }
 {
+    if u64::from(limits.room) != limits.entries {
+        return Err(Short::AboveRoom);
+    }
     // Also what `Player::open` tests itself: where it has no memory it doesn't say that they are in range.
-    if u64::from(limits.room) != limits.entries || !limits.allow(bodies.len(), capacities) {
+    if !limits.allow(bodies.len(), capacities) {
         return Err(Short::BadLimits);
     }
-    let outside = Shown {
-        moment: 0,
-        note: shown,
-    };
+    let count = bodies.len();
+    let outside = Shown::new(shown);
     let mut player = Player::open(alloc, limits, capacities, bodies, outside, is_fair)?;
     player.play(MOST_ACTS * u32::from(limits.machines), 0);
-    let ended = ended(&player);
+    let ended = ended(alloc, limits, count, capacities, &player);
     player.close();
     ended.ok_or(Short::NoEnd)
 }

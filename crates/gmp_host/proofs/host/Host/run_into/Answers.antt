@@ -32,7 +32,7 @@ returns-clause-ended g c =
     subst (λ ran. IfOk ran (λ r. IsPiecesReport takes refuses c.limits.result c.as_slice.result.now bodies c.args.sink r mid)) c.in-Ok.is c.run_into_fair-ran.ensures.report in
     let made : c.made.result ≡ all_calls c.in-Ok.report.logs.items = c.made.ensures ∙ ap all_calls c.deref.ensures.value in
     let took : TakesLeft takes mid c.in-Ok.report.history.list sink = search (rules, tests) in
-    let ended : Ended = record { outcome = c.in-Some.outcome; entries = c.made.result; lost = c.first.result } in
+    let ended : Ended = record { outcome = c.in-Some.outcome; entries = c.made.result; lost = c.first.result; waiting = c.new.result } in
     let all = in_pieces takes refuses c.limits.result c.as_slice.result.now bodies c.args.sink c.in-Ok.report mid ran sink ended took (sym c.in-Some.is) made in
     subst (λ (limits : Limits). IsOfPieces takes limits c.args.self.capacities.items bodies c.args.sink ended sink) c.limits.ensures
     (subst (λ (capacities : List ℕ). IsOfPieces takes c.limits.result capacities bodies c.args.sink ended sink) c.as_slice.ensures.value all)

@@ -1,0 +1,28 @@
+-- What a search through seeds finds.
+use Rattle.std.specs.Prelude.{◌≡◌, ℕ, ◌≤◌, ◌<◌, Option, None, Some, Result, Ok}
+use Rattle.gmp_seq.specs.declared.call.Outcome.TheVariants as outcome
+use Rattle.gmp_host.specs.declared.ending.Ended.{Ended}
+use Rattle.gmp_host.specs.declared.ending.Short.{Short}
+use Rattle.gmp_host.specs.declared.searching.Found.{Found}
+
+-- main ended, and no goroutine was lost
+abbrev pub IsWell : Ended → Type 0
+IsWell e = (e.outcome ≡ outcome.MainEnded) × (e.lost ≡ None)
+
+-- By what a run of each seed may come to.
+module _ (runs : ℕ → Result Ended Short → Type 0) where
+  -- each of these seeds ran, and its run ended well
+  abbrev pub AreWell : ℕ → ℕ → Type 0
+  AreWell begin end = (seed : ℕ) → begin ≤ seed → seed < end → (ended : Ended) × runs seed (Ok ended) × IsWell ended
+
+  -- the first of these seeds whose run did not end well
+  pub record IsFirst (begin end : ℕ) (found : Found) : Type 0 where
+    pub there : (begin ≤ found.seed) × (found.seed < end)
+    pub ran : runs found.seed (Ok found.ended)
+    pub ill : ¬ (IsWell found.ended)
+    pub before : AreWell begin found.seed
+
+  -- it is found, unless all runs ended well
+  abbrev pub Searches : ℕ → ℕ → Option Found → Type 0
+  Searches begin end (Some found) = IsFirst begin end found
+  Searches begin end None = AreWell begin end
