@@ -20,7 +20,9 @@ impl Goroutine for Boss {
         match (self.step, woke) {
             (1, Woke::First) => Ok(Ask::Go(GNo(1))),
             (2, Woke::Done) => Ok(Ask::Go(GNo(2))),
-            (_, Woke::Done | Woke::Got(_, true)) => Ok(self.lockers.wait().unwrap_or(Ask::Exit)),
+            (3, Woke::Done) | (4 | 5, Woke::Got(_, true)) => {
+                Ok(self.lockers.wait().unwrap_or(Ask::Exit))
+            }
             _ => Err(Nonsense),
         }
     }
