@@ -3,14 +3,12 @@
 #![tactic(auto)]
 
 mod busy;
-mod drawn;
 mod handed;
 mod loaded;
 mod split;
 mod ways;
 
 use crate::busy::{Waits, run_busy};
-use crate::drawn::{Bug, by_seed, in_turn, replayed};
 use crate::handed::{Found, run_handed};
 use crate::loaded::{Tally, run_loaded};
 use crate::split::run_split;
@@ -18,7 +16,7 @@ use crate::ways::Runner;
 use anyhow::Result;
 use gmp_host::{
     Act, Ask, Channel, Ended, GNo, Gate, Goroutine, History, Host, MNo, Nonsense, Note, Settings,
-    Short, Since, Sink, Stop, Woke, search,
+    Short, Since, Sink, Stop, Woke,
 };
 use std::alloc::Global;
 use std::sync::Wait;
@@ -234,44 +232,6 @@ fn show_loaded<R: Threads + Wait + Clock + Sync + Print>(
     Ok(())
 }
 
-/// Whether machines acted in the same order in both, and were told the same.
-fn are_same(one: &History, other: &History) -> bool {
-    one.len() == other.len()
-        && one
-            .iter()
-            .zip(other.iter())
-            .all(|(a, b)| a.m == b.m && a.reply == b.reply)
-}
-
-/// What a search through 1000 seeds of such a program finds, machines drawn so, and whether the seed does so again.
-fn show_found<R: Print>(
-    rt: &R,
-    alloc: Global,
-    words: &str,
-    bug: Bug,
-    way: drawn::Way,
-) -> Result<()> {
-    let Some(found) = search(0..1000, |seed| by_seed(alloc, bug, way, seed))? else {
-        println!(rt; "{words}: no seed finds it")?;
-        return Ok(());
-    };
-    let (ended, history) = replayed(alloc, bug, way, found.seed)?;
-    let (_, once_more) = replayed(alloc, bug, way, found.seed)?;
-    println!(rt;
-        "{words}: {found}; again: {}, the same entries: {}",
-        ended == found.ended,
-        are_same(&history, &once_more)
-    )?;
-    Ok(())
-}
-
-/// How a program that goes wrong by few schedules ends in turn, and what searches find.
-fn show_drawn<R: Print>(rt: &R, alloc: Global, words: &str, bug: Bug) -> Result<()> {
-    println!(rt; "{words}, in turn: {}", in_turn(alloc, bug)?)?;
-    show_found(rt, alloc, "even draws", bug, drawn::Way::Even)?;
-    show_found(rt, alloc, "drawn ranks", bug, drawn::Way::Ranked)
-}
-
 fn main(rt: HostRuntime) -> Result<()> {
     let alloc = rt.alloc();
     println!(rt; "step: {}", lossy(&rt, alloc, Way::Step)?)?;
@@ -295,11 +255,7 @@ fn main(rt: HostRuntime) -> Result<()> {
         procs: 0,
         ..Settings::default()
     };
-    let many = Settings {
-        room: 16,
-        ..Settings::default()
-    };
-    for (settings, is_pushed) in [(few, true), (none, true), (many, true), (few, false)] {
+    for (settings, is_pushed) in [(few, true), (none, true), (few, false)] {
         match yielding(alloc, settings, is_pushed) {
             Ok(ended) => println!(rt; "{ended}, {} entries", ended.entries)?,
             Err(short) => println!(rt; "{short}")?,
@@ -327,13 +283,5 @@ fn main(rt: HostRuntime) -> Result<()> {
         fair: false,
         ..settings
     };
-    show_loaded(&rt, alloc, 1, unfair)?;
-    for (words, bug) in [
-        ("two locks", Bug::Locks),
-        ("a wake-up", Bug::WakeUp),
-        ("a closed channel", Bug::Closed),
-    ] {
-        show_drawn(&rt, alloc, words, bug)?;
-    }
-    Ok(())
+    show_loaded(&rt, alloc, 1, unfair)
 }
