@@ -1,7 +1,8 @@
 -- Bodies in hand are led on by the acts of a machine.
-use Rattle.std.proofs.Common.{◌≡◌, ◌⊎◌, inl, inr, ℕ, Bool, true, false, List, [], ◌∷◌, ◌++◌, Option, None, Some, refl, sym, ap, subst, ◌∙◌}
+use Rattle.std.proofs.Common.{◌≡◌, ℕ, Bool, true, false, List, [], ◌∷◌, ◌++◌, Option, None, Some, refl, sym, ap, subst, ◌∙◌}
 use Rattle.std.specs.Prelude.{◌==◌, if◌then◌else◌}
 use Rattle.std.specs.Option.{option_map}
+use Rattle.gmp_base.specs.declared.ask.Ask.{Ask}
 use Rattle.gmp_driver.specs.declared.act.Act.{Act}
 use Rattle.gmp_driver.specs.declared.act.Act.TheVariants as act
 use Rattle.gmp_driver.specs.declared.act.Told.{Told}
@@ -16,10 +17,14 @@ use Rattle.gmp_driver.specs.Bodies.{with_body, with_body_at}
 use Rattle.gmp_driver.specs.Machine.{Machine}
 use Rattle.gmp_driver.specs.Registers.{first_of}
 use Rattle.gmp_driver.specs.Seen.{seen}
-use Rattle.gmp_driver.specs.Table.{act_at, after, next_act}
+use Rattle.gmp_driver.specs.Table.{act_at, after, next_act, next_place}
 use Rattle.gmp_turn.specs.Values.{body_in, called_body, held_body, where_is}
+use Rattle.gmp_said.specs.Standing.{HandSaid, due_at}
+use Rattle.gmp_said.proofs.Places.{IsEndAct, TellsPlace, end_act, stays as stays_none, tells_place}
+use Rattle.gmp_said.proofs.Standing.{asks_said, brings_said, quiet_said, same_said}
 use Rattle.gmp_worker.specs.Local.{CalledWhere, HeldWhere, IsOfBodyOrClock}
-use Rattle.gmp_run.specs.Bodies.{Blocks, BodyGoesAll, BodyGoesOn, HandLed, IsLed, IsLedIf, Resumes}
+use Rattle.gmp_said.specs.Said.{Blocks, Resumes}
+use Rattle.gmp_run.specs.Bodies.{BodyGoesAll, BodyGoesOn, HandLed, IsLed, IsLedIf}
 
 module _ {T : Type 0} (resumes : Resumes T) (blocks : Blocks T) where
   abbrev Led : T → T → Type 0
@@ -100,6 +105,16 @@ module _ {T : Type 0} (resumes : Resumes T) (blocks : Blocks T) where
     pub same_led : (x y : Machine T Q) → x ≡ y → ∥ HandLed resumes blocks x.hand y.hand ∥₁
     same_led x y is = ∣ subst (λ (z : Machine T Q). HandLed resumes blocks x.hand z.hand) is (hand_stays x.hand) ∣₁
 
+    -- the same goroutines are in hand
+    pub same_hand_led : (hand hand' : Registers T Q) → hand'.held ≡ hand.held → hand'.called ≡ hand.called → Hand hand hand'
+    same_hand_led hand hand' held called i =
+        subst (λ (o : Option T). LedIf (body_in hand i) o)
+        (sym (ap (λ (o : Option (HeldParts T)). first_of (held_body o i) (called_body hand'.called i)) held ∙ ap (λ (o : Option (CalledParts T)). first_of (held_body hand.held i) (called_body o i)) called)) (if_stays (body_in hand i))
+
+    -- of a machine that is as it was
+    pub seen_said : (x y : Machine T Q) → x ≡ y → ∥ HandSaid resumes blocks x.place x.hand y.place y.hand ∥₁
+    seen_said x y is = ∣ same_said resumes blocks x.place y.place x.hand y.hand (ap (λ (z : Machine T Q). z.place) is) (ap (λ (z : Machine T Q). z.hand) is) ∣₁
+
     -- Another body in hand, which was resumed or blocked. At a place where neither comes next, no body is exchanged.
 
     at_run : (s : Seen) (here : Place) (hand : Registers T Q) (h : HeldParts T) (left : T) → act_at s here ≡ act.Resume → hand.held ≡ Some h → Led h.body left → Hand hand (with_body_at here hand left)
@@ -139,6 +154,61 @@ module _ {T : Type 0} (resumes : Resumes T) (blocks : Blocks T) where
           let c = called_is x.hand.called fact w in
           let t = of c.0 c.2 in
           same_hand (with_body_at x.place x.hand t.0) (ap (λ (y : Machine T Q). y.hand) t.3) (at_block (seen x) x.place x.hand c.0 t.0 is c.1 (once c.0.body t.0 t.2))
+
+      place_at : (a : Act) → next_act x ≡ a → TellsPlace x.place a
+      place_at a is = subst (TellsPlace x.place) is (tells_place (seen x) x.place)
+
+      abbrev Said : Type 0
+      Said = HandSaid resumes blocks x.place x.hand x'.place x'.hand
+
+      -- at another place, with another hand
+      said_at : (here there : Place) (hand' : Registers T Q) → x.place ≡ here → x'.place ≡ there → x'.hand ≡ hand' → HandSaid resumes blocks here x.hand there hand' → Said
+      said_at here there hand' at now hand said =
+          subst (λ (p : Place). HandSaid resumes blocks p x.hand x'.place x'.hand) (sym at)
+          (subst (λ (p : Place). HandSaid resumes blocks here x.hand p x'.hand) (sym now) (subst (λ (h : Registers T Q). HandSaid resumes blocks here x.hand there h) (sym hand) said))
+
+      pub resumed_said : (fact : HeldParts T → Type 0) → next_act x ≡ act.Resume → HeldWhere x fact
+          → ((h : HeldParts T) → fact h → (left : T) × (asked : Ask) × resumes h.body h.woke asked left × (x' ≡ after (with_body x left) (told.Asked asked))) → Said
+      resumed_said fact is w of =
+          let h = held_is x.hand.held fact w in
+          let t = of h.0 h.2 in
+          let at : x.place ≡ place.Run = place_at act.Resume is in
+          said_at place.Run (place.Do t.1) (with_body_at place.Run x.hand t.0) at
+          (ap (λ (y : Machine T Q). y.place) t.3 ∙ ap (λ (p : Place). next_place (seen (with_body x t.0)) p (told.Asked t.1)) at)
+          (ap (λ (y : Machine T Q). y.hand) t.3 ∙ ap (λ (p : Place). with_body_at p x.hand t.0) at) (asks_said resumes blocks t.1 x.hand h.0 t.0 h.1 t.2)
+
+      pub blocked_said : (fact : CalledParts T → Type 0) → next_act x ≡ act.Block → CalledWhere x fact
+          → ((c : CalledParts T) → fact c → (left : T) × (number : ℕ) × blocks c.body number left × (x' ≡ after (with_body x left) (told.Number number))) → Said
+      blocked_said fact is w of =
+          let c = called_is x.hand.called fact w in
+          let t = of c.0 c.2 in
+          let at : x.place ≡ place.Block = place_at act.Block is in
+          said_at place.Block (place.Leave t.1) (with_body_at place.Block x.hand t.0) at
+          (ap (λ (y : Machine T Q). y.place) t.3 ∙ ap (λ (p : Place). next_place (seen (with_body x t.0)) p (told.Number t.1)) at)
+          (ap (λ (y : Machine T Q). y.hand) t.3 ∙ ap (λ (p : Place). with_body_at p x.hand t.0) at) (brings_said resumes blocks t.1 x.hand c.0 t.0 c.1 t.2)
+
+      read_said : (moment : ℕ) (minded : Option ℕ) → next_act x ≡ act.Clock minded → x' ≡ after x (told.Moment moment) → Said
+      read_said moment minded act_is is =
+          let none = place_at (act.Clock minded) act_is in
+          quiet_said resumes blocks x.place x'.place x.hand x'.hand none (ap (λ (y : Machine T Q). due_at y.place) is ∙ stays_none (seen x) x.place (told.Moment moment) none tt)
+          (λ end. absurd (subst IsEndAct act_is (end_act (seen x) x.place end))) (ap (λ (y : Machine T Q). y.hand.held) is) (ap (λ (y : Machine T Q). y.hand.called) is)
+
+      -- whichever comes next
+      pub local_said : (moment : ℕ) → IsOfBodyOrClock (next_act x) → (next_act x ≡ act.Resume → Said) → (next_act x ≡ act.Block → Said)
+          → ((minded : Option ℕ) → next_act x ≡ act.Clock minded → x' ≡ after x (told.Moment moment)) → Said
+      local_said moment of resumes_it blocks_it reads = by (next_act x) refl of where
+        by : (a : Act) → next_act x ≡ a → IsOfBodyOrClock a → Said
+        by act.Resume is of = resumes_it is
+        by act.Block is of = blocks_it is
+        by (act.Clock minded) is of = read_said moment minded is (reads minded is)
+        by (act.Call asked) is of = absurd of
+        by act.Pop is of = absurd of
+        by act.Drain is of = absurd of
+        by act.Push is of = absurd of
+        by act.Hunt is of = absurd of
+        by (act.Steal v) is of = absurd of
+        by (act.Surrender which) is of = absurd of
+        by act.Nothing is of = absurd of
 
       pub read_led : (moment : ℕ) → x' ≡ after x (told.Moment moment) → Hand x.hand x'.hand
       read_led moment is = same_hand x.hand (ap (λ (y : Machine T Q). y.hand) is) (hand_stays x.hand)

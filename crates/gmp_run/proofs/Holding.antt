@@ -1,6 +1,6 @@
 -- A machine holds one goroutine at most, whatever it does.
 use Rattle.std.specs.Prelude.{is_some}
-use Rattle.std.proofs.Common.{◌≡◌, ◌⊎◌, inl, inr, ℕ, Bool, true, false, List, [], ◌∷◌, Option, None, Some, IsNone, refl, sym, ap, subst}
+use Rattle.std.proofs.Common.{◌≡◌, ◌⊎◌, inl, inr, Bool, true, false, List, [], ◌∷◌, Option, None, Some, IsNone, refl, sym, subst}
 use Rattle.std.specs.Option.{option_map}
 use Rattle.gmp_base.specs.declared.ask.Woke.{Woke}
 use Rattle.gmp_base.specs.declared.number.Readiness.{Readiness}
@@ -16,7 +16,6 @@ use Rattle.gmp_driver.specs.declared.act.Told.TheVariants as told
 use Rattle.gmp_driver.specs.declared.act.Tried.TheVariants as tried
 use Rattle.gmp_driver.specs.declared.act.Value.{Value}
 use Rattle.gmp_driver.specs.declared.act.Value.TheVariants as value
-use Rattle.gmp_driver.specs.declared.registers.CalledParts.{CalledParts}
 use Rattle.gmp_driver.specs.declared.registers.HeldParts.{HeldParts}
 use Rattle.gmp_driver.specs.declared.registers.Registers.{Registers}
 use Rattle.gmp_driver.specs.Own.{with_found}
@@ -25,7 +24,8 @@ use Rattle.gmp_driver.specs.Table.{after}
 use Rattle.gmp_acts.specs.Acts.{given_back}
 use Rattle.gmp_acts.specs.Hands.{PlainHand, PlainMachine, hand_after, left_by, plain, plain_called, plain_held, retold}
 use Rattle.gmp_run.specs.Bodies.{HoldsOne}
-use Rattle.gmp_run.specs.Trails.{GoesAll, GoesAlone, GoesOn, HoldsThen, hand_refused}
+use Rattle.gmp_said.specs.Standing.{hand_refused}
+use Rattle.gmp_run.specs.Trails.{GoesAll, GoesAlone, GoesOn, HoldsThen}
 
 -- In plain parts
 

@@ -49,7 +49,8 @@ use Rattle.gmp_queue.specs.declared.ends.Owner.{Owner}
 use Rattle.gmp_queue.specs.declared.ends.Thief.{Thief}
 use Rattle.gmp_worker.specs.AtQueue.{Steals, Tries, TurnsOnQueue}
 use Rattle.gmp_worker.specs.Local.{CalledWhere, HeldWhere, IsOfBodyOrClock}
-use Rattle.gmp_run.specs.Trails.{GoesOn, HoldsThen, MakesEntry, hand_refused}
+use Rattle.gmp_said.specs.Standing.{hand_refused}
+use Rattle.gmp_run.specs.Trails.{GoesOn, HoldsThen, MakesEntry}
 
 pub next_plain : {T Q : Type 0} (x : Machine T Q) → next_act (plain_machine x) ≡ next_act x
 next_plain x = ap (λ (s : Seen). act_at s x.place) (seen_plain x.procs x.fresh x.turns x.aside x.hand)
@@ -227,32 +228,35 @@ module _ {T Q : Type 0} (x x' : Machine T Q) (book book' : BookContents T Q) whe
         (backs x.run t.before t.behind t.back book book' asked answer x.hand (uses x asked is fits)
         (replies book.log.limits t.before.m asked answer book.log.state book'.log.state t.records.step.1) t.hands).0
 
-  pub refused : (asked : Call) (word : ℕ) (why : Refusal) → next_act x ≡ act.Call asked → Turns x book asked word (Err why) x' book' → GoesOn (plain_machine x) (plain_machine x')
-  refused asked word why is t = inr (inl (record {
-    asked = asked;
-    why = why;
-    next = next_plain x ∙ is;
-    machine = ap plain_machine t.machine ∙ after_plain _ (told.Refused why) ∙ ap (told_of (Some t.behind)) (holds ∙ refused_hand asked why (plain x.hand))
-        ∙ ap (λ (p : Option Pass). told_of p (hand_refused asked why (plain x.hand))) (ap (λ (p : Pass). Some p) t.err.1 ∙ sym t.pass);
-  })) where
-    told_of : Option Pass → PlainHand → PlainMachine
-    told_of p h = after (record (plain_machine x) { pass = p; hand = h }) (told.Refused why)
+  -- the machine whose call was refused
+  pub turned_down : (asked : Call) (word : ℕ) (why : Refusal) → Turns x book asked word (Err why) x' book'
+      → plain_machine x' ≡ after (record (plain_machine x) { hand = hand_refused asked why (plain x.hand) }) (told.Refused why)
+  turned_down asked word why t =
+      ap plain_machine t.machine ∙ after_plain _ (told.Refused why) ∙ ap (told_of (Some t.behind)) (holds ∙ refused_hand asked why (plain x.hand))
+      ∙ ap (λ (p : Option Pass). told_of p (hand_refused asked why (plain x.hand))) (ap (λ (p : Pass). Some p) t.err.1 ∙ sym t.pass) where
+        told_of : Option Pass → PlainHand → PlainMachine
+        told_of p h = after (record (plain_machine x) { pass = p; hand = h }) (told.Refused why)
 
-    holds : plain (hand_with asked x.hand (load_back t.behind (is_to_claim asked (handed_out x t.before asked)) t.back)) ≡ plain_back asked why (plain x.hand)
-    holds = rw t.err.2 (by_parts x.run t.before asked why x.hand.processor x.hand.held x.hand.called x.hand.to_claim x.hand.to_store).0
+        holds : plain (hand_with asked x.hand (load_back t.behind (is_to_claim asked (handed_out x t.before asked)) t.back)) ≡ plain_back asked why (plain x.hand)
+        holds = rw t.err.2 (by_parts x.run t.before asked why x.hand.processor x.hand.held x.hand.called x.hand.to_claim x.hand.to_store).0
+
+  pub refused : (asked : Call) (word : ℕ) (why : Refusal) → next_act x ≡ act.Call asked → Turns x book asked word (Err why) x' book' → GoesOn (plain_machine x) (plain_machine x')
+  refused asked word why is t = inr (inl (record { asked = asked; why = why; next = next_plain x ∙ is; machine = turned_down asked word why t }))
+
+  -- the machine that was refused a surrender
+  pub refused_back : (which : Option Value) (why : Refusal) → Surrenders x book which (Err why) x' book' → plain_machine x' ≡ after (plain_machine x) (told_back which (Err why))
+  refused_back which why t =
+      ap plain_machine t.machine ∙ after_plain _ (told_back which (Err why))
+      ∙ ap (told_of (told_back which (Err why)) (Some t.before)) (again x.run t.before which x.hand.processor x.hand.held x.hand.called x.hand.to_claim x.hand.to_store)
+      ∙ ap (λ (p : Option Pass). told_of (told_back which (Err why)) p (plain x.hand)) (sym t.pass) where
+        told_of : Told → Option Pass → PlainHand → PlainMachine
+        told_of what p h = after (record (plain_machine x) { pass = p; hand = h }) what
+
+  given_or : (which : Option Value) (result : Result Unit Refusal) → Surrenders x book which result x' book'
+      → (plain_machine x' ≡ given_back (plain_machine x) which) ⊎ ((why : Refusal) × (plain_machine x' ≡ after (plain_machine x) (told.Refused why)))
+  given_or which (Ok done) t = inl (given x x' book book' which t).0
+  given_or None (Err why) t = inl (refused_back None why t)
+  given_or (Some v) (Err why) t = inr (why, refused_back (Some v) why t)
 
   pub gives : (which : Option Value) (result : Result Unit Refusal) → next_act x ≡ act.Surrender which → Surrenders x book which result x' book' → GoesOn (plain_machine x) (plain_machine x')
-  gives which (Ok done) is t = inr (inr (record { which = which; next = next_plain x ∙ is; machine = inl (given x x' book book' which t).0 }))
-  gives which (Err why) is t = inr (inr (record { which = which; next = next_plain x ∙ is; machine = by which refl })) where
-    told_of : Told → Option Pass → PlainHand → PlainMachine
-    told_of what p h = after (record (plain_machine x) { pass = p; hand = h }) what
-
-    same : plain_machine x' ≡ after (plain_machine x) (told_back which (Err why))
-    same =
-        ap plain_machine t.machine ∙ after_plain _ (told_back which (Err why))
-        ∙ ap (told_of (told_back which (Err why)) (Some t.before)) (again x.run t.before which x.hand.processor x.hand.held x.hand.called x.hand.to_claim x.hand.to_store)
-        ∙ ap (λ (p : Option Pass). told_of (told_back which (Err why)) p (plain x.hand)) (sym t.pass)
-
-    by : (o : Option Value) → which ≡ o → (plain_machine x' ≡ given_back (plain_machine x) which) ⊎ ((why : Refusal) × (plain_machine x' ≡ after (plain_machine x) (told.Refused why)))
-    by None is = inl (same ∙ subst (λ (o : Option Value). after (plain_machine x) (told_back o (Err why)) ≡ given_back (plain_machine x) o) (sym is) refl)
-    by (Some v) is = inr (why, same ∙ ap (λ (o : Option Value). after (plain_machine x) (told_back o (Err why))) is)
+  gives which result is t = inr (inr (record { which = which; next = next_plain x ∙ is; machine = given_or which result t }))

@@ -1,8 +1,8 @@
 -- Bodies stay in their places or in hand, each led from the one that was given, as one machine on the board goes on.
 use Rattle.std.specs.Prelude.{slice_index_or}
-use Rattle.std.proofs.Common.{◌≡◌, ◌⊎◌, inl, inr, ℕ, zero, suc, Bool, true, false, List, [], ◌∷◌, Option, None, Some, IsSome, is_some, map, slice_get, slice_set, refl, sym, ap, subst, ◌∙◌}
-use Rattle.std.proofs.lemmas.Bool.{cases_eq, false≢true}
-use Rattle.std.proofs.lemmas.Option.{get_or_from_slice_get}
+use Rattle.std.proofs.Common.{◌≡◌, ◌⊎◌, inl, inr, ℕ, zero, suc, Bool, List, [], ◌∷◌, Option, None, Some, IsSome, is_some, map, slice_get, slice_set, refl, sym, ap, subst, ◌∙◌, length, arith}
+use Rattle.std.proofs.lemmas.Bool.{cases_eq}
+use Rattle.std.proofs.lemmas.Option.{get_or_from_slice_get, slice_get_within}
 use Rattle.std.specs.Option.{option_map}
 use Rattle.gmp_seq.proofs.Epochs.{at_set, slice_get-set_same}
 use Rattle.gmp_driver.specs.declared.registers.CalledParts.{CalledParts}
@@ -10,24 +10,23 @@ use Rattle.gmp_driver.specs.declared.registers.HeldParts.{HeldParts}
 use Rattle.gmp_driver.specs.declared.registers.Registers.{Registers}
 use Rattle.gmp_driver.specs.Machine.{Machine}
 use Rattle.gmp_driver.specs.Registers.{first_of}
-use Rattle.gmp_acts.specs.Hands.{plain_called, plain_held}
+use Rattle.gmp_acts.specs.Hands.{PlainMachine, plain_called, plain_held}
 use Rattle.gmp_turn.specs.Values.{AreOut, KeepsValues, body_in, called_body, held_body}
-use Rattle.gmp_run.specs.Bodies.{AllInside, AllLedFrom, ArePlaced, Blocks, HandLed, HoldsOne, IsLed, IsLedFrom, IsLedIf, Resumes}
+use Rattle.gmp_said.specs.Said.{Blocks, Resumes}
+use Rattle.gmp_said.proofs.Turning.{get_back, some_not_none}
+use Rattle.gmp_run.specs.Bodies.{AllInside, ArePlaced, HandLed, HoldsOne, IsLed, IsLedFrom, IsLedIf}
+use Rattle.gmp_run.specs.Boards.{AreFirst}
 use Rattle.gmp_run.proofs.Bodies.{led_join, stays}
+use Rattle.gmp_run.proofs.Leading.{gap}
 
 -- Places
-
-get_back : {X : Type 0} (xs : List (Option X)) (i : ℕ) (c : X) → slice_index_or xs i None ≡ Some c → slice_get xs i ≡ Some (Some c)
-get_back [] i c e = absurd (let no : None ≡ Some c = e in cc)
-get_back (o ∷ xs) zero c e = ap (λ (p : Option _). Some p) e
-get_back (o ∷ xs) (suc i) c e = get_back xs i c e
 
 map_back : {X : Type 0} (xs : List X) (i : ℕ) (c : X) → slice_get (map Some xs) i ≡ Some (Some c) → slice_get xs i ≡ Some c
 map_back [] i c e = absurd (let no : None ≡ Some (Some c) = e in cc)
 map_back (x ∷ xs) zero c e = (let same : Some (Some x) ≡ Some (Some c) = e in let is : x ≡ c = cc in ap (λ (y : _). Some y) is)
 map_back (x ∷ xs) (suc i) c e = map_back xs i c e
 
-map_get : {X : Type 0} (xs : List X) (i : ℕ) (c : X) → slice_get xs i ≡ Some c → slice_get (map Some xs) i ≡ Some (Some c)
+pub map_get : {X : Type 0} (xs : List X) (i : ℕ) (c : X) → slice_get xs i ≡ Some c → slice_get (map Some xs) i ≡ Some (Some c)
 map_get [] i c e = absurd (let no : None ≡ Some c = e in cc)
 map_get (x ∷ xs) zero c e = ap (λ (o : Option _). Some o) e
 map_get (x ∷ xs) (suc i) c e = map_get xs i c e
@@ -35,13 +34,6 @@ map_get (x ∷ xs) (suc i) c e = map_get xs i c e
 first_none : {X : Type 0} (o p : Option X) → first_of o p ≡ None → o ≡ None
 first_none None p e = refl
 first_none (Some x) p e = absurd (let no : Some x ≡ None = e in cc)
-
-some_is : {X : Type 0} (o : Option X) → IsSome o → (x : X) × (o ≡ Some x)
-some_is None some = absurd (false≢true some)
-some_is (Some x) some = (x, refl)
-
-some_not_none : {X : Type 0} (o : Option X) → IsSome o → o ≡ None → ⊥
-some_not_none o some none = false≢true (sym (ap is_some none) ∙ some)
 
 module _ {T : Type 0} (resumes : Resumes T) (blocks : Blocks T) where
   if_led : (o p : Option T) → IsLedIf resumes blocks o p → (c : T) → p ≡ Some c → (b : T) × (o ≡ Some b) × IsLed resumes blocks b c
@@ -81,7 +73,7 @@ module _ {T : Type 0} (resumes : Resumes T) (blocks : Blocks T) where
             (from.0, from.1, led_join resumes blocks from.0 was.0 c from.2 was.2)
 
         -- a body of another machine is not in its hand
-        elsewhere : (at' : ℕ) (z : Machine T Q) → (at ≡ at' → ⊥) → slice_get board at' ≡ Some z → (i : ℕ) → IsSome (body_in z.hand i) → body_in hand i ≡ None
+        pub elsewhere : (at' : ℕ) (z : Machine T Q) → (at ≡ at' → ⊥) → slice_get board at' ≡ Some z → (i : ℕ) → IsSome (body_in z.hand i) → body_in hand i ≡ None
         elsewhere at' z apart found i some = by (body_in hand i) refl where
           by : (o : Option T) → body_in hand i ≡ o → body_in hand i ≡ None
           by None e = e
@@ -92,7 +84,7 @@ module _ {T : Type 0} (resumes : Resumes T) (blocks : Blocks T) where
           abbrev board' : List (Machine T Q)
           board' = slice_set board at x'
 
-          here_or : (at' : ℕ) (z : Machine T Q) → slice_get board' at' ≡ Some z → ((at ≡ at') × (x' ≡ z)) ⊎ ((at ≡ at' → ⊥) × (slice_get board at' ≡ Some z))
+          pub here_or : (at' : ℕ) (z : Machine T Q) → slice_get board' at' ≡ Some z → ((at ≡ at') × (x' ≡ z)) ⊎ ((at ≡ at' → ⊥) × (slice_get board at' ≡ Some z))
           here_or at' z found = by (cases_eq at at') where
             by : (at ≡ at') ⊎ (at ≡ at' → ⊥) → ((at ≡ at') × (x' ≡ z)) ⊎ ((at ≡ at' → ⊥) × (slice_get board at' ≡ Some z))
             by (inl is) =
@@ -123,7 +115,7 @@ module _ {T : Type 0} (resumes : Resumes T) (blocks : Blocks T) where
             by (inr (apart, before)) = are.in_hand at' z before i c is
 
           -- a body of another machine was and is in neither
-          apart_now : (at' : ℕ) (z : Machine T Q) → (at ≡ at' → ⊥) → slice_get board at' ≡ Some z → (i : ℕ) → IsSome (body_in z.hand i) → body_in x'.hand i ≡ None
+          pub apart_now : (at' : ℕ) (z : Machine T Q) → (at ≡ at' → ⊥) → slice_get board at' ≡ Some z → (i : ℕ) → IsSome (body_in z.hand i) → body_in x'.hand i ≡ None
           apart_now at' z apart found i some =
               let none = elsewhere at' z apart found i some in
               let vacant = get_or_from_slice_get old i None None (are.out at' z found i some) in
@@ -166,3 +158,17 @@ module _ {T : Type 0} (resumes : Resumes T) (blocks : Blocks T) where
         nothing : (at : ℕ) (x : Machine T Q) → slice_get board at ≡ Some x → (i : ℕ) → body_in x.hand i ≡ None
         nothing at x found i =
             ap (λ (o : Option (HeldParts T)). first_of (held_body o i) (called_body x.hand.called i)) (free at x found).0 ∙ ap (λ (o : Option (CalledParts T)). called_body o i) (free at x found).1
+
+none_under : {A B : Type 0} (f : A → B) (o : Option A) → option_map f o ≡ None → o ≡ None
+none_under f None e = refl
+none_under f (Some x) e = absurd (let none : Some (f x) ≡ None = e in cc)
+
+-- no machine has a goroutine in hand at its start
+pub free_at : {T Q : Type 0} (machines run : ℕ) (is_fair : Bool) (procs : ℕ) (board : List (Machine T Q)) → length board ≡ machines → AreFirst machines run is_fair procs board
+    → (at : ℕ) (x : Machine T Q) → slice_get board at ≡ Some x → (x.hand.held ≡ None) × (x.hand.called ≡ None)
+free_at machines run is_fair procs board long first at x found =
+    let within = slice_get_within board at x found in
+    let rest = gap at machines (omega (arith, within, long)) in
+    let its = rest.1 in
+    let is = first rest.0 x (at, omega (arith, its), found) in
+    (none_under plain_held x.hand.held (ap (λ (y : PlainMachine). y.hand.held) is), none_under plain_called x.hand.called (ap (λ (y : PlainMachine). y.hand.called) is))

@@ -5,14 +5,7 @@ use Rattle.gmp_base.specs.declared.ask.Woke.{Woke}
 use Rattle.gmp_driver.specs.declared.registers.Registers.{Registers}
 use Rattle.gmp_driver.specs.Machine.{Machine}
 use Rattle.gmp_turn.specs.Values.{AreOut, body_in}
-
--- how bodies are resumed: from one, with this answer, to this ask and the body after
-abbrev pub Resumes : Type 0 → Type 1
-Resumes T = T → Woke → Ask → T → Type 0
-
--- how they make their blocking calls: from one, to this number and the body after
-abbrev pub Blocks : Type 0 → Type 1
-Blocks T = T → ℕ → T → Type 0
+use Rattle.gmp_said.specs.Said.{Blocks, Resumes}
 
 -- it holds one goroutine at most
 abbrev pub HoldsOne : {T Q : Type 0} → Registers T Q → Type 0

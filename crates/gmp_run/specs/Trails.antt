@@ -3,9 +3,7 @@ use Rattle.std.specs.Prelude.{◌≡◌, ◌≢◌, ◌⊎◌, ℕ, ◌+◌, ◌
 use Rattle.gmp_base.specs.declared.number.Readiness.{Readiness}
 use Rattle.gmp_base.specs.declared.pass.Pass.{Pass}
 use Rattle.gmp_base.specs.declared.refusal.Refusal.{Refusal}
-use Rattle.gmp_base.specs.declared.refusal.Refusal.TheVariants.{OutOfMemory}
 use Rattle.gmp_seq.specs.declared.call.Call.{Call}
-use Rattle.gmp_seq.specs.declared.call.Call.TheVariants as call
 use Rattle.gmp_seq.specs.declared.call.Entry.{Entry}
 use Rattle.gmp_seq.specs.declared.call.Limits.{Limits}
 use Rattle.gmp_seq.specs.Run.{IsStep}
@@ -21,7 +19,8 @@ use Rattle.gmp_driver.specs.Own.{with_found}
 use Rattle.gmp_driver.specs.Registers.{nothing}
 use Rattle.gmp_driver.specs.Table.{after, first_aside, next_act}
 use Rattle.gmp_acts.specs.Acts.{given_back}
-use Rattle.gmp_acts.specs.Hands.{PlainHand, PlainMachine, hand_after, hand_unmade}
+use Rattle.gmp_acts.specs.Hands.{PlainHand, PlainMachine, hand_after}
+use Rattle.gmp_said.specs.Standing.{hand_refused}
 
 -- Acts that make no entry
 
@@ -41,11 +40,6 @@ pub record IsTold (x y : PlainMachine) : Type 0 where
   pub comes : MayCome (next_act x) what
   pub holds : HoldsThen what x.hand hand
   pub machine : y ≡ after (record x { hand = hand }) what
-
--- what it holds once its call was refused: where memory was, the goroutine of a make is to be told so
-abbrev pub hand_refused : Call → Refusal → PlainHand → PlainHand
-hand_refused (call.Make capacity) OutOfMemory hand = hand_unmade hand
-hand_refused asked why hand = hand
 
 -- It was told that the call which it names was refused, for any reason.
 pub record IsRefused (x y : PlainMachine) : Type 0 where

@@ -1,4 +1,4 @@
-//! What the thread of a machine carries (`Machine`), and what bodies it may run (`Runs`).
+//! What the thread of a machine carries (`Machine`).
 //! Both waits of a thief are here, and both are short: they hold no lock, and end by themselves after so many looks.
 ghost use Rattle.std.specs.Prelude.{◌≡◌, ◌≤◌, ◌∷◌, ◌++◌, [], Some, true, is_some};
 ghost use Rattle.gmp_base.specs.declared.pass.Pass.{Pass};
@@ -6,6 +6,7 @@ ghost use Rattle.gmp_driver.specs.Table.{next_act};
 ghost use Rattle.gmp_worker.specs.AtQueue.{IsQueueAct};
 ghost use Rattle.gmp_worker.specs.Local.{IsOfBodyOrClock};
 ghost use Rattle.gmp_acts.specs.Hands.{plain_machine};
+ghost use Rattle.gmp_said.specs.Standing.{HandSaid};
 ghost use Rattle.gmp_run.specs.Bodies.{HandLed};
 ghost use Rattle.gmp_run.specs.Counts.{calls_in};
 ghost use Rattle.gmp_run.specs.Trails.{GoesAlone, first_machine};
@@ -20,7 +21,7 @@ use gmp_base::{MNo, PNo, Pass};
 use gmp_driver::{Act, Driver, Frequent};
 use gmp_queue::{Owner, Thief};
 use gmp_stub::{Board, Stub};
-use gmp_worker::{Boxed, PassLog, local_turn, queue_turn};
+use gmp_worker::{PassLog, Runs, local_turn, queue_turn};
 use rand_pcg::Lcg64Xsh32;
 use std::hint::spin_loop;
 use std::sync::ledger::Share;
@@ -38,7 +39,8 @@ const MOST_RESTS: u32 = 3;
 /// How long a hunter rests between two looks, in nanoseconds.
 const REST: u64 = 20_000;
 
-/// A machine's driver with its pass, beside the driver as it last left the lock, from which its own acts led it and the bodies in its hand;
+/// A machine's driver with its pass, beside the driver as it last left the lock, from which its own acts led it and the bodies in its hand, each
+/// by what it was told and asked;
 /// its thieves of all queues, its generator and its parker, beside its share of the calls.
 pub(crate) struct Machine<T: Runs, L: RunLedger> {
     /// Which machine it is, which its pass says too.
@@ -64,6 +66,7 @@ pub(crate) struct Machine<T: Runs, L: RunLedger> {
     pub ghost left: { driver.pass ≡ stub.value.pass },
     pub ghost alone: { ∥ GoesAlone (plain_machine stub.value) (plain_machine driver) ∥₁ },
     pub ghost led: { ∥ HandLed T.resumes T.blocks stub.value.hand driver.hand ∥₁ },
+    pub ghost said: { ∥ HandSaid T.resumes T.blocks stub.value.place stub.value.hand driver.place driver.hand ∥₁ },
 }
 
 impl<T: Runs, L: RunLedger> Machine<T, L> {
@@ -204,53 +207,12 @@ impl<T: Runs, L: RunLedger> Machine<T, L> {
     }
 }
 
-/// A body that machines in threads run. The threads' code has it as a parameter, and no box: that such threads may be started the check
-/// finds by itself.
-pub(crate) trait Runs: Drop {
-    ghost use Rattle.std.specs.Prelude.{◌≡◌, ℕ, IsSome, is_some};
-    ghost use Rattle.gmp_base.specs.declared.ask.Ask.{Ask};
-    ghost use Rattle.gmp_base.specs.declared.ask.Woke.{Woke};
-    ghost use Rattle.gmp_acts.specs.Hands.{plain_machine};
-    ghost use Rattle.gmp_driver.specs.Table.{next_act};
-    ghost use Rattle.gmp_run.specs.Bodies.{HandLed};
-    ghost use Rattle.gmp_run.specs.Trails.{GoesOn};
-    ghost use Rattle.gmp_worker.specs.Local.{IsOfBodyOrClock};
-
-    /// From the body before, with this answer, to this ask and the body after.
-    ghost resumes: { Self → Woke → Ask → Self → Type 0 };
-
-    /// From the body before, by its blocking call, to this number and the body after.
-    ghost blocks: { Self → ℕ → Self → Type 0 };
-
-    /// Makes the act on a body or the clock that the driver names next. The moment is the clock's reading.
-    fn local_turn(driver: &mut Driver<Self, Owner>, moment: u64)
-        requires act { IsOfBodyOrClock (next_act driver.old) }
-        requires pass { IsSome driver.old.pass }
-        ensures pass { driver.new.pass ≡ driver.old.pass }
-        ensures run { driver.new.run ≡ driver.old.run }
-        ensures fair { is_some driver.new.aside ≡ is_some driver.old.aside }
-        ensures goes { GoesOn (plain_machine driver.old) (plain_machine driver.new) }
-        ensures led { HandLed resumes blocks driver.old.hand driver.new.hand };
-}
-
-impl Runs for Boxed {
-    ghost use Rattle.std.specs.Prelude.{◌≡◌};
-
-    ghost resumes = { λ b woke ask c. (left : _) × (c ≡ record b { value = left }) × (Body-box b).resumed b.value woke ask left };
-
-    ghost blocks = { λ b number c. (left : _) × (c ≡ record b { value = left }) × (Body-box b).blocked b.value number left };
-
-    fn local_turn(driver: &mut Driver<Self, Owner>, moment: u64) {
-        local_turn(driver, moment);
-    }
-}
-
 impl<T: Runs, L: RunLedger> Machine<T, L> {
     /// Makes the act on a body or the clock that the driver names next. The moment is the clock's reading.
     pub fn local_turn(&mut self, moment: u64)
         requires { IsOfBodyOrClock (next_act self.old.driver) }
     {
         let Machine { driver, .. } = self;
-        T::local_turn(driver, moment);
+        local_turn(driver, moment);
     }
 }

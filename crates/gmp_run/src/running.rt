@@ -6,13 +6,14 @@ ghost use Rattle.gmp_run.specs.Counts.{IsCountOf, all_calls};
 ghost use Rattle.gmp_seq.specs.Fits.{AreLimits};
 ghost use Rattle.gmp_book.specs.Book.{opening_passes};
 ghost use Rattle.gmp_turn.specs.Whole.{IsWholeRun};
+ghost use Rattle.gmp_said.specs.Said.{AreSaid};
 ghost use Rattle.gmp_run.specs.Boards.{AreCounted, AreFirst};
 ghost use Rattle.gmp_run.specs.Bodies.{AllLedFrom};
-ghost use Rattle.gmp_run.specs.Reports.{AreLogs, IsPiecesReport, IsPiecesReportOf, IsRunReport, IsRunReportOf, WhyUnrun};
+ghost use Rattle.gmp_run.specs.Reports.{AreLogs, IsPiecesReport, IsPiecesReportOf, IsRunReport, IsRunReportOf, SaysPieces, WhyUnrun};
 
 use crate::desk::{Bench, Desk, DeskLedger, RunLedger};
 use crate::ending::{Report, Unrun, finish, hang};
-use crate::machine::{Machine, Runs};
+use crate::machine::Machine;
 use crate::outside::{Clock, Gate, Sink, Whole};
 use crate::room::Room;
 use crate::shared::Shared;
@@ -25,7 +26,7 @@ use gmp_driver::Driver;
 use gmp_queue::{Owner, Thief};
 use gmp_seq::Limits;
 use gmp_stub::Board;
-use gmp_worker::{Boxed, PassLog};
+use gmp_worker::{Boxed, PassLog, Runs};
 use rand_core::SeedableRng;
 use rand_pcg::Lcg64Xsh32;
 use std::alloc::Global;
@@ -57,6 +58,7 @@ pub fn run<R: Threads + Wait + Sync, C: Clock + Sync, G: Gate + Sync>(
     ensures report { IfOk result (IsRunReport limits capacities.now (length bodies.items) []) }
     ensures of { IfOk result (IsRunReportOf run false limits capacities.now (length bodies.items) []) }
     ensures bodies { IfOk result (λ r. AllLedFrom (λ b woke ask c. (left : _) × (c ≡ record b { value = left }) × resumed b woke ask left) (λ b number c. (left : _) × (c ≡ record b { value = left }) × blocked b number left) bodies.items r.bodies.items) }
+    ensures says { IfOk result (λ r. AreSaid (λ b woke ask c. (left : _) × (c ≡ record b { value = left }) × resumed b woke ask left) (λ b number c. (left : _) × (c ≡ record b { value = left }) × blocked b number left) limits capacities.now bodies.items r.history.list r.bodies.items) }
     ensures ended { IfOk result (λ r. IsSome r.outcome) }
     ensures whole { OnOk result (limits.room ≡ limits.entries) }
     ensures why { IfErr result (λ u. WhyUnrun (IsWholeRun limits (length bodies.items) capacities.now) u.why) }
@@ -67,22 +69,23 @@ pub fn run<R: Threads + Wait + Sync, C: Clock + Sync, G: Gate + Sync>(
     )
 }
 
-/// Runs the bodies as `run` does, by machines that are all fair, or all not.
-pub fn run_fair<R: Threads + Wait + Sync, C: Clock + Sync, G: Gate + Sync>(
+/// Runs the bodies, in boxes or of one type and in none (`Own`), as `run` does, by machines that are all fair, or all not.
+pub fn run_fair<T: Runs + Send, R: Threads + Wait + Sync, C: Clock + Sync, G: Gate + Sync>(
     rt: &R,
     alloc: Global,
     run: u64,
     limits: Limits,
     capacities: &[u32],
-    bodies: Vec<Boxed>,
+    bodies: Vec<T>,
     clock: &C,
     gate: &G,
     random: u64,
     is_fair: bool,
-) -> Result<Report<Boxed>, Unrun<Boxed>>
+) -> Result<Report<T>, Unrun<T>>
     ensures report { IfOk result (IsRunReport limits capacities.now (length bodies.items) []) }
     ensures of { IfOk result (IsRunReportOf run is_fair limits capacities.now (length bodies.items) []) }
-    ensures bodies { IfOk result (λ r. AllLedFrom (λ b woke ask c. (left : _) × (c ≡ record b { value = left }) × resumed b woke ask left) (λ b number c. (left : _) × (c ≡ record b { value = left }) × blocked b number left) bodies.items r.bodies.items) }
+    ensures bodies { IfOk result (λ r. AllLedFrom T.resumes T.blocks bodies.items r.bodies.items) }
+    ensures says { IfOk result (λ r. AreSaid T.resumes T.blocks limits capacities.now bodies.items r.history.list r.bodies.items) }
     ensures ended { IfOk result (λ r. IsSome r.outcome) }
     ensures whole { OnOk result (limits.room ≡ limits.entries) }
     ensures why { IfErr result (λ u. WhyUnrun (IsWholeRun limits (length bodies.items) capacities.now) u.why) }
@@ -119,6 +122,7 @@ pub fn run_into<R: Threads + Wait + Sync, C: Clock + Sync, G: Gate + Sync, S: Si
     ensures report { IfOk result.0 (λ r. IsPiecesReport S.takes S.refuses limits capacities.now (length bodies.items) sink r result.1) }
     ensures of { IfOk result.0 (λ r. IsPiecesReportOf run false S.takes S.refuses limits capacities.now (length bodies.items) sink r result.1) }
     ensures bodies { IfOk result.0 (λ r. AllLedFrom (λ b woke ask c. (left : _) × (c ≡ record b { value = left }) × resumed b woke ask left) (λ b number c. (left : _) × (c ≡ record b { value = left }) × blocked b number left) bodies.items r.bodies.items) }
+    ensures says { IfOk result.0 (λ r. SaysPieces (λ b woke ask c. (left : _) × (c ≡ record b { value = left }) × resumed b woke ask left) (λ b number c. (left : _) × (c ≡ record b { value = left }) × blocked b number left) S.takes S.refuses limits capacities.now bodies.items sink r result.1) }
     ensures why { IfErr result.0 (λ u. WhyUnrun (AreLimits limits (length bodies.items) capacities.now) u.why) }
     ensures back { IfErr result.0 (λ u. u.bodies.items ≡ bodies.items) }
     ensures unused { OnErr result.0 (result.1 ≡ sink) }
@@ -128,28 +132,35 @@ pub fn run_into<R: Threads + Wait + Sync, C: Clock + Sync, G: Gate + Sync, S: Si
     )
 }
 
-/// Runs the bodies as `run_into` does, by machines that are all fair, or all not.
-pub fn run_into_fair<R: Threads + Wait + Sync, C: Clock + Sync, G: Gate + Sync, S: Sink + Send>(
+/// Runs the bodies, in boxes or of one type and in none (`Own`), as `run_into` does, by machines that are all fair, or all not.
+pub fn run_into_fair<
+    T: Runs + Send,
+    R: Threads + Wait + Sync,
+    C: Clock + Sync,
+    G: Gate + Sync,
+    S: Sink + Send,
+>(
     rt: &R,
     alloc: Global,
     run: u64,
     limits: Limits,
     capacities: &[u32],
-    bodies: Vec<Boxed>,
+    bodies: Vec<T>,
     clock: &C,
     gate: &G,
     random: u64,
     sink: S,
     is_fair: bool,
-) -> (Result<Report<Boxed>, Unrun<Boxed>>, S)
+) -> (Result<Report<T>, Unrun<T>>, S)
     ensures report { IfOk result.0 (λ r. IsPiecesReport S.takes S.refuses limits capacities.now (length bodies.items) sink r result.1) }
     ensures of { IfOk result.0 (λ r. IsPiecesReportOf run is_fair S.takes S.refuses limits capacities.now (length bodies.items) sink r result.1) }
-    ensures bodies { IfOk result.0 (λ r. AllLedFrom (λ b woke ask c. (left : _) × (c ≡ record b { value = left }) × resumed b woke ask left) (λ b number c. (left : _) × (c ≡ record b { value = left }) × blocked b number left) bodies.items r.bodies.items) }
+    ensures bodies { IfOk result.0 (λ r. AllLedFrom T.resumes T.blocks bodies.items r.bodies.items) }
+    ensures says { IfOk result.0 (λ r. SaysPieces T.resumes T.blocks S.takes S.refuses limits capacities.now bodies.items sink r result.1) }
     ensures why { IfErr result.0 (λ u. WhyUnrun (AreLimits limits (length bodies.items) capacities.now) u.why) }
     ensures back { IfErr result.0 (λ u. u.bodies.items ≡ bodies.items) }
     ensures unused { OnErr result.0 (result.1 ≡ sink) }
 {
-    run_as::<Boxed, Brand, R, C, G, S>(
+    run_as::<T, Brand, R, C, G, S>(
         rt,
         alloc,
         Blank::new(u64::from(limits.machines)),
@@ -200,6 +211,7 @@ fn run_as<
     ensures report { IfOk result.0 (λ r. IsPiecesReport S.takes S.refuses limits capacities.now (length bodies.items) sink r result.1) }
     ensures of { IfOk result.0 (λ r. IsPiecesReportOf run is_fair S.takes S.refuses limits capacities.now (length bodies.items) sink r result.1) }
     ensures bodies { IfOk result.0 (λ r. AllLedFrom T.resumes T.blocks bodies.items r.bodies.items) }
+    ensures says { IfOk result.0 (λ r. SaysPieces T.resumes T.blocks S.takes S.refuses limits capacities.now bodies.items sink r result.1) }
     ensures why { IfErr result.0 (λ u. WhyUnrun (AreLimits limits (length bodies.items) capacities.now) u.why) }
     ensures back { IfErr result.0 (λ u. u.bodies.items ≡ bodies.items) }
     ensures unused { OnErr result.0 (result.1 ≡ sink) }

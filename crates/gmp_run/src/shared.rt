@@ -2,9 +2,9 @@
 //! Not by the mutex alone: a thread that misses it sleeps and is handed it some 50 µs later, while an act takes less than one.
 
 use crate::desk::{Bench, DeskLedger};
-use crate::machine::Runs;
 use crate::outside::Sink;
 use crossbeam_utils::CachePadded;
+use gmp_worker::Runs;
 use std::hint::spin_loop;
 use std::sync::atomic::{AtomicU8, Ordering};
 use std::sync::{Mutex, MutexGuard, Wait};

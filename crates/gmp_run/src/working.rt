@@ -9,7 +9,7 @@ ghost use Rattle.gmp_turn.specs.Turns.{HasMemory};
 ghost use Rattle.gmp_worker.specs.Turn.{IsAtBook};
 
 use crate::desk::{DeskLedger, RunLedger};
-use crate::machine::{Machine, Runs};
+use crate::machine::Machine;
 use crate::outside::{Clock, Gate, Sink};
 use crate::set::Set;
 use crate::shared::Shared;
@@ -19,6 +19,7 @@ use gmp_base::MNo;
 use gmp_driver::{Act, Frequent};
 use gmp_journal::memory_for;
 use gmp_seq::Call;
+use gmp_worker::Runs;
 use std::alloc::Global;
 use std::sync::{Mutex, Wait};
 

@@ -18,6 +18,7 @@ use Rattle.gmp_parts.specs.Parts.Parts.{NoPart, Then}
 use Rattle.gmp_parts.specs.Writing.{HasWritten, Writing}
 use Rattle.gmp_pieces.proofs.Taken.{refuses, run_written, takes}
 use Rattle.gmp_pieces.specs.Pieces.{pieces_of}
+use Rattle.gmp_script.specs.Script.{Commands}
 use Rattle.gmp_run.specs.declared.ending.Report.{Report}
 use Rattle.gmp_run.specs.declared.ending.Unrun.{Unrun}
 use Rattle.gmp_run.specs.Desks.{IsCut, joined, with_left}
@@ -27,7 +28,7 @@ use Rattle.gmp_words.specs.declared.said.Said.TheVariants.{BadLimits, Nothing}
 use Rattle.gmp_words.specs.Runs.{IsTraceOf, status_of}
 use Rattle.gmp_run_cli.proofs.Written.{not_nothing, not_within, two_ways}
 use Rattle.gmp_run_cli.specs.Segments.{TellsParts, WritesParts, is_of_end_in_parts, opened}
-use Rattle.gmp_run_cli.specs.Told.{said_of_unrun}
+use Rattle.gmp_run_cli.specs.Told.{IsOfScriptButMakes, said_of_unrun}
 
 -- three lines in a row
 abbrev lines_of : End → ℕ → ℕ → List ℕ
@@ -56,10 +57,11 @@ module _ {W : Type 0} (contents : W → Option (List ℕ)) (limits : Limits) (bo
     begun : start_of (whole parts last) ≡ start_of (opened capacities parts last)
     begun = rw (has.begins.2, has.begins.0, has.begins.1) refl
 
-  pub wrote_parts : (now : Writing W) (parts : Parts) (end : End) → HasWritten contents at_first now parts → IsCut limits (pieces_of parts) → end ≡ end_of now.state.outcome → end ≢ Running
-      → (old new : Option (List ℕ)) → Appends old new (lines_of end now.entries now.parts) → WritesParts limits capacities bodies (status_of end) (contents outlet) (contents now.out) old new
-  wrote_parts now NoPart end has sized ended over old new told = absurd (over (ended ∙ ap (λ s. end_of s.outcome) has.stops))
-  wrote_parts now (Then parts last) end has sized ended over old new told =
+  pub wrote_parts : (script : List Commands) → bodies ≡ length script → (now : Writing W) (parts : Parts) (end : End) → HasWritten contents at_first now parts → IsCut limits (pieces_of parts)
+      → IsOfScriptButMakes limits capacities script (entries_of parts) → end ≡ end_of now.state.outcome → end ≢ Running
+      → (old new : Option (List ℕ)) → Appends old new (lines_of end now.entries now.parts) → WritesParts limits capacities script (status_of end) (contents outlet) (contents now.out) old new
+  wrote_parts script all now NoPart end has sized by_script ended over old new told = absurd (over (ended ∙ ap (λ s. end_of s.outcome) has.stops))
+  wrote_parts script all now (Then parts last) end has sized by_script ended over old new told =
       let is : last.end ≡ end = has.stops.3 ∙ sym ended in
       let entries : now.entries ≡ length (entries_of (Then parts last)) = omega (arith, has.entries) in
       let number : now.parts ≡ count (Then parts last) = omega (arith, has.number) in
@@ -70,7 +72,8 @@ module _ {W : Type 0} (contents : W → Option (List ℕ)) (limits : Limits) (bo
         sized = sized;
         begun = begun now parts last has;
         legal = is_trace now parts last has;
-        stock = has.begins.1;
+        stock = has.begins.1 ∙ all;
+        said = by_script;
         over = rw is over;
         sent = has.appended;
         written =
@@ -84,23 +87,23 @@ module _ {W : Type 0} (contents : W → Option (List ℕ)) (limits : Limits) (bo
 
 module _ {T W S : Type 0} (contents : W → Option (List ℕ)) (of : S → Writing W) (limits : Limits) (bodies : ℕ) (capacities : List ℕ) (outlet : W)
     (within : AreLimits limits bodies capacities) (began sink : S) (first : of began ≡ at_first contents limits bodies capacities outlet within) where
-  pub wrote_run : (said : Said) (status boxes : ℕ) (after : Writing W) (old new : Option (List ℕ)) (ran : Result (Report T) (Unrun T)) → boxes ≡ bodies
-      → IfOk ran (λ (r : Report T). IsPiecesReport (takes contents of) (refuses contents of) limits capacities boxes began r sink)
+  pub wrote_run : (script : List Commands) → bodies ≡ length script → (said : Said) (status boxes : ℕ) (after : Writing W) (old new : Option (List ℕ)) (ran : Result (Report T) (Unrun T)) → boxes ≡ bodies
+      → IfOk ran (λ (r : Report T). (p : IsPiecesReport (takes contents of) (refuses contents of) limits capacities boxes began r sink) × IsOfScriptButMakes limits capacities script (joined p.pieces ++ r.history.list))
       → IfErr ran (λ (u : Unrun T). WhyUnrun (AreLimits limits boxes capacities) u.why) → IfErr ran (λ (u : Unrun T). said ≡ said_of_unrun u.why)
       → IfOk ran (λ (r : Report T). said ≡ Nothing → (end : End) × TellsParts contents (of sink) r after end old new × status ≡ status_of end) → said ≡ Nothing
-      → WritesParts limits capacities bodies status (contents outlet) (contents after.out) old new
-  wrote_run said status boxes after old new (Ok r) counted report why unrun told nothing =
+      → WritesParts limits capacities script status (contents outlet) (contents after.out) old new
+  wrote_run script all said status boxes after old new (Ok r) counted (report, by_script) why unrun told nothing =
       by_end (told nothing)
       (run_written contents of began report.behind sink after report.pieces r.history.list (is_none r.outcome) report.taken report.left_so (told nothing).1.left) where
         by_end : (end : End) × TellsParts contents (of sink) r after end old new × status ≡ status_of end
             → (parts : Parts) × (pieces_of parts ≡ with_left report.pieces r.history.list) × (entries_of parts ≡ joined report.pieces ++ r.history.list) × HasWritten contents (of began) after parts
-            → WritesParts limits capacities bodies status (contents outlet) (contents after.out) old new
+            → WritesParts limits capacities script status (contents outlet) (contents after.out) old new
         by_end (end, tells, is) (parts, are, entries, has) =
             let has_first : HasWritten contents (at_first contents limits bodies capacities outlet within) after parts = subst (λ (w : Writing W). HasWritten contents w after parts) first has in
             let sized : IsCut limits (pieces_of parts) = record { full = report.pieces; left = r.history.list; are = are; sized = report.sized; few = report.few } in
-            subst (λ (n : ℕ). WritesParts limits capacities bodies n (contents outlet) (contents after.out) old new) (sym is)
-            (wrote_parts contents limits bodies capacities outlet within after parts end has_first sized tells.ended tells.over old new tells.told)
-  wrote_run said status boxes after old new (Err u) counted report why unrun told nothing =
+            subst (λ (n : ℕ). WritesParts limits capacities script n (contents outlet) (contents after.out) old new) (sym is)
+            (wrote_parts contents limits bodies capacities outlet within script all after parts end has_first sized (subst (IsOfScriptButMakes limits capacities script) (sym entries) by_script) tells.ended tells.over old new tells.told)
+  wrote_run script all said status boxes after old new (Err u) counted report why unrun told nothing =
       absurd (not_nothing u.why (two_ways (AreLimits limits boxes capacities) u.why why) (sym unrun ∙ nothing))
 
 pub begun_within : {T : Type 0} (limits : Limits) (capacities : List ℕ) (boxes bodies : ℕ) (said : Said) (ran : Result (Report T) (Unrun T)) → boxes ≡ bodies

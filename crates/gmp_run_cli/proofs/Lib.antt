@@ -2,3 +2,4 @@ pub mod Written
 pub mod InParts
 pub mod OneRun
 pub mod Held
+pub mod Owned

@@ -24,7 +24,7 @@ use Rattle.gmp_words.specs.declared.said.Said.{Said}
 use Rattle.gmp_words.specs.declared.said.Said.TheVariants.{BadLimits, Mismatch, Nothing, OutOfMemory, OutputFailed}
 use Rattle.gmp_words.specs.Runs.{IsTraceOf, limits_of, status_of}
 use Rattle.gmp_run_cli.specs.Runs.{WritesTraceOrSummary}
-use Rattle.gmp_run_cli.specs.Told.{IsLeast, IsOfScript, TellsEnd, said_of_unrun, trace_of}
+use Rattle.gmp_run_cli.specs.Told.{IsLeast, IsOfScript, IsOfScriptButMakes, TellsEnd, said_of_unrun, trace_of}
 
 -- a run that has an outcome has ended
 pub over : (o : Option Outcome) → IsSome o → end_of o ≢ Running
@@ -63,12 +63,13 @@ module _ {T : Type 0} (s : Settings) (capacities : List ℕ) (script : List Comm
   unfolding is_trace
   has_text = legal_text (trace_of capacities r) capacities report.last refl is_trace.within (kept_whole r.limits s report.opened) is_trace.legal report.fits
 
-  writes : IsSome r.outcome → (s.scripted ≡ true → IsOfScript r.limits capacities script r.history.list) → (status : ℕ) (old new : Option (List ℕ)) → TellsEnd s.trace capacities r status old new
+  writes : IsSome r.outcome → IsOfScriptButMakes (limits_of s) capacities script r.history.list → (s.scripted ≡ true → IsOfScript r.limits capacities script r.history.list) → (status : ℕ) (old new : Option (List ℕ)) → TellsEnd s.trace capacities r status old new
       → WritesTraceOrSummary s capacities script status old new
-  writes some of_script status old new t = record {
+  writes some said of_script status old new t = record {
     trace = trace_of capacities r;
     legal = is_trace;
     stock = report.stock;
+    said = said;
     scripted = λ on. subst (λ (l : Limits). IsOfScript l capacities script r.history.list) report.opened (of_script on);
     over = over r.outcome some;
     has_text = has_text;
@@ -99,12 +100,13 @@ tried_last s capacities boxes bodies said (Err u) counted report why unrun faile
 pub wrote : {T : Type 0} (s : Settings) (capacities : List ℕ) (boxes : ℕ) (script : List Commands) (said : Said) (ran : Result (Report T) (Unrun T)) → boxes ≡ length script
     → IfOk ran (IsRunReport (limits_of s) capacities boxes []) → IfErr ran (λ (u : Unrun T). WhyUnrun (IsWholeRun (limits_of s) boxes capacities) u.why)
     → IfErr ran (λ (u : Unrun T). said ≡ said_of_unrun u.why) → IfOk ran (λ (r : Report T). IsSome r.outcome)
+    → IfOk ran (λ (r : Report T). IsOfScriptButMakes (limits_of s) capacities script r.history.list)
     → (s.scripted ≡ true → IfOk ran (λ (r : Report T). said ≡ Nothing → IsOfScript r.limits capacities script r.history.list))
     → (status : ℕ) (old new : Option (List ℕ)) → IfOk ran (λ (r : Report T). said ≡ Nothing → TellsEnd s.trace capacities r status old new) → said ≡ Nothing
     → WritesTraceOrSummary s capacities script status old new
-wrote s capacities boxes script said (Ok r) counted report why unrun some of_script status old new printed nothing =
-    writes s capacities script r (subst (λ (n : ℕ). IsRunReport (limits_of s) capacities n [] r) counted report) some (λ on. of_script on nothing) status old new (printed nothing)
-wrote s capacities boxes script said (Err u) counted report why unrun some of_script status old new printed nothing =
+wrote s capacities boxes script said (Ok r) counted report why unrun some by_script of_script status old new printed nothing =
+    writes s capacities script r (subst (λ (n : ℕ). IsRunReport (limits_of s) capacities n [] r) counted report) some by_script (λ on. of_script on nothing) status old new (printed nothing)
+wrote s capacities boxes script said (Err u) counted report why unrun some by_script of_script status old new printed nothing =
     absurd (not_nothing u.why (two_ways (IsWholeRun (limits_of s) boxes capacities) u.why why) (sym unrun ∙ nothing))
 
 pub out : {T : Type 0} (s : Settings) (capacities : List ℕ) (boxes bodies : ℕ) (said : Said) (ran : Result (Report T) (Unrun T)) → boxes ≡ bodies

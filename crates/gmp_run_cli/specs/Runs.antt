@@ -10,14 +10,15 @@ use Rattle.gmp_words.specs.declared.said.Said.{Said}
 use Rattle.gmp_words.specs.declared.said.Said.TheVariants as said
 use Rattle.gmp_words.specs.Said.{is_of_step}
 use Rattle.gmp_words.specs.Runs.{IsTraceOf, limits_of, status_of}
-use Rattle.gmp_run_cli.specs.Told.{IsOfScript, IsPrinted}
+use Rattle.gmp_run_cli.specs.Told.{IsOfScript, IsOfScriptButMakes, IsPrinted}
 
--- What was written is the text or the summary of the trace of a legal run by as many bodies as the script has, which ended, and the status
--- tells how. Where it is asked for, the run is one of the script's bodies.
+-- What was written is the text or the summary of the trace of a legal run by the script's bodies, which ended, and the status tells how. Where
+-- the audit is asked for (`--scripted`), it is one that passes over no make.
 pub record WritesTraceOrSummary (s : Settings) (capacities : List ℕ) (script : List Commands) (status : ℕ) (old new : Option (List ℕ)) : Type 0 where
   pub trace : Content
   pub legal : IsTraceOf (limits_of s) capacities trace
   pub stock : trace.bodies ≡ length script
+  pub said : IsOfScriptButMakes (limits_of s) capacities script trace.entries
   pub scripted : s.scripted ≡ true → IsOfScript (limits_of s) capacities script trace.entries
   pub over : trace.end ≢ Running
   pub has_text : HasText trace

@@ -23,21 +23,23 @@ use Rattle.gmp_words.specs.declared.said.Said.{Said}
 use Rattle.gmp_words.specs.declared.said.Said.TheVariants as said
 use Rattle.gmp_words.specs.Said.{is_of_step}
 use Rattle.gmp_words.specs.Runs.{IsTraceOf, status_of}
+use Rattle.gmp_run_cli.specs.Told.{IsOfScriptButMakes}
 
 -- the parts as one trace, of a run that was opened with these capacities
 abbrev pub opened : List ℕ → Parts → Content → Content
 opened capacities parts last = record (whole parts last) { begins = AtOpening capacities }
 
--- What went out are the texts of right traces in order, the parts of a legal run by so many bodies, which ended, cut where there was no room for
+-- What went out are the texts of right traces in order, the parts of a legal run by the script's bodies, which ended, cut where there was no room for
 -- another entry. What was written are the lines by which `join` tells them, and the status tells the end.
-pub record WritesParts (limits : Limits) (capacities : List ℕ) (bodies status : ℕ) (before after old new : Option (List ℕ)) : Type 0 where
+pub record WritesParts (limits : Limits) (capacities : List ℕ) (script : List Commands) (status : ℕ) (before after old new : Option (List ℕ)) : Type 0 where
   pub parts : Parts
   pub last : Content
   pub in_order : AreInOrder (Then parts last)
   pub sized : IsCut limits (pieces_of (Then parts last))
   pub begun : start_of (whole parts last) ≡ start_of (opened capacities parts last)
   pub legal : IsTraceOf limits capacities (opened capacities parts last)
-  pub stock : (whole parts last).bodies ≡ bodies
+  pub stock : (whole parts last).bodies ≡ length script
+  pub said : IsOfScriptButMakes limits capacities script (opened capacities parts last).entries
   pub over : last.end ≢ Running
   pub sent : Appends before after (texts (Then parts last))
   pub written : Appends old new (joined_text parts last)
@@ -49,7 +51,7 @@ pub record WritesSegments (limits : Limits) (input : Option (List ℕ)) (status 
   pub readings : List ℕ
   pub bodies : List Commands
   pub script : IfSome input (λ all. IsScript (lines all) capacities readings bodies)
-  pub writes : WritesParts limits capacities (length bodies) status before after old new
+  pub writes : WritesParts limits capacities bodies status before after old new
 
 -- What the run left was written as the last part, the run is over, there are as many entries as calls, and what was written tells how long it
 -- is.

@@ -6,6 +6,7 @@ use Rattle.gmp_seq.specs.Fits.{AreLimits}
 use Rattle.gmp_seq.specs.State.{State}
 use Rattle.gmp_scene.specs.Reached.{IsRunOf}
 use Rattle.gmp_script.specs.Script.{Commands}
+use Rattle.gmp_step_laws.specs.Refused.{IsRunButMakes}
 use Rattle.std.specs.Io.KnownBytes.{Appends}
 use Rattle.gmp_base.specs.declared.number.MNo.{MNo}
 use Rattle.gmp_base.specs.declared.refusal.Refusal.{Refusal}
@@ -46,6 +47,10 @@ pub record IsOfScript (limits : Limits) (capacities : List ℕ) (script : List C
   pub last : State
   pub after : List Commands
   pub run : IsRunOf limits capacities script entries last after
+
+-- The entries are a legal run by these bodies from the opening, but that a body passes over each make that memory refused.
+abbrev pub IsOfScriptButMakes : Limits → List ℕ → List Commands → List Entry → Type 0
+IsOfScriptButMakes limits capacities script entries = ∥ ((last : State) × (after : List Commands) × IsRunButMakes limits capacities script entries last after) ∥₁
 
 -- every machine agrees, and the trace or the summary of the run, which ended so, was written
 pub record Prints {T : Type 0} (shows_trace : Bool) (capacities : List ℕ) (r : Report T) (end : End) (old new : Option (List ℕ)) : Type 0 where

@@ -1,4 +1,4 @@
-//! One run of a script in threads. The script's readings of the clock are passed over: a thread's clock is the machine's.
+//! One run of a script in threads. The script's readings of the clock are passed over: a thread's clock is the system's.
 
 ghost use Rattle.std.specs.Prelude.{◌≡◌, ◌≢◌, ◌<◌, ◌≤◌, ℕ, true, false, All, None, Some, if◌then◌else◌, length, option_map, IfOk, IfSome};
 ghost use Rattle.gmp_base.specs.declared.number.MNo.{MNo};
@@ -10,7 +10,7 @@ ghost use Rattle.gmp_run_cli.specs.Runs.{WritesReport, WritesTraceOrSummary, is_
 ghost use Rattle.gmp_run_cli.specs.Told.{is_of_report};
 ghost use Rattle.gmp_seq.specs.Fits.{AreLimits};
 
-use crate::boxing::boxed;
+use crate::owning::owned;
 use crate::telling::told;
 use gmp_run::{Clock, Open};
 use gmp_script::{Script, ScriptBody};
@@ -83,14 +83,16 @@ fn threaded<H: Threads + Wait + Sync, W: Write, C: Clock + Sync>(
         return Ended::out_of_memory();
     };
     let against = lent(&kept);
-    let boxed = boxed!(alloc, bodies, Ended::out_of_memory());
+    let Ok(owned) = owned(alloc, bodies) else {
+        return Ended::out_of_memory();
+    };
     let ran = gmp_run::run_fair(
         rt,
         alloc,
         RUN,
         settings.limits(),
         &capacities,
-        boxed,
+        owned,
         clock,
         // Nobody is held up: the gate is for tests.
         &Open,
@@ -101,7 +103,8 @@ fn threaded<H: Threads + Wait + Sync, W: Write, C: Clock + Sync>(
 }
 
 /// Reads a script, runs its bodies by machines in threads, audits the run, and writes its trace or its summary, as the settings say.
-/// Where they ask for it, the audit is too that the run is one of the script's: what no run of it has (`gmp explore`), this one hasn't.
+/// The run is one of the script's, so what no run of it has (`gmp explore`), this one hasn't, where memory refused no make. Where the settings
+/// ask for it, the audit shows that as well.
 ///
 /// It ends with what is wrong where something is: the input, the script's first bad line, the limits, the audit, the output, or memory. The
 /// script's readings of the clock are passed over. Where main waits for good among goroutines that go on for good, the run ends once the

@@ -54,7 +54,9 @@ use Rattle.gmp_script.specs.Script.{AsksNext, Commands}
 use Rattle.gmp_scene.specs.Scripted.{Brings, LeadsBodies}
 use Rattle.gmp_step_laws.specs.Refused.{PassesMake, RunsTurns, entries_of}
 use Rattle.gmp_step_laws.specs.Scheduled.{AnswersLast, IsUnmade, LeadsStock, TakesAsk}
-use Rattle.gmp_step_laws.proofs.Places.{IsOfNone, TellsPlace, answered, due_at, left, make_is, no_make, stays, tells_place}
+use Rattle.gmp_said.specs.Standing.{due_at}
+use Rattle.gmp_said.proofs.Places.{IsOfNone, TellsPlace, answered, left, stays, tells_place}
+use Rattle.gmp_step_laws.proofs.Places.{make_is, no_make, own_is}
 use Rattle.gmp_step_laws.proofs.Ties.{IsAhead, IsAsking, IsBringing, NoneAsks, Says, Ties, some_is, ties_asks, ties_calls, ties_quiet}
 use Rattle.gmp_step_laws.proofs.Turns.{enters, entries_join, leads_asked, leads_leave, leads_own, passes}
 
@@ -357,7 +359,7 @@ module _ (limits : Limits) (capacities : List ℕ) (script : List Commands) (P Q
       }
   unmade c x' book' own' sound never (inr (inl (number, at, is))) want =
       absurd (no_make k.book.limits k.book.state (call.Leave number) refl (subst (λ (d : Call). WantsMemory k.book.limits d k.book.state) is want.makes))
-  unmade c x' book' own' sound never (inr (inr (none, own))) want = absurd (no_make k.book.limits k.book.state c own.0 want.makes)
+  unmade c x' book' own' sound never (inr (inr (none, own))) want = absurd (no_make k.book.limits k.book.state c (own_is c own).0 want.makes)
 
   -- whatever a call comes to
   calls : (c : Call) (choice : Choice) (k' : System) → IsSound k' → next_act (machine_at k m) ≡ act.Call c → (Q → IsUnmade k m k' → ⊥) → DoesAct (act.Call c) k m choice k' → Follows limits capacities script Q k' stock

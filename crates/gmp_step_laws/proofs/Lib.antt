@@ -1,4 +1,5 @@
 pub mod Places
+pub mod Said
 pub mod Turns
 pub mod Ties
 pub mod Follows

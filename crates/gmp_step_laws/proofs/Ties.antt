@@ -16,7 +16,7 @@ use Rattle.gmp_acts.specs.Hands.{PlainMachine}
 use Rattle.gmp_acts.specs.System.{called_number, held_number, no_machine}
 use Rattle.gmp_script.specs.Script.{AsksNext, Commands, asked_last}
 use Rattle.gmp_seq.proofs.Manned.{set_at}
-use Rattle.gmp_step_laws.proofs.Places.{due_at}
+use Rattle.gmp_said.specs.Standing.{due_at}
 
 -- the machine is about to make the call that this goroutine, which it has in hand, asked for
 abbrev pub IsAsking : PlainMachine → GNo → Ask → Type 0

@@ -14,7 +14,8 @@ use Rattle.gmp_seq.specs.State.{State}
 use Rattle.gmp_seq.specs.Table.{Table}
 use Rattle.gmp_scene.specs.Scripted.{AsksFor, Brings, LeadsBodies, RunsScript}
 use Rattle.gmp_step_laws.specs.Refused.{PassesMake, RunsTurns, entries_of}
-use Rattle.gmp_step_laws.proofs.Places.{IsOwn, is_leave}
+use Rattle.gmp_said.proofs.Places.{IsOwn}
+use Rattle.gmp_step_laws.proofs.Places.{is_leave, own_is}
 
 module _ (limits : Limits) where
   turns_join : (a b c : State) (x y z : List Commands) (t u : List (Option Entry)) → RunsTurns limits a x t b y → RunsTurns limits b y u c z → RunsTurns limits a x (t ++ u) c z
@@ -52,4 +53,4 @@ pub leads_leave : (m : MNo) (number : ℕ) (t : Table) (x : List Commands) → B
 leads_leave m number t x h = (refl, λ n same. let e : number ≡ n = (let is : call.Leave number ≡ call.Leave n = same in cc) in subst (λ (k : ℕ). Brings m k t x) e h)
 
 pub leads_own : (m : MNo) (c : Call) (t : Table) (x : List Commands) → IsOwn c → LeadsBodies m c t x x
-leads_own m c t x own = rw own.0 (refl, λ n same. absurd (let no : true ≡ false = sym (ap is_leave same) ∙ own.1 in cc))
+leads_own m c t x own = (let is = own_is c own in rw is.0 (refl, λ n same. absurd (let no : true ≡ false = sym (ap is_leave same) ∙ is.1 in cc)))

@@ -27,7 +27,7 @@ use Rattle.gmp_step_laws.specs.Played.{MakesAll}
 use Rattle.gmp_step_laws.specs.Refused.{IsRunButMakes, RunsTurns}
 use Rattle.gmp_step_laws.specs.Scheduled.{ActsBy, IsUnmade, LeadsStock, NoneUnmade}
 use Rattle.gmp_step_laws.proofs.Follows.{Follows, act_follows, kept}
-use Rattle.gmp_step_laws.proofs.Places.{due_at}
+use Rattle.gmp_said.specs.Standing.{due_at}
 use Rattle.gmp_step_laws.proofs.Ties.{ties_opening}
 use Rattle.gmp_step_laws.proofs.Turns.{script_of}
 

@@ -24,5 +24,5 @@ mod trying;
 pub use at_book::turn;
 pub use at_queue::queue_turn;
 pub use auditing::{Mismatch, PassLog, audit};
-pub use bodies::{Boxed, block_boxed, resume_boxed};
+pub use bodies::{Boxed, Own, Runs, block_boxed, resume_boxed};
 pub use locally::local_turn;

@@ -3,14 +3,15 @@ use Rattle.std.proofs.lemmas.List.{length-set}
 use Rattle.gmp_seq.specs.declared.call.Entry.{Entry}
 use Rattle.gmp_driver.specs.Machine.{Machine}
 use Rattle.gmp_acts.specs.Hands.{plain_machine}
-use Rattle.gmp_run.specs.Boards.{AreCounted, AreLed}
+use Rattle.gmp_run.specs.Boards.{AreCounted}
 use Rattle.gmp_run.specs.Bodies.{ArePlaced}
-use Rattle.gmp_run.proofs.Bodies.{same_led}
+use Rattle.gmp_run.specs.Speakers.{AreAccounted}
+use Rattle.gmp_run.proofs.Bodies.{same_led, seen_said}
 use Rattle.gmp_run.proofs.Desks.{unchanged}
 use Rattle.gmp_run.proofs.Leading.{acts}
 use Rattle.gmp_run.proofs.Trails.{rests}
 use Rattle.gmp_run.proofs.Boards.{of_pass, stays}
-use Rattle.gmp_run.proofs.Turning.{all_settled}
+use Rattle.gmp_run.proofs.Turning.{all_settled, all_settled_heard}
 use Rattle.gmp_run.proofs.desk.Desk+T+Owner+L+S.log_of.Goals as goal
 
 pub invariant_of-self : goal.invariant_of-self
@@ -22,15 +23,17 @@ invariant_of-self g c =
     let is_fair = g.L.RunLedger.fair in
     let machines = g.L.Ledger.parts in
     let log = d.book.log in
-    let Led : List (Machine _ _) → List Entry → Type 0 = λ b h. AreLed machines run is_fair log b h in
-    let desk = unchanged run g.L.DeskLedger.first g.S.Sink.takes g.S.Sink.refuses (Led d.board.values) (Led c.set.new.self.values) log log d.tally.total d.tally.total d.sink d.spare c.self.invariant.0 refl
-    (λ h led. subst (λ (b : List (Machine _ _)). Led b h) (sym set.values)
-    (acts machines run is_fair d.board.values x.stub.at x.stub.value x.driver x.driver set.agreed x.alone log h (rests (plain_machine x.driver)) led)) c.self.invariant.0.counted in
-    let board = stays log.state.counts machines d.board.values c.self.invariant.2 x.stub.at x.stub.value x.driver set.agreed x.left x.driver refl in
-    let long = ap (λ (b : List (Machine _ _)). length b) set.values ∙ length-set d.board.values x.stub.at x.driver in
     let resumes = g.T.Runs.resumes in
     let blocks = g.T.Runs.blocks in
     let given = g.L.DeskLedger.given in
+    let Made : List (Machine _ _) → List Entry → Type 0 = λ b h. AreAccounted resumes blocks given machines run is_fair log b d.book.bodies h in
+    let desk = unchanged run g.L.DeskLedger.first g.S.Sink.takes g.S.Sink.refuses (Made d.board.values) (Made c.set.new.self.values) log log d.tally.total d.tally.total d.sink d.spare c.self.invariant.0 refl
+    (λ h made. subst (λ (b : List (Machine _ _)). Made b h) (sym set.values) (
+      acts machines run is_fair d.board.values x.stub.at x.stub.value x.driver x.driver set.agreed x.alone log h (rests (plain_machine x.driver)) made.0,
+      all_settled_heard resumes blocks given d.board.values x.stub.at x.stub.value x.driver set.agreed x.alone x.led x.said machines log d.book.bodies c.self.invariant.4 h made.1,
+    )) c.self.invariant.0.counted in
+    let board = stays log.state.counts machines d.board.values c.self.invariant.2 x.stub.at x.stub.value x.driver set.agreed x.left x.driver refl in
+    let long = ap (λ (b : List (Machine _ _)). length b) set.values ∙ length-set d.board.values x.stub.at x.driver in
     let bodies = all_settled resumes blocks given d.board.values x.stub.at x.stub.value x.driver set.agreed x.alone x.led d.book.bodies c.self.invariant.4 in (
       desk,
       set.name ∙ c.self.invariant.1,
@@ -53,3 +56,6 @@ returns-clause-counted g c =
 -- the board has the machine as it is
 pub invariant_of-machine-clause-led : goal.invariant_of-machine-clause-led
 invariant_of-machine-clause-led g c = same_led g.T.Runs.resumes g.T.Runs.blocks c.set.new.stub.value c.args.machine.driver c.set.ensures.stub_value
+
+pub invariant_of-machine-clause-said : goal.invariant_of-machine-clause-said
+invariant_of-machine-clause-said g c = seen_said g.T.Runs.resumes g.T.Runs.blocks c.set.new.stub.value c.args.machine.driver c.set.ensures.stub_value
