@@ -1,6 +1,6 @@
 -- What a run came to, of whose history each piece was handed out, the last one too.
 use Rattle.std.specs.Prelude.{is_none}
-use Rattle.std.proofs.Common.{◌≡◌, ◌≢◌, ◌<◌, ◌^◌, ℕ, List, [], ◌∷◌, ◌++◌, Option, None, Some, length, ap, refl, sym, subst, ◌∙◌, arith}
+use Rattle.std.proofs.Common.{◌≡◌, ◌≢◌, ◌<◌, ◌^◌, ℕ, List, [], ◌∷◌, ◌++◌, Option, None, Some, Result, Ok, IfOk, length, ap, refl, sym, subst, ◌∙◌, arith}
 use Rattle.gmp_seq.proofs.Counts.{legal_total}
 use Rattle.gmp_seq.proofs.InOrder.{legal_in_order}
 use Rattle.gmp_seq.specs.declared.call.Entry.{Entry}
@@ -9,11 +9,12 @@ use Rattle.gmp_seq.specs.declared.call.Outcome.{Outcome}
 use Rattle.gmp_seq.specs.Run.{IsLegal}
 use Rattle.gmp_run.proofs.Desks.{joined_with_left, some_full, takes_one_more}
 use Rattle.gmp_run.specs.Counts.{all_calls}
+use Rattle.gmp_said.specs.Said.{AreSaid, Blocks, Resumes}
 use Rattle.gmp_run.specs.declared.ending.Report.{Report}
 use Rattle.gmp_run.specs.Desks.{IsLeftSo, TakesAll, joined, with_left}
-use Rattle.gmp_run.specs.Reports.{IsPiecesReport}
+use Rattle.gmp_run.specs.Reports.{IsPiecesReport, IsRunReport, SaysPieces}
 use Rattle.gmp_host.specs.declared.ending.Ended.{Ended}
-use Rattle.gmp_host.specs.Ends.{IsOfPieces, StopsPieces, TakesLeft}
+use Rattle.gmp_host.specs.Ends.{IsOfPieces, IsSaidInPieces, IsSaidRun, StopsPieces, TakesLeft}
 
 module _ {T S : Type 0} (takes refuses : S → List Entry → S → Type 0) (limits : Limits) (capacities : List ℕ) (bodies : ℕ) (began : S) (r : Report T) (mid : S)
     (p : IsPiecesReport takes refuses limits capacities bodies began r mid) where
@@ -33,23 +34,38 @@ module _ {T S : Type 0} (takes refuses : S → List Entry → S → Type 0) (lim
       let same : mid ≡ p.behind = subst (λ (o : Option Outcome). IsLeftSo refuses (is_none o) p.behind r.history.list mid) is p.left_so in
       subst (TakesAll takes began p.pieces) (sym same) p.taken
 
-  pub in_pieces : (sink : S) (ended : Ended) → TakesLeft takes mid r.history.list sink → Some ended.outcome ≡ r.outcome → ended.entries ≡ all_calls r.logs.items
-      → IsOfPieces takes limits capacities bodies began ended sink
-  in_pieces sink ended took outcome entries =
-      let all = joined_with_left p.pieces r.history.list in
-      record {
-        pieces = with_left p.pieces r.history.list;
-        taken = takes_rest p.pieces r.history.list (taken_whole ended.outcome (sym outcome)) took;
-        sized = record { full = p.pieces; left = r.history.list; are = refl; sized = p.sized; few = p.few };
-        last = p.report.last;
-        legal = subst (λ (h : List Entry). IsLegal limits bodies capacities h p.report.last) (sym all) p.report.legal;
-        outcome = p.report.outcome ∙ sym outcome;
-        entries = ap (λ (h : List Entry). length h) all ∙ (p.report.calls ∙ sym entries);
-        within = p.report.within;
-      } where
+  -- with what was left behind them
+  with_last : (sink : S) (ended : Ended) → TakesLeft takes mid r.history.list sink → Some ended.outcome ≡ r.outcome → ended.entries ≡ all_calls r.logs.items
+      → (q : IsOfPieces takes limits capacities bodies began ended sink) × (q.pieces ≡ with_left p.pieces r.history.list)
+  with_last sink ended took outcome entries =
+      let all = joined_with_left p.pieces r.history.list in (
+        record {
+          pieces = with_left p.pieces r.history.list;
+          taken = takes_rest p.pieces r.history.list (taken_whole ended.outcome (sym outcome)) took;
+          sized = record { full = p.pieces; left = r.history.list; are = refl; sized = p.sized; few = p.few };
+          last = p.report.last;
+          legal = subst (λ (h : List Entry). IsLegal limits bodies capacities h p.report.last) (sym all) p.report.legal;
+          outcome = p.report.outcome ∙ sym outcome;
+          entries = ap (λ (h : List Entry). length h) all ∙ (p.report.calls ∙ sym entries);
+          within = p.report.within;
+        },
+        refl,
+      ) where
         takes_rest : (pieces : List (List Entry)) (left : List Entry) → TakesAll takes began pieces mid → TakesLeft takes mid left sink → TakesAll takes began (with_left pieces left) sink
         takes_rest pieces [] taken none = subst (TakesAll takes began pieces) (sym none) taken
         takes_rest pieces (e ∷ left) taken took = takes_one_more takes began mid sink pieces (e ∷ left) taken took
+
+  pub in_pieces : (sink : S) (ended : Ended) → TakesLeft takes mid r.history.list sink → Some ended.outcome ≡ r.outcome → ended.entries ≡ all_calls r.logs.items
+      → IsOfPieces takes limits capacities bodies began ended sink
+  in_pieces sink ended took outcome entries = (with_last sink ended took outcome entries).0
+
+  -- what was said along them, and in what was left
+  pub said_along : (resumes : Resumes T) (blocks : Blocks T) (given : List T) (sink : S) (ended : Ended) → TakesLeft takes mid r.history.list sink → Some ended.outcome ≡ r.outcome → ended.entries ≡ all_calls r.logs.items
+      → AreSaid resumes blocks limits capacities given (joined p.pieces ++ r.history.list) r.bodies.items
+      → (q : IsOfPieces takes limits capacities bodies began ended sink) × (back : List T) × AreSaid resumes blocks limits capacities given (joined q.pieces) back
+  said_along resumes blocks given sink ended took outcome entries said =
+      let last = with_last sink ended took outcome entries in
+      (last.0, r.bodies.items, subst (λ (h : List Entry). AreSaid resumes blocks limits capacities given h r.bodies.items) (sym (ap joined last.1 ∙ joined_with_left p.pieces r.history.list)) said)
 
   -- the sink refused what is left
   stopped : (behind sink : S) → TakesAll takes began p.pieces behind → refuses behind r.history.list sink → r.history.list ≢ [] → StopsPieces takes refuses limits capacities bodies began sink
@@ -74,3 +90,25 @@ module _ {T S : Type 0} (takes refuses : S → List Entry → S → Type 0) (lim
   pub stopped_at_last : (sink : S) (outcome : Outcome) → r.outcome ≡ Some outcome → refuses mid r.history.list sink → r.history.list ≢ []
       → StopsPieces takes refuses limits capacities bodies began sink
   stopped_at_last sink outcome is refused some = stopped mid sink (taken_whole outcome is) refused some
+
+-- what is so of the value that came
+pub of_ok : {A E : Type 0} (P : A → Type 0) (ran : Result A E) (r : A) → ran ≡ Ok r → IfOk ran P → P r
+of_ok P ran r is so = subst (λ (x : Result _ _). IfOk x P) is so
+
+-- a run whose history was kept whole
+pub said_whole : {T : Type 0} {resumes : Resumes T} {blocks : Blocks T} (limits limits' : Limits) (capacities capacities' : List ℕ) (given : List T) (r : Report T) (ended : Ended) → limits ≡ limits' → capacities ≡ capacities'
+    → IsRunReport limits capacities (length given) [] r → r.outcome ≡ Some ended.outcome → length r.history.list ≡ ended.entries → AreSaid resumes blocks limits capacities given r.history.list r.bodies.items
+    → IsSaidRun resumes blocks limits' capacities' given ended
+said_whole {resumes = resumes} {blocks = blocks} limits limits' capacities capacities' given r ended same_limits same_capacities p outcome entries said =
+    subst (λ (l : Limits). IsSaidRun resumes blocks l capacities' given ended) same_limits
+    (subst (λ (cs : List ℕ). IsSaidRun resumes blocks limits cs given ended) same_capacities
+    (record { history = r.history.list; last = p.last; legal = p.legal; outcome = p.outcome ∙ outcome; entries = entries; within = p.within }, r.bodies.items, said))
+
+-- one whose history went out in pieces
+pub said_pieces : {T S : Type 0} {resumes : Resumes T} {blocks : Blocks T} (takes refuses : S → List Entry → S → Type 0) (limits limits' : Limits) (capacities capacities' : List ℕ) (given : List T) (began : S) (r : Report T) (mid sink : S) (ended : Ended)
+    → limits ≡ limits' → capacities ≡ capacities' → SaysPieces resumes blocks takes refuses limits capacities given began r mid → TakesLeft takes mid r.history.list sink → Some ended.outcome ≡ r.outcome → ended.entries ≡ all_calls r.logs.items
+    → IsSaidInPieces resumes blocks takes limits' capacities' given began ended sink
+said_pieces {resumes = resumes} {blocks = blocks} takes refuses limits limits' capacities capacities' given began r mid sink ended same_limits same_capacities says took outcome entries =
+    subst (λ (l : Limits). IsSaidInPieces resumes blocks takes l capacities' given began ended sink) same_limits
+    (subst (λ (cs : List ℕ). IsSaidInPieces resumes blocks takes limits cs given began ended sink) same_capacities
+    (said_along takes refuses limits capacities (length given) began r mid says.0 resumes blocks given sink ended took outcome entries says.1))

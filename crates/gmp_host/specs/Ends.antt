@@ -5,6 +5,7 @@ use Rattle.gmp_seq.specs.declared.call.Limits.{Limits}
 use Rattle.gmp_seq.specs.Fits.{AreLimits}
 use Rattle.gmp_seq.specs.Run.{IsLegal}
 use Rattle.gmp_seq.specs.State.{State}
+use Rattle.gmp_said.specs.Said.{AreSaid, Blocks, Resumes}
 use Rattle.gmp_run.specs.Desks.{IsCut, IsFull, TakesAll, joined}
 use Rattle.gmp_host.specs.declared.ending.Ended.{Ended}
 
@@ -18,6 +19,10 @@ pub record IsOfLegalRun (limits : Limits) (capacities : List ℕ) (bodies : ℕ)
   pub entries : length history ≡ ended.entries
   pub within : AreLimits limits bodies capacities
 
+-- Such a run that is what these bodies said: each of a goroutine's calls is what its body asked, told what the history gives it.
+abbrev pub IsSaidRun : {T : Type 0} → Resumes T → Blocks T → Limits → List ℕ → List T → Ended → Type 0
+IsSaidRun {T} resumes blocks limits capacities given ended = (r : IsOfLegalRun limits capacities (length given) ended) × (back : List T) × AreSaid resumes blocks limits capacities given r.history back
+
 -- The sink took these pieces, cut where there was no room for another entry, and nothing more. In order they are a legal run, from the opening
 -- under these limits, with these capacities and so many bodies, that has this outcome and as many entries.
 pub record IsOfPieces {S : Type 0} (takes : S → List Entry → S → Type 0) (limits : Limits) (capacities : List ℕ) (bodies : ℕ) (began : S) (ended : Ended) (sink : S) : Type 0 where
@@ -29,6 +34,11 @@ pub record IsOfPieces {S : Type 0} (takes : S → List Entry → S → Type 0) (
   pub outcome : last.outcome ≡ Some ended.outcome
   pub entries : length (joined pieces) ≡ ended.entries
   pub within : AreLimits limits bodies capacities
+
+-- Such pieces that are, in order, what these bodies said.
+abbrev pub IsSaidInPieces : {T S : Type 0} → Resumes T → Blocks T → (S → List Entry → S → Type 0) → Limits → List ℕ → List T → S → Ended → S → Type 0
+IsSaidInPieces {T} resumes blocks takes limits capacities given began ended sink =
+    (p : IsOfPieces takes limits capacities (length given) began ended sink) × (back : List T) × AreSaid resumes blocks limits capacities given (joined p.pieces) back
 
 -- what was left was taken, if there was anything
 abbrev pub TakesLeft : {S : Type 0} → (S → List Entry → S → Type 0) → S → List Entry → S → Type 0

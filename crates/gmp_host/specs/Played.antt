@@ -4,7 +4,6 @@ use Rattle.std.specs.Prelude.{◌≡◌, ℕ, ◌*◌, max, Bool, List, Option, 
 use Rattle.std.specs.Option.{unwrap_or}
 use Rattle.gmp_base.specs.declared.ask.Ask.{Ask}
 use Rattle.gmp_base.specs.declared.ask.Woke.{Woke}
-use Rattle.gmp_seq.specs.declared.call.Entry.{Entry}
 use Rattle.gmp_seq.specs.declared.call.Limits.{Limits}
 use Rattle.gmp_acts.specs.System.{BookRun}
 use Rattle.gmp_core.specs.Plays.{IsPlayed}

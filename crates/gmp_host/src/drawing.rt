@@ -2,6 +2,7 @@
 ghost use Rattle.std.specs.Prelude.{◌≡◌, ◌≢◌, IfErr, IfOk, IfSome, None, OnOk, length};
 ghost use Rattle.gmp_turn.specs.Whole.{IsWholeRun};
 ghost use Rattle.gmp_host.specs.Ends.{IsOfLegalRun};
+ghost use Rattle.gmp_host.specs.Openings.{NamesNobody};
 ghost use Rattle.gmp_host.specs.Played.{EndsSo, IsDrawnTo};
 
 use crate::ending::{Ended, Short};
@@ -35,6 +36,7 @@ fn drawn<T: InHand, D: Dealer + Drop>(
     ensures limits { IfErr result (λ e. e ≡ Short.BadLimits → IsWholeRun limits (length bodies.items) capacities.now → ⊥) }
     ensures memory { IfErr result (λ e. e ≡ Short.OutOfMemory → IsWholeRun limits (length bodies.items) capacities.now) }
     ensures kinds { IfErr result (λ e. (e ≢ Short.NoEnd) × (e ≢ Short.Mismatch) × (e ≢ Short.Stopped) × (e ≢ Short.NotPushed)) }
+    ensures nobody { IfErr result NamesNobody }
 {
     if u64::from(limits.room) != limits.entries {
         return Err(Short::AboveRoom);
@@ -99,6 +101,7 @@ pub(crate) fn draw_all<T: InHand, D: Dealer + Drop>(
     ensures limits { IfErr result (λ e. e ≡ Short.BadLimits → IsWholeRun limits (length bodies.items) capacities.now → ⊥) }
     ensures memory { IfErr result (λ e. e ≡ Short.OutOfMemory → IsWholeRun limits (length bodies.items) capacities.now) }
     ensures kinds { IfErr result (λ e. (e ≢ Short.Mismatch) × (e ≢ Short.Stopped) × (e ≢ Short.NotPushed)) }
+    ensures nobody { IfErr result NamesNobody }
 {
     let count = bodies.len();
     let run = drawn(alloc, limits, capacities, bodies, shown, is_fair, dealer)?;
@@ -126,6 +129,7 @@ pub(crate) fn replay_all<T: InHand, D: Dealer + Drop>(
     ensures limits { IfErr result (λ e. e ≡ Short.BadLimits → IsWholeRun limits (length bodies.items) capacities.now → ⊥) }
     ensures memory { IfErr result (λ e. e ≡ Short.OutOfMemory → IsWholeRun limits (length bodies.items) capacities.now) }
     ensures kinds { IfErr result (λ e. (e ≢ Short.Mismatch) × (e ≢ Short.Stopped) × (e ≢ Short.NotPushed)) }
+    ensures nobody { IfErr result NamesNobody }
 {
     let count = bodies.len();
     let run = drawn(alloc, limits, capacities, bodies, shown, is_fair, dealer)?;

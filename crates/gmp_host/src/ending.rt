@@ -77,6 +77,8 @@ pub enum Short {
     Mismatch,
     #[error("a goroutine was boxed and not pushed")]
     NotPushed,
+    #[error("goroutine {} was reserved and has no body", .0.0)]
+    NoBody(GNo),
     #[error("its sink stopped it")]
     Stopped,
 }

@@ -2,8 +2,9 @@
 ghost use Rattle.std.specs.Prelude.{◌≡◌, ◌≢◌, ◌↔◌, ◌++◌, ◌∷◌, ◌+◌, ◌<◌, ◌≤◌, ◌^◌, [], IfErr, IfOk, IsTrue, OnErr, OnOk, Some, length};
 ghost use Rattle.gmp_turn.specs.Whole.{IsWholeRun};
 ghost use Rattle.gmp_seq.specs.Fits.{AreLimits};
-ghost use Rattle.gmp_host.specs.Ends.{IsOfLegalRun, IsOfPieces, StopsPieces, TakesLeft};
-ghost use Rattle.gmp_host.specs.Openings.{limits_of};
+ghost use Rattle.gmp_host.specs.Ends.{IsOfLegalRun, IsOfPieces, IsSaidInPieces, IsSaidRun, StopsPieces, TakesLeft};
+ghost use Rattle.gmp_host.specs.Played.{BoxAnswers, BoxAsks};
+ghost use Rattle.gmp_host.specs.Openings.{IsCovered, NamesMissing, limits_of};
 ghost use Rattle.gmp_run.specs.Counts.{all_calls};
 
 use crate::channel::Channel;
@@ -20,6 +21,7 @@ use gmp_history::History;
 use gmp_run::{Clock, Gate, Open, Since, Sink, Stop, run_fair, run_into_fair};
 use gmp_worker::{Boxed, PassLog, audit};
 use std::alloc::Global;
+use std::sync::atomic::{AtomicBool, Ordering};
 use std::sync::{Arc, Mutex, Wait};
 use std::thread::Threads;
 use std::time;
@@ -38,10 +40,12 @@ pub struct Host {
     pub bodies: Vec<Boxed>,
     /// How many goroutines were boxed. Each is to be pushed.
     pub boxed: u64,
+    /// How many goroutines behind main were reserved. Each is to be pushed.
+    pub reserved: u16,
     pub(crate) loss: Loss,
     pub(crate) shown: Note,
     /// Whether a goroutine reads the time.
-    is_timed: bool,
+    is_timed: AtomicBool,
 }
 
 /// Which goroutine was lost first, if one was.
@@ -72,7 +76,7 @@ fn hand_rest<S: Sink>(sink: &mut S, history: &mut History) -> Result<(), Stop>
 impl Host {
     /// A host with no goroutine and no channel.
     pub fn new(alloc: Global, settings: Settings) -> Result<Self, Short>
-        ensures { IfOk result (λ h. (h.settings ≡ settings) × (h.capacities.items ≡ []) × (h.bodies.items ≡ []) × (h.boxed ≡ 0)) }
+        ensures { IfOk result (λ h. (h.settings ≡ settings) × (h.capacities.items ≡ []) × (h.bodies.items ≡ []) × (h.boxed ≡ 0) × (h.reserved ≡ 0)) }
     {
         Ok(Host {
             alloc,
@@ -80,9 +84,10 @@ impl Host {
             capacities: Vec::new(alloc),
             bodies: Vec::new(alloc),
             boxed: 0,
+            reserved: 0,
             loss: Arc::new(alloc, Mutex::new(None))?,
             shown: Note::new(alloc)?,
-            is_timed: false,
+            is_timed: AtomicBool::new(false),
         })
     }
 
@@ -119,12 +124,8 @@ impl Host {
     }
 
     /// The time, for a goroutine that reads it.
-    pub fn time(&mut self) -> Result<Time, Short>
-        ensures capacities { self.new.capacities ≡ self.old.capacities }
-        ensures bodies { (self.new.bodies ≡ self.old.bodies) × (self.new.boxed ≡ self.old.boxed) }
-        ensures settings { self.new.settings ≡ self.old.settings }
-    {
-        self.is_timed = true;
+    pub fn time(&self) -> Result<Time, Short> {
+        self.is_timed.store(true, Ordering::SeqCst);
         Ok(Time::of(self.shown.share()?))
     }
 
@@ -191,6 +192,7 @@ impl Host {
     /// affair. All entries have to be kept.
     pub fn run<R: Threads + Wait + time::Clock + Sync>(self, rt: &R) -> Result<Ended, Short>
         ensures ended { IfOk result (IsOfLegalRun (limits_of self.settings) self.capacities.items (length self.bodies.items)) }
+        ensures said { IfOk result (IsSaidRun (BoxAsks (λ box body. record box { value = body }) resumed) (BoxAnswers (λ box body. record box { value = body }) blocked) (limits_of self.settings) self.capacities.items self.bodies.items) }
         ensures whole { OnOk result (self.settings.entries ≤ self.settings.room) }
         ensures above { IfErr result (λ e. e ≡ Short.AboveRoom → self.settings.room < self.settings.entries) }
         ensures limits { IfErr result (λ e. e ≡ Short.BadLimits
@@ -198,6 +200,8 @@ impl Host {
         ensures memory { IfErr result (λ e. e ≡ Short.OutOfMemory
             → IsWholeRun (limits_of self.settings) (length self.bodies.items) self.capacities.items) }
         ensures pushed { (result ≡ Err Short.NotPushed) ↔ (self.boxed ≢ length self.bodies.items) }
+        ensures reserved { OnOk result (IsCovered self.reserved (length self.bodies.items)) }
+        ensures missing { IfErr result (NamesMissing self.reserved (length self.bodies.items)) }
         ensures kinds { IfErr result (λ e. (e ≢ Short.NoEnd) × (e ≢ Short.Stopped)) }
     {
         let clock = Since::now(rt);
@@ -212,6 +216,7 @@ impl Host {
         gate: &G,
     ) -> Result<Ended, Short>
         ensures ended { IfOk result (IsOfLegalRun (limits_of self.settings) self.capacities.items (length self.bodies.items)) }
+        ensures said { IfOk result (IsSaidRun (BoxAsks (λ box body. record box { value = body }) resumed) (BoxAnswers (λ box body. record box { value = body }) blocked) (limits_of self.settings) self.capacities.items self.bodies.items) }
         ensures whole { OnOk result (self.settings.entries ≤ self.settings.room) }
         ensures above { IfErr result (λ e. e ≡ Short.AboveRoom → self.settings.room < self.settings.entries) }
         ensures limits { IfErr result (λ e. e ≡ Short.BadLimits
@@ -219,18 +224,24 @@ impl Host {
         ensures memory { IfErr result (λ e. e ≡ Short.OutOfMemory
             → IsWholeRun (limits_of self.settings) (length self.bodies.items) self.capacities.items) }
         ensures pushed { (result ≡ Err Short.NotPushed) ↔ (self.boxed ≢ length self.bodies.items) }
+        ensures reserved { OnOk result (IsCovered self.reserved (length self.bodies.items)) }
+        ensures missing { IfErr result (NamesMissing self.reserved (length self.bodies.items)) }
         ensures kinds { IfErr result (λ e. (e ≢ Short.NoEnd) × (e ≢ Short.Stopped)) }
     {
         if !self.is_pushed() {
             return Err(Short::NotPushed);
         }
+        if let Some(missing) = self.missing() {
+            return Err(Short::NoBody(missing));
+        }
         if self.settings.entries > u64::from(self.settings.room) {
             return Err(Short::AboveRoom);
         }
         let limits = self.settings.limits();
+        let is_timed = self.is_timed.load(Ordering::SeqCst);
         let bodies = self.bodies;
         let count = bodies.len();
-        let gate = Stamps::of(clock, &self.shown, self.is_timed, gate);
+        let gate = Stamps::of(clock, &self.shown, is_timed, gate);
         let ran = run_fair(
             rt,
             self.alloc,
@@ -276,11 +287,14 @@ impl Host {
         sink: S,
     ) -> (Result<Ended, Short>, S)
         ensures ended { IfOk result.0 (λ e. IsOfPieces S.takes (limits_of self.settings) self.capacities.items (length self.bodies.items) sink e result.1) }
+        ensures said { IfOk result.0 (λ e. IsSaidInPieces (BoxAsks (λ box body. record box { value = body }) resumed) (BoxAnswers (λ box body. record box { value = body }) blocked) S.takes (limits_of self.settings) self.capacities.items self.bodies.items sink e result.1) }
         ensures limits { IfErr result.0 (λ e. e ≡ Short.BadLimits
             → AreLimits (limits_of self.settings) (length self.bodies.items) self.capacities.items → ⊥) }
         ensures memory { IfErr result.0 (λ e. e ≡ Short.OutOfMemory
             → AreLimits (limits_of self.settings) (length self.bodies.items) self.capacities.items) }
         ensures pushed { (result.0 ≡ Err Short.NotPushed) ↔ (self.boxed ≢ length self.bodies.items) }
+        ensures reserved { OnOk result.0 (IsCovered self.reserved (length self.bodies.items)) }
+        ensures missing { IfErr result.0 (NamesMissing self.reserved (length self.bodies.items)) }
         ensures kinds { IfErr result.0 (λ e. (e ≢ Short.NoEnd) × (e ≢ Short.Mismatch) × (e ≢ Short.AboveRoom)) }
         ensures unused { IfErr result.0 (λ e. e ≢ Short.Stopped → result.1 ≡ sink) }
         ensures stopped { IfErr result.0 (λ e. e ≡ Short.Stopped
@@ -289,9 +303,13 @@ impl Host {
         if !self.is_pushed() {
             return (Err(Short::NotPushed), sink);
         }
+        if let Some(missing) = self.missing() {
+            return (Err(Short::NoBody(missing)), sink);
+        }
         let clock = Since::now(rt);
+        let is_timed = self.is_timed.load(Ordering::SeqCst);
         let bodies = self.bodies;
-        let gate = Stamps::of(&clock, &self.shown, self.is_timed, &Open);
+        let gate = Stamps::of(&clock, &self.shown, is_timed, &Open);
         let (ran, mut sink) = run_into_fair(
             rt,
             self.alloc,

@@ -7,6 +7,9 @@
 //!
 //! A `Spawner` starts goroutines while the run goes on, and hands each its body over, a `Task`, whose output it leaves in `Outputs`.
 //!
+//! A channel carries numbers. On a `Typed` goroutines send values of any type: each lies at a number, in `Slots`. A `Handle` is a goroutine whose
+//! number is known before it is boxed.
+//!
 //! A goroutine is a `Goroutine`: a state machine without clauses. `Go` makes a body of it, whose clauses say nothing, and notes where it
 //! was lost. Boxes are made where the goroutine's type is known: no function hands out a box of a type parameter. So `Host::boxed` gives a
 //! box of its own type, and the caller of `Host::push` makes it a box of any.
@@ -17,6 +20,7 @@ mod drawing;
 mod ending;
 mod goroutine;
 mod group;
+mod handle;
 mod host;
 mod note;
 mod queue;
@@ -24,6 +28,7 @@ mod searching;
 mod select;
 mod settings;
 mod single;
+mod slots;
 mod spawner;
 mod stamps;
 mod stepping;
@@ -40,9 +45,11 @@ pub use gmp_seq::Outcome;
 pub use gmp_waits::Waiting;
 pub use goroutine::{Go, Goroutine, Nonsense};
 pub use group::Group;
+pub use handle::Handle;
 pub use host::Host;
 pub use note::{Note, Time};
 pub use searching::{Found, search};
 pub use select::Select;
 pub use settings::Settings;
+pub use slots::{Slots, Typed};
 pub use spawner::{Outputs, Spawned, Spawner, Task};

@@ -50,11 +50,11 @@ impl Note {
     }
 }
 
-/// The moment so many milliseconds after now, or the last moment that there is.
-fn later(now: u64, ms: u64) -> u64
-    ensures { result ≡ min (now + ms * 1000000) 18446744073709551615 }
+/// The moment so many units after now, each of so many nanoseconds, or the last moment that there is.
+fn later(now: u64, count: u64, unit: u64) -> u64
+    ensures { result ≡ min (now + count * unit) 18446744073709551615 }
 {
-    now.saturating_add(ms.saturating_mul(1_000_000))
+    now.saturating_add(count.saturating_mul(unit))
 }
 
 /// The time, as a goroutine reads it: what the run's clock showed when a goroutine was last resumed.
@@ -69,6 +69,12 @@ impl Time {
         Time { shown }
     }
 
+    /// One more handle of it.
+    pub fn share(&self) -> Result<Self, Short> {
+        let shown = self.shown.share()?;
+        Ok(Time { shown })
+    }
+
     /// What the clock showed, in nanoseconds.
     pub fn now(&self) -> u64 {
         self.shown.get()
@@ -78,6 +84,13 @@ impl Time {
     pub fn in_ms(&self, ms: u64) -> u64
         ensures later { min (ms * 1000000) 18446744073709551615 ≤ result }
     {
-        later(self.now(), ms)
+        later(self.now(), ms, 1_000_000)
+    }
+
+    /// The moment so many microseconds later, or the last moment that there is.
+    pub fn in_us(&self, us: u64) -> u64
+        ensures later { min (us * 1000) 18446744073709551615 ≤ result }
+    {
+        later(self.now(), us, 1000)
     }
 }

@@ -9,7 +9,7 @@ use std::sync::{Arc, Mutex};
 use std::thread::yield_now;
 
 /// How often a call tries to come to a queue that other threads are at.
-const TRIES: u32 = 1 << 16;
+pub(crate) const TRIES: u32 = 1 << 16;
 
 /// Other threads were at the queue, as often as it was tried.
 #[derive(Drop)]

@@ -2,7 +2,7 @@
 ghost use Rattle.std.specs.Prelude.{◌≡◌, ◌≢◌, ◌↔◌, ◌<◌, ◌≤◌, IfErr, IfOk, OnOk, length};
 ghost use Rattle.gmp_turn.specs.Whole.{IsWholeRun};
 ghost use Rattle.gmp_host.specs.Ends.{IsOfLegalRun};
-ghost use Rattle.gmp_host.specs.Openings.{limits_of};
+ghost use Rattle.gmp_host.specs.Openings.{IsCovered, NamesMissing, limits_of};
 ghost use Rattle.gmp_host.specs.Played.{BoxAnswers, BoxAsks, HasNoEnd, IsPlayedOut};
 
 use crate::drawing::{draw_all, replay_all};
@@ -30,10 +30,15 @@ impl Host {
         ensures memory { IfErr result (λ e. e ≡ Short.OutOfMemory
             → IsWholeRun (limits_of self.settings) (length self.bodies.items) self.capacities.items) }
         ensures pushed { (result ≡ Err Short.NotPushed) ↔ (self.boxed ≢ length self.bodies.items) }
+        ensures reserved { OnOk result (IsCovered self.reserved (length self.bodies.items)) }
+        ensures missing { IfErr result (NamesMissing self.reserved (length self.bodies.items)) }
         ensures kinds { IfErr result (λ e. (e ≢ Short.Mismatch) × (e ≢ Short.Stopped)) }
     {
         if !self.is_pushed() {
             return Err(Short::NotPushed);
+        }
+        if let Some(missing) = self.missing() {
+            return Err(Short::NoBody(missing));
         }
         let Host {
             alloc,
@@ -70,6 +75,8 @@ impl Host {
         ensures memory { IfErr result (λ e. e ≡ Short.OutOfMemory
             → IsWholeRun (limits_of self.settings) (length self.bodies.items) self.capacities.items) }
         ensures pushed { (result ≡ Err Short.NotPushed) ↔ (self.boxed ≢ length self.bodies.items) }
+        ensures reserved { OnOk result (IsCovered self.reserved (length self.bodies.items)) }
+        ensures missing { IfErr result (NamesMissing self.reserved (length self.bodies.items)) }
         ensures kinds { IfErr result (λ e. (e ≢ Short.Mismatch) × (e ≢ Short.Stopped)) }
     {
         self.step_dealt(Even::new(seed))
@@ -85,6 +92,8 @@ impl Host {
         ensures memory { IfErr result (λ e. e ≡ Short.OutOfMemory
             → IsWholeRun (limits_of self.settings) (length self.bodies.items) self.capacities.items) }
         ensures pushed { (result ≡ Err Short.NotPushed) ↔ (self.boxed ≢ length self.bodies.items) }
+        ensures reserved { OnOk result (IsCovered self.reserved (length self.bodies.items)) }
+        ensures missing { IfErr result (NamesMissing self.reserved (length self.bodies.items)) }
         ensures kinds { IfErr result (λ e. (e ≢ Short.Mismatch) × (e ≢ Short.Stopped)) }
     {
         self.replay_dealt(Even::new(seed))
@@ -100,10 +109,15 @@ impl Host {
         ensures memory { IfErr result (λ e. e ≡ Short.OutOfMemory
             → IsWholeRun (limits_of self.settings) (length self.bodies.items) self.capacities.items) }
         ensures pushed { (result ≡ Err Short.NotPushed) ↔ (self.boxed ≢ length self.bodies.items) }
+        ensures reserved { OnOk result (IsCovered self.reserved (length self.bodies.items)) }
+        ensures missing { IfErr result (NamesMissing self.reserved (length self.bodies.items)) }
         ensures kinds { IfErr result (λ e. (e ≢ Short.Mismatch) × (e ≢ Short.Stopped)) }
     {
         if !self.is_pushed() {
             return Err(Short::NotPushed);
+        }
+        if let Some(missing) = self.missing() {
+            return Err(Short::NoBody(missing));
         }
         let Host {
             alloc,
@@ -140,10 +154,15 @@ impl Host {
         ensures memory { IfErr result (λ e. e ≡ Short.OutOfMemory
             → IsWholeRun (limits_of self.settings) (length self.bodies.items) self.capacities.items) }
         ensures pushed { (result ≡ Err Short.NotPushed) ↔ (self.boxed ≢ length self.bodies.items) }
+        ensures reserved { OnOk result (IsCovered self.reserved (length self.bodies.items)) }
+        ensures missing { IfErr result (NamesMissing self.reserved (length self.bodies.items)) }
         ensures kinds { IfErr result (λ e. (e ≢ Short.Mismatch) × (e ≢ Short.Stopped)) }
     {
         if !self.is_pushed() {
             return Err(Short::NotPushed);
+        }
+        if let Some(missing) = self.missing() {
+            return Err(Short::NoBody(missing));
         }
         let Host {
             alloc,

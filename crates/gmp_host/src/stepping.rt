@@ -2,6 +2,7 @@
 ghost use Rattle.std.specs.Prelude.{◌≡◌, ◌≢◌, IfErr, IfOk, IfSome, None, OnOk, length};
 ghost use Rattle.gmp_turn.specs.Whole.{IsWholeRun};
 ghost use Rattle.gmp_host.specs.Ends.{IsOfLegalRun};
+ghost use Rattle.gmp_host.specs.Openings.{NamesNobody};
 ghost use Rattle.gmp_host.specs.Played.{EndsSo, HasNoEnd, IsPlayedOut};
 
 use crate::ending::{Ended, Short};
@@ -145,6 +146,7 @@ pub(crate) fn play_all<T: InHand>(
     ensures limits { IfErr result (λ e. e ≡ Short.BadLimits → IsWholeRun limits (length bodies.items) capacities.now → ⊥) }
     ensures memory { IfErr result (λ e. e ≡ Short.OutOfMemory → IsWholeRun limits (length bodies.items) capacities.now) }
     ensures kinds { IfErr result (λ e. (e ≢ Short.Mismatch) × (e ≢ Short.Stopped) × (e ≢ Short.NotPushed)) }
+    ensures nobody { IfErr result NamesNobody }
 {
     if u64::from(limits.room) != limits.entries {
         return Err(Short::AboveRoom);

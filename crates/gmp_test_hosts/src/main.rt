@@ -3,20 +3,24 @@
 #![tactic(auto)]
 
 mod busy;
+mod drawn;
 mod handed;
 mod loaded;
+mod parcels;
 mod split;
 mod ways;
 
 use crate::busy::{Waits, run_busy};
+use crate::drawn::{Bug, Draws, run_bug};
 use crate::handed::{Found, run_handed};
 use crate::loaded::{Tally, run_loaded};
+use crate::parcels::{run_parcels, try_places};
 use crate::split::run_split;
 use crate::ways::Runner;
 use anyhow::Result;
 use gmp_host::{
     Act, Ask, Channel, Ended, GNo, Gate, Goroutine, History, Host, MNo, Nonsense, Note, Settings,
-    Short, Since, Sink, Stop, Woke,
+    Short, Since, Sink, Stop, Woke, search,
 };
 use std::alloc::Global;
 use std::sync::Wait;
@@ -156,6 +160,18 @@ fn yielding(alloc: Global, settings: Settings, is_pushed: bool) -> Result<Ended,
     host.step()
 }
 
+/// How a run falls short in which the second goroutine that was reserved has no body.
+fn reserved(alloc: Global) -> Result<Ended, Short> {
+    let mut host = Host::new(alloc, Settings::default())?;
+    host.reserve()?;
+    host.reserve()?;
+    for _ in 0..2 {
+        let yielder = host.boxed(Yielder)?;
+        host.push(yielder)?;
+    }
+    host.step()
+}
+
 /// How many pieces the sink took of a run of one who yields, and how that falls short.
 fn stopped<R: Threads + Wait + Clock + Sync>(
     rt: &R,
@@ -182,18 +198,51 @@ fn show_spawned<R: Threads + Wait + Clock + Sync + Print>(
     let found = Found::new(alloc)?;
     let ended = run_handed(rt, alloc, runner, &found)?;
     println!(rt;
-        "handed over: {ended}; outputs {}, sum {}, twice {}, bodies came back: {}",
+        "handed over: {ended}; outputs {}, sum {}, twice {}",
         found.outputs.get(),
         found.sum.get(),
-        found.twice.get(),
-        found.back.get() > 0
+        found.twice.get()
     )?;
+    // In threads goroutines may be free in time for each body.
+    if let Runner::Core = runner {
+        println!(rt; "bodies came back: {}", found.back.get() > 0)?;
+    }
     let (count, sum) = (Note::new(alloc)?, Note::new(alloc)?);
     let ended = run_split(rt, alloc, runner, &count, &sum)?;
     println!(rt;
         "split: {ended}; numbers {}, sum {}",
         count.get(),
         sum.get()
+    )?;
+    Ok(())
+}
+
+/// What comes of parcels that are sent, by this runner.
+fn show_parcels<R: Threads + Wait + Clock + Sync + Print>(
+    rt: &R,
+    alloc: Global,
+    runner: Runner,
+) -> Result<()> {
+    let found = parcels::Found::new(alloc)?;
+    let ended = run_parcels(rt, alloc, runner, &found)?;
+    println!(rt;
+        "parcels: {ended}; {} came, weight {}, twice {}",
+        found.count.get(),
+        found.weight.get(),
+        found.twice.get()
+    )?;
+    Ok(())
+}
+
+/// What two places for values do.
+fn show_places<R: Print>(rt: &R, alloc: Global) -> Result<()> {
+    let Some(it) = try_places(alloc)? else {
+        println!(rt; "two places: none for the second")?;
+        return Ok(());
+    };
+    println!(rt;
+        "two places: full {}, taken {}, twice {}, free again {}, by another's number {}",
+        it.is_full, it.is_taken, it.is_taken_twice, it.is_free, it.is_taken_by_another
     )?;
     Ok(())
 }
@@ -232,6 +281,47 @@ fn show_loaded<R: Threads + Wait + Clock + Sync + Print>(
     Ok(())
 }
 
+/// Whether both are there, and have the same entries, call for call and reply for reply.
+fn are_same(alloc: Global, one: Option<History>, other: Option<History>) -> Result<bool> {
+    let (Some(one), Some(other)) = (one, other) else {
+        return Ok(false);
+    };
+    for (a, b) in one.iter().zip(other.iter()) {
+        if format!(in alloc; "{a:?}")? != format!(in alloc; "{b:?}")? {
+            return Ok(false);
+        }
+    }
+    Ok(one.len() == other.len())
+}
+
+/// What a search through 1000 seeds of such a program finds, machines drawn so, and whether its seed makes that run again, twice.
+fn show_found<R: Print>(rt: &R, alloc: Global, words: &str, bug: Bug, draws: Draws) -> Result<()> {
+    let found = search(0..1000, |seed| {
+        Ok(run_bug(alloc, bug, drawn::Way::Drawn(draws, seed))?.0)
+    })?;
+    let Some(found) = found else {
+        println!(rt; "{words}: no seed finds it")?;
+        return Ok(());
+    };
+    let again = drawn::Way::Replayed(draws, found.seed);
+    let (ended, history) = run_bug(alloc, bug, again)?;
+    let (_, once_more) = run_bug(alloc, bug, again)?;
+    println!(rt;
+        "{words}: {found}; again: {}, the same entries: {}",
+        ended == found.ended,
+        are_same(alloc, history, once_more)?
+    )?;
+    Ok(())
+}
+
+/// How a program that goes wrong by few schedules ends in turn, and what searches find.
+fn show_drawn<R: Print>(rt: &R, alloc: Global, words: &str, bug: Bug) -> Result<()> {
+    let (ended, _) = run_bug(alloc, bug, drawn::Way::InTurn)?;
+    println!(rt; "{words}, in turn: {ended}")?;
+    show_found(rt, alloc, "even draws", bug, Draws::Even)?;
+    show_found(rt, alloc, "drawn ranks", bug, Draws::Ranked)
+}
+
 fn main(rt: HostRuntime) -> Result<()> {
     let alloc = rt.alloc();
     println!(rt; "step: {}", lossy(&rt, alloc, Way::Step)?)?;
@@ -261,12 +351,19 @@ fn main(rt: HostRuntime) -> Result<()> {
             Err(short) => println!(rt; "{short}")?,
         }
     }
+    match reserved(alloc) {
+        Ok(ended) => println!(rt; "{ended}")?,
+        Err(short) => println!(rt; "{short}")?,
+    }
     match stopped(&rt, alloc)? {
         (Ok(ended), _) => println!(rt; "{ended}")?,
         (Err(short), pieces) => println!(rt; "{short}, pieces: {pieces}")?,
     }
     show_spawned(&rt, alloc, Runner::Core)?;
     show_spawned(&rt, alloc, Runner::Threads)?;
+    show_parcels(&rt, alloc, Runner::Core)?;
+    show_parcels(&rt, alloc, Runner::Threads)?;
+    show_places(&rt, alloc)?;
     show_busy(&rt, alloc, "yields, step", Waits::Yields(Runner::Core))?;
     show_busy(
         &rt,
@@ -283,5 +380,8 @@ fn main(rt: HostRuntime) -> Result<()> {
         fair: false,
         ..settings
     };
-    show_loaded(&rt, alloc, 1, unfair)
+    show_loaded(&rt, alloc, 1, unfair)?;
+    show_drawn(&rt, alloc, "two locks", Bug::Locks)?;
+    show_drawn(&rt, alloc, "a wake-up", Bug::WakeUp)?;
+    show_drawn(&rt, alloc, "a closed channel", Bug::Closed)
 }

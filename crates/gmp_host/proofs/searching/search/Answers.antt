@@ -1,4 +1,4 @@
-use Rattle.std.proofs.Common.{◌≡◌, ◌≤◌, ◌<◌, ℕ, Ok, inl, inr, arith, subst}
+use Rattle.std.proofs.Common.{◌≡◌, ℕ, Ok, inl, inr, arith, subst}
 use Rattle.std.proofs.lemmas.Bool.{cases_lt}
 use Rattle.gmp_host.specs.declared.ending.Ended.{Ended}
 use Rattle.gmp_host.specs.Search.{IsWell}
