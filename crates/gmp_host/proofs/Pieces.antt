@@ -1,6 +1,6 @@
 -- What a run came to, of whose history each piece was handed out, the last one too.
 use Rattle.std.specs.Prelude.{is_none}
-use Rattle.std.proofs.Common.{◌≡◌, ◌≢◌, ◌<◌, ◌^◌, ℕ, List, [], ◌∷◌, ◌++◌, Option, None, Some, Result, Ok, IfOk, length, ap, refl, sym, subst, ◌∙◌, arith}
+use Rattle.std.proofs.Common.{Bool, ◌≡◌, ◌≢◌, ◌<◌, ◌^◌, ℕ, List, [], ◌∷◌, ◌++◌, Option, None, Some, Result, Ok, IfOk, length, ap, refl, sym, subst, ◌∙◌, arith}
 use Rattle.gmp_seq.proofs.Counts.{legal_total}
 use Rattle.gmp_seq.proofs.InOrder.{legal_in_order}
 use Rattle.gmp_seq.specs.declared.call.Entry.{Entry}
@@ -14,7 +14,7 @@ use Rattle.gmp_run.specs.declared.ending.Report.{Report}
 use Rattle.gmp_run.specs.Desks.{IsLeftSo, TakesAll, joined, with_left}
 use Rattle.gmp_run.specs.Reports.{IsPiecesReport, IsRunReport, SaysPieces}
 use Rattle.gmp_host.specs.declared.ending.Ended.{Ended}
-use Rattle.gmp_host.specs.Ends.{IsOfPieces, IsSaidInPieces, IsSaidRun, StopsPieces, TakesLeft}
+use Rattle.gmp_host.specs.Ends.{IsOfLegalRun, IsOfPieces, IsSaidInPieces, StopsPieces, TakesLeft}
 
 module _ {T S : Type 0} (takes refuses : S → List Entry → S → Type 0) (limits : Limits) (capacities : List ℕ) (bodies : ℕ) (began : S) (r : Report T) (mid : S)
     (p : IsPiecesReport takes refuses limits capacities bodies began r mid) where
@@ -96,19 +96,21 @@ pub of_ok : {A E : Type 0} (P : A → Type 0) (ran : Result A E) (r : A) → ran
 of_ok P ran r is so = subst (λ (x : Result _ _). IfOk x P) is so
 
 -- a run whose history was kept whole
-pub said_whole : {T : Type 0} {resumes : Resumes T} {blocks : Blocks T} (limits limits' : Limits) (capacities capacities' : List ℕ) (given : List T) (r : Report T) (ended : Ended) → limits ≡ limits' → capacities ≡ capacities'
-    → IsRunReport limits capacities (length given) [] r → r.outcome ≡ Some ended.outcome → length r.history.list ≡ ended.entries → AreSaid resumes blocks limits capacities given r.history.list r.bodies.items
-    → IsSaidRun resumes blocks limits' capacities' given ended
-said_whole {resumes = resumes} {blocks = blocks} limits limits' capacities capacities' given r ended same_limits same_capacities p outcome entries said =
-    subst (λ (l : Limits). IsSaidRun resumes blocks l capacities' given ended) same_limits
-    (subst (λ (cs : List ℕ). IsSaidRun resumes blocks limits cs given ended) same_capacities
-    (record { history = r.history.list; last = p.last; legal = p.legal; outcome = p.outcome ∙ outcome; entries = entries; within = p.within }, r.bodies.items, said))
+pub whole_run : {T : Type 0} (limits : Limits) (capacities : List ℕ) (bodies : ℕ) (r : Report T) (ended : Ended) → IsRunReport limits capacities bodies [] r → r.outcome ≡ Some ended.outcome → length r.history.list ≡ ended.entries
+    → (run : IsOfLegalRun limits capacities bodies ended) × (run.history ≡ r.history.list)
+whole_run limits capacities bodies r ended p outcome entries = (record { history = r.history.list; last = p.last; legal = p.legal; outcome = p.outcome ∙ outcome; entries = entries; within = p.within }, refl)
+
+-- what was said, under the same limits and capacities
+pub said_same : {T : Type 0} {resumes : Resumes T} {blocks : Blocks T} (limits limits' : Limits) (capacities capacities' : List ℕ) (given : List T) (h : List Entry) (back : List T) → limits ≡ limits' → capacities ≡ capacities'
+    → AreSaid resumes blocks limits capacities given h back → AreSaid resumes blocks limits' capacities' given h back
+said_same {resumes = resumes} {blocks = blocks} limits limits' capacities capacities' given h back limits_are capacities_are said =
+    subst (λ (l : Limits). AreSaid resumes blocks l capacities' given h back) limits_are (subst (λ (cs : List ℕ). AreSaid resumes blocks limits cs given h back) capacities_are said)
 
 -- one whose history went out in pieces
-pub said_pieces : {T S : Type 0} {resumes : Resumes T} {blocks : Blocks T} (takes refuses : S → List Entry → S → Type 0) (limits limits' : Limits) (capacities capacities' : List ℕ) (given : List T) (began : S) (r : Report T) (mid sink : S) (ended : Ended)
-    → limits ≡ limits' → capacities ≡ capacities' → SaysPieces resumes blocks takes refuses limits capacities given began r mid → TakesLeft takes mid r.history.list sink → Some ended.outcome ≡ r.outcome → ended.entries ≡ all_calls r.logs.items
+pub said_pieces : {T S : Type 0} {resumes : Resumes T} {blocks : Blocks T} (takes refuses : S → List Entry → S → Type 0) (limits limits' : Limits) (capacities capacities' : List ℕ) (given : List T) (began : S) (r : Report T) (mid sink : S) (ended : Ended) (run : ℕ) (is_fair : Bool)
+    → limits ≡ limits' → capacities ≡ capacities' → SaysPieces run is_fair resumes blocks takes refuses limits capacities given began r mid → TakesLeft takes mid r.history.list sink → Some ended.outcome ≡ r.outcome → ended.entries ≡ all_calls r.logs.items
     → IsSaidInPieces resumes blocks takes limits' capacities' given began ended sink
-said_pieces {resumes = resumes} {blocks = blocks} takes refuses limits limits' capacities capacities' given began r mid sink ended same_limits same_capacities says took outcome entries =
+said_pieces {resumes = resumes} {blocks = blocks} takes refuses limits limits' capacities capacities' given began r mid sink ended run is_fair same_limits same_capacities says took outcome entries =
     subst (λ (l : Limits). IsSaidInPieces resumes blocks takes l capacities' given began ended sink) same_limits
     (subst (λ (cs : List ℕ). IsSaidInPieces resumes blocks takes limits cs given began ended sink) same_capacities
-    (said_along takes refuses limits capacities (length given) began r mid says.0 resumes blocks given sink ended took outcome entries says.1))
+    (said_along takes refuses limits capacities (length given) began r mid says.0.0 resumes blocks given sink ended took outcome entries says.1))

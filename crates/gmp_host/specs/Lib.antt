@@ -2,3 +2,4 @@ pub mod Ends
 pub mod Openings
 pub mod Played
 pub mod Search
+pub mod Traced

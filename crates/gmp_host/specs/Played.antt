@@ -64,3 +64,15 @@ module _ {T D : Type 0} (resumed : T → Woke → Ask → T → Type 0) (called 
   abbrev pub IsDrawnTo : D → Bool → Limits → List ℕ → List T → Table T ℕ D → Type 0
   IsDrawnTo dealer is_fair limits capacities bodies last =
       IsDrawn (AsksSo resumed) (AnswersSo called) ShowsSo deals (most_acts limits) (opening_table is_fair limits capacities bodies 0 dealer) last
+
+  -- the bodies were played as they are dealt, and the run ended so
+  pub record IsDrawnOut (dealer : D) (is_fair : Bool) (limits : Limits) (capacities : List ℕ) (bodies : List T) (ended : Ended) : Type 0 where
+    pub last : Table T ℕ D
+    pub drawn : IsDrawnTo dealer is_fair limits capacities bodies last
+    pub ends : EndsSo last.core.system.book ended
+
+  -- the bodies were played as they are dealt, and the run came to no outcome
+  pub record HasNoDrawnEnd (dealer : D) (is_fair : Bool) (limits : Limits) (capacities : List ℕ) (bodies : List T) : Type 0 where
+    pub last : Table T ℕ D
+    pub drawn : IsDrawnTo dealer is_fair limits capacities bodies last
+    pub none : last.core.system.book.state.outcome ≡ None

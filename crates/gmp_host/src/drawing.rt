@@ -1,18 +1,18 @@
 //! A run by a core whose machines and words a dealer deals.
-ghost use Rattle.std.specs.Prelude.{◌≡◌, ◌≢◌, IfErr, IfOk, IfSome, None, OnOk, length};
+ghost use Rattle.std.specs.Prelude.{◌≡◌, ◌≢◌, IfErr, IfOk, OnOk, length, true};
 ghost use Rattle.gmp_turn.specs.Whole.{IsWholeRun};
 ghost use Rattle.gmp_host.specs.Ends.{IsOfLegalRun};
 ghost use Rattle.gmp_host.specs.Openings.{NamesNobody};
-ghost use Rattle.gmp_host.specs.Played.{EndsSo, IsDrawnTo};
+ghost use Rattle.gmp_host.specs.Played.{HasNoDrawnEnd, IsDrawnOut, IsDrawnTo};
 
 use crate::ending::{Ended, Short};
 use crate::note::Note;
 use crate::stepping::{InHand, MOST_ACTS, Shown};
-use crate::waits::waiting;
+use crate::told::{allowed, ended, kept};
 use gmp_chance::{Dealer, Drawn};
 use gmp_history::History;
 use gmp_seq::Limits;
-use std::alloc::{AllocError, Global};
+use std::alloc::Global;
 
 /// A run of bodies of type `T`.
 type Run<T, D> = Drawn<T, Shown, D>;
@@ -35,57 +35,18 @@ fn drawn<T: InHand, D: Dealer + Drop>(
     ensures above { IfErr result (λ e. e ≡ Short.AboveRoom → limits.room ≢ limits.entries) }
     ensures limits { IfErr result (λ e. e ≡ Short.BadLimits → IsWholeRun limits (length bodies.items) capacities.now → ⊥) }
     ensures memory { IfErr result (λ e. e ≡ Short.OutOfMemory → IsWholeRun limits (length bodies.items) capacities.now) }
-    ensures kinds { IfErr result (λ e. (e ≢ Short.NoEnd) × (e ≢ Short.Mismatch) × (e ≢ Short.Stopped) × (e ≢ Short.NotPushed)) }
+    ensures kinds { IfErr result (λ e. (e ≢ Short.NoEnd) × (e ≢ Short.Stopped) × (e ≢ Short.NotPushed)) }
     ensures nobody { IfErr result NamesNobody }
 {
-    if u64::from(limits.room) != limits.entries {
-        return Err(Short::AboveRoom);
-    }
     // Also what `Drawn::open` tests itself: where it has no memory it doesn't say that they are in range.
-    if !limits.allow(bodies.len(), capacities) {
-        return Err(Short::BadLimits);
-    }
+    allowed(limits, bodies.len(), capacities)?;
     let outside = Shown::new(shown);
     let mut run = Drawn::open(alloc, limits, capacities, bodies, outside, dealer, is_fair)?;
     run.play(MOST_ACTS * u32::from(limits.machines));
     Ok(run)
 }
 
-/// How the run, of so many bodies, ended, if it did.
-fn ended<T: InHand, D: Dealer + Drop>(
-    alloc: Global,
-    limits: Limits,
-    bodies: usize,
-    capacities: &[u32],
-    run: &Run<T, D>,
-) -> Option<Ended>
-    ensures some { let book = run.now.core.system.book in IfSome result (IsOfLegalRun book.limits book.capacities book.bodies) }
-    ensures so { let book = run.now.core.system.book in IfSome result (EndsSo book) }
-    ensures none { result ≡ None → run.now.core.system.book.state.outcome ≡ None }
-{
-    let outcome = run.outcome()?;
-    let history = run.history();
-    Some(Ended {
-        outcome,
-        entries: history.len() as u64,
-        lost: None,
-        waiting: waiting(alloc, limits, bodies, capacities, outcome, history),
-    })
-}
-
-/// The same entries, with no more memory than they take.
-fn copied(alloc: Global, history: &History) -> Result<History, AllocError>
-    ensures { IfOk result (λ h. h.list ≡ history.now.list) }
-{
-    let mut copy = History::new(alloc);
-    for entry in history.iter() {
-        copy.make_room()?;
-        copy.push(entry.m, entry.k, &entry.call, &entry.reply);
-    }
-    Ok(copy)
-}
-
-/// How the bodies' run by this dealer ends.
+/// How the bodies' run by this dealer ends. The history comes with the end, if it is to be kept.
 pub(crate) fn draw_all<T: InHand, D: Dealer + Drop>(
     alloc: Global,
     limits: Limits,
@@ -94,50 +55,30 @@ pub(crate) fn draw_all<T: InHand, D: Dealer + Drop>(
     shown: Note,
     is_fair: bool,
     dealer: D,
-) -> Result<Ended, Short>
-    ensures ended { IfOk result (IsOfLegalRun limits capacities.now (length bodies.items)) }
-    ensures whole { OnOk result (limits.room ≡ limits.entries) }
-    ensures above { IfErr result (λ e. e ≡ Short.AboveRoom → limits.room ≢ limits.entries) }
-    ensures limits { IfErr result (λ e. e ≡ Short.BadLimits → IsWholeRun limits (length bodies.items) capacities.now → ⊥) }
-    ensures memory { IfErr result (λ e. e ≡ Short.OutOfMemory → IsWholeRun limits (length bodies.items) capacities.now) }
-    ensures kinds { IfErr result (λ e. (e ≢ Short.Mismatch) × (e ≢ Short.Stopped) × (e ≢ Short.NotPushed)) }
-    ensures nobody { IfErr result NamesNobody }
-{
-    let count = bodies.len();
-    let run = drawn(alloc, limits, capacities, bodies, shown, is_fair, dealer)?;
-    let ended = ended(alloc, limits, count, capacities, &run);
-    run.close();
-    let Some(ended) = ended else {
-        return Err(Short::NoEnd);
-    };
-    Ok(ended)
-}
-
-/// The same, with its history.
-pub(crate) fn replay_all<T: InHand, D: Dealer + Drop>(
-    alloc: Global,
-    limits: Limits,
-    capacities: &[u32],
-    bodies: Vec<T>,
-    shown: Note,
-    is_fair: bool,
-    dealer: D,
+    keeps: bool,
 ) -> Result<(Ended, History), Short>
-    ensures ended { IfOk result (λ r. IsOfLegalRun limits capacities.now (length bodies.items) r.0) }
+    ensures ended { IfOk result (λ r. (run : IsOfLegalRun limits capacities.now (length bodies.items) r.0) × (keeps ≡ true → r.1.list ≡ run.history)) }
+    // The run is the one that these bodies, played as the dealer deals by machines so fair, make.
+    ensures drawn { IfOk result (λ r. (d : IsDrawnOut T.resumed T.called D.deals dealer is_fair limits capacities.now bodies.items r.0) × (keeps ≡ true → r.1.list ≡ d.last.core.system.book.history)) }
+    ensures endless { IfErr result (λ e. e ≡ Short.NoEnd → HasNoDrawnEnd T.resumed T.called D.deals dealer is_fair limits capacities.now bodies.items) }
     ensures whole { OnOk result (limits.room ≡ limits.entries) }
     ensures above { IfErr result (λ e. e ≡ Short.AboveRoom → limits.room ≢ limits.entries) }
     ensures limits { IfErr result (λ e. e ≡ Short.BadLimits → IsWholeRun limits (length bodies.items) capacities.now → ⊥) }
     ensures memory { IfErr result (λ e. e ≡ Short.OutOfMemory → IsWholeRun limits (length bodies.items) capacities.now) }
-    ensures kinds { IfErr result (λ e. (e ≢ Short.Mismatch) × (e ≢ Short.Stopped) × (e ≢ Short.NotPushed)) }
+    ensures kinds { IfErr result (λ e. (e ≢ Short.Stopped) × (e ≢ Short.NotPushed)) }
     ensures nobody { IfErr result NamesNobody }
 {
     let count = bodies.len();
     let run = drawn(alloc, limits, capacities, bodies, shown, is_fair, dealer)?;
-    let ended = ended(alloc, limits, count, capacities, &run);
-    let history = copied(alloc, run.history());
+    let ended = ended(
+        alloc,
+        limits,
+        count,
+        capacities,
+        run.outcome(),
+        run.history(),
+    );
+    let history = kept(alloc, run.history(), keeps);
     run.close();
-    let Some(ended) = ended else {
-        return Err(Short::NoEnd);
-    };
-    Ok((ended, history?))
+    Ok((ended?, history?))
 }

@@ -73,8 +73,6 @@ pub enum Short {
     AboveRoom,
     #[error("it has no end after so many acts")]
     NoEnd,
-    #[error("a log disagrees with the history")]
-    Mismatch,
     #[error("a goroutine was boxed and not pushed")]
     NotPushed,
     #[error("goroutine {} was reserved and has no body", .0.0)]

@@ -4,7 +4,9 @@ ghost use Rattle.gmp_turn.specs.Whole.{IsWholeRun};
 ghost use Rattle.gmp_seq.specs.Fits.{AreLimits};
 ghost use Rattle.gmp_host.specs.Ends.{IsOfLegalRun, IsOfPieces, IsSaidInPieces, IsSaidRun, StopsPieces, TakesLeft};
 ghost use Rattle.gmp_host.specs.Played.{BoxAnswers, BoxAsks};
-ghost use Rattle.gmp_host.specs.Openings.{IsCovered, NamesMissing, limits_of};
+ghost use Rattle.gmp_base.specs.declared.number.GNo.{GNo};
+ghost use Rattle.gmp_host.specs.Openings.{IsCovered, IsMissing, NamesMissing, limits_of};
+ghost use Rattle.gmp_host.specs.Traced.{IsSaidTrace, IsTraced};
 ghost use Rattle.gmp_run.specs.Counts.{all_calls};
 
 use crate::channel::Channel;
@@ -15,11 +17,12 @@ use crate::note::{Note, Time};
 use crate::settings::Settings;
 use crate::spawner::{Outputs, Spawner, Task};
 use crate::stamps::Stamps;
+use crate::traced::Traced;
 use crate::waits::waiting;
 use gmp_base::{CNo, GNo};
 use gmp_history::History;
 use gmp_run::{Clock, Gate, Open, Since, Sink, Stop, run_fair, run_into_fair};
-use gmp_worker::{Boxed, PassLog, audit};
+use gmp_worker::{Boxed, PassLog};
 use std::alloc::Global;
 use std::sync::atomic::{AtomicBool, Ordering};
 use std::sync::{Arc, Mutex, Wait};
@@ -181,11 +184,19 @@ impl Host {
         Ok(GNo(number))
     }
 
-    /// Whether all that was boxed was pushed.
-    pub(crate) fn is_pushed(&self) -> bool
-        ensures { IsTrue result ↔ (self.now.boxed ≡ length self.now.bodies.items) }
+    /// Whether all that was boxed was pushed, and all that was reserved.
+    pub(crate) fn ready(&self) -> Result<(), Short>
+        ensures pushed { (result ≡ Err Short.NotPushed) ↔ (self.now.boxed ≢ length self.now.bodies.items) }
+        ensures reserved { OnOk result (IsCovered self.now.reserved (length self.now.bodies.items)) }
+        ensures missing { IfErr result (λ e. e ≢ Short.NotPushed → (g : GNo) × (e ≡ Short.NoBody g) × IsMissing self.now.reserved (length self.now.bodies.items) g) }
     {
-        self.bodies.len() as u64 == self.boxed
+        if self.bodies.len() as u64 != self.boxed {
+            return Err(Short::NotPushed);
+        }
+        match self.missing() {
+            Some(missing) => Err(Short::NoBody(missing)),
+            None => Ok(()),
+        }
     }
 
     /// Runs the goroutines by machines in threads, until the run is over and each thread has ended. Who goes first is the threads' own
@@ -208,7 +219,26 @@ impl Host {
         self.run_by(rt, &clock, &Open)
     }
 
-    /// The same by a clock and a gate of one's own.
+    /// The same, and its trace.
+    pub fn run_traced<R: Threads + Wait + time::Clock + Sync>(self, rt: &R) -> Result<Traced, Short>
+        ensures traced { IfOk result (IsTraced (limits_of self.settings) self.capacities.items (length self.bodies.items)) }
+        ensures said { IfOk result (IsSaidTrace (BoxAsks (λ box body. record box { value = body }) resumed) (BoxAnswers (λ box body. record box { value = body }) blocked) (limits_of self.settings) self.capacities.items self.bodies.items) }
+        ensures whole { OnOk result (self.settings.entries ≤ self.settings.room) }
+        ensures above { IfErr result (λ e. e ≡ Short.AboveRoom → self.settings.room < self.settings.entries) }
+        ensures limits { IfErr result (λ e. e ≡ Short.BadLimits
+            → IsWholeRun (limits_of self.settings) (length self.bodies.items) self.capacities.items → ⊥) }
+        ensures memory { IfErr result (λ e. e ≡ Short.OutOfMemory
+            → IsWholeRun (limits_of self.settings) (length self.bodies.items) self.capacities.items) }
+        ensures pushed { (result ≡ Err Short.NotPushed) ↔ (self.boxed ≢ length self.bodies.items) }
+        ensures reserved { OnOk result (IsCovered self.reserved (length self.bodies.items)) }
+        ensures missing { IfErr result (NamesMissing self.reserved (length self.bodies.items)) }
+        ensures kinds { IfErr result (λ e. (e ≢ Short.NoEnd) × (e ≢ Short.Stopped)) }
+    {
+        let clock = Since::now(rt);
+        self.ran(rt, &clock, &Open)
+    }
+
+    /// Runs them by a clock and a gate of one's own.
     pub fn run_by<R: Threads + Wait + Sync, C: Clock + Sync, G: Gate + Sync>(
         self,
         rt: &R,
@@ -228,15 +258,34 @@ impl Host {
         ensures missing { IfErr result (NamesMissing self.reserved (length self.bodies.items)) }
         ensures kinds { IfErr result (λ e. (e ≢ Short.NoEnd) × (e ≢ Short.Stopped)) }
     {
-        if !self.is_pushed() {
-            return Err(Short::NotPushed);
-        }
-        if let Some(missing) = self.missing() {
-            return Err(Short::NoBody(missing));
-        }
+        Ok(self.ran(rt, clock, gate)?.ended)
+    }
+
+    /// The run by machines in threads, by this clock and this gate, and its trace.
+    fn ran<R: Threads + Wait + Sync, C: Clock + Sync, G: Gate + Sync>(
+        self,
+        rt: &R,
+        clock: &C,
+        gate: &G,
+    ) -> Result<Traced, Short>
+        ensures traced { IfOk result (IsTraced (limits_of self.settings) self.capacities.items (length self.bodies.items)) }
+        ensures said { IfOk result (IsSaidTrace (BoxAsks (λ box body. record box { value = body }) resumed) (BoxAnswers (λ box body. record box { value = body }) blocked) (limits_of self.settings) self.capacities.items self.bodies.items) }
+        ensures whole { OnOk result (self.settings.entries ≤ self.settings.room) }
+        ensures above { IfErr result (λ e. e ≡ Short.AboveRoom → self.settings.room < self.settings.entries) }
+        ensures limits { IfErr result (λ e. e ≡ Short.BadLimits
+            → IsWholeRun (limits_of self.settings) (length self.bodies.items) self.capacities.items → ⊥) }
+        ensures memory { IfErr result (λ e. e ≡ Short.OutOfMemory
+            → IsWholeRun (limits_of self.settings) (length self.bodies.items) self.capacities.items) }
+        ensures pushed { (result ≡ Err Short.NotPushed) ↔ (self.boxed ≢ length self.bodies.items) }
+        ensures reserved { OnOk result (IsCovered self.reserved (length self.bodies.items)) }
+        ensures missing { IfErr result (NamesMissing self.reserved (length self.bodies.items)) }
+        ensures kinds { IfErr result (λ e. (e ≢ Short.NoEnd) × (e ≢ Short.Stopped)) }
+    {
+        self.ready()?;
         if self.settings.entries > u64::from(self.settings.room) {
             return Err(Short::AboveRoom);
         }
+        let alloc = self.alloc;
         let limits = self.settings.limits();
         let is_timed = self.is_timed.load(Ordering::SeqCst);
         let bodies = self.bodies;
@@ -244,7 +293,7 @@ impl Host {
         let gate = Stamps::of(clock, &self.shown, is_timed, gate);
         let ran = run_fair(
             rt,
-            self.alloc,
+            alloc,
             RUN,
             limits,
             self.capacities.as_slice(),
@@ -258,23 +307,23 @@ impl Host {
             Ok(report) => report,
             Err(unrun) => return Err(unrun.why.into()),
         };
-        if audit(&report.history, &report.logs).is_err() {
-            return Err(Short::Mismatch);
-        }
         let outcome = report.outcome.unwrap();
-        let capacities = self.capacities.as_slice();
-        Ok(Ended {
+        let history = report.history;
+        let capacities = self.capacities;
+        let waiting = waiting(alloc, limits, count, &capacities, outcome, &history);
+        let ended = Ended {
             outcome,
-            entries: report.history.len() as u64,
+            entries: history.len() as u64,
             lost: first(&self.loss),
-            waiting: waiting(
-                self.alloc,
-                limits,
-                count,
-                capacities,
-                outcome,
-                &report.history,
-            ),
+            waiting,
+        };
+        Ok(Traced {
+            alloc,
+            ended,
+            limits,
+            bodies: count as u16,
+            capacities,
+            history,
         })
     }
 
@@ -295,16 +344,13 @@ impl Host {
         ensures pushed { (result.0 ≡ Err Short.NotPushed) ↔ (self.boxed ≢ length self.bodies.items) }
         ensures reserved { OnOk result.0 (IsCovered self.reserved (length self.bodies.items)) }
         ensures missing { IfErr result.0 (NamesMissing self.reserved (length self.bodies.items)) }
-        ensures kinds { IfErr result.0 (λ e. (e ≢ Short.NoEnd) × (e ≢ Short.Mismatch) × (e ≢ Short.AboveRoom)) }
+        ensures kinds { IfErr result.0 (λ e. (e ≢ Short.NoEnd) × (e ≢ Short.AboveRoom)) }
         ensures unused { IfErr result.0 (λ e. e ≢ Short.Stopped → result.1 ≡ sink) }
         ensures stopped { IfErr result.0 (λ e. e ≡ Short.Stopped
             → StopsPieces S.takes S.refuses (limits_of self.settings) self.capacities.items (length self.bodies.items) sink result.1) }
     {
-        if !self.is_pushed() {
-            return (Err(Short::NotPushed), sink);
-        }
-        if let Some(missing) = self.missing() {
-            return (Err(Short::NoBody(missing)), sink);
+        if let Err(why) = self.ready() {
+            return (Err(why), sink);
         }
         let clock = Since::now(rt);
         let is_timed = self.is_timed.load(Ordering::SeqCst);

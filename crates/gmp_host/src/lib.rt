@@ -2,8 +2,8 @@
 //!
 //! A `Host` takes the goroutines, the first of which is main, and runs them: `run` by machines in threads, `step` in one thread, the same
 //! every time, and `step_by` in one thread, machines and words drawn from a seed. Each tells how it `Ended`, as a legal run from the opening
-//! ended. `run_into` runs them for as long as they like, and hands the history to a `Sink` piece by piece. `search` looks for a seed whose run
-//! does not end well.
+//! ended; `step_traced`, `run_traced` and `replay` hand its trace out. `run_into` runs them for as long as they like, and hands the history to a
+//! `Sink` piece by piece. `search` looks for a seed whose run does not end well, `shortest` for the shortest such run.
 //!
 //! A `Spawner` starts goroutines while the run goes on, and hands each its body over, a `Task`, whose output it leaves in `Outputs`.
 //!
@@ -32,6 +32,8 @@ mod slots;
 mod spawner;
 mod stamps;
 mod stepping;
+mod told;
+mod traced;
 mod waits;
 
 pub use channel::Channel;
@@ -41,15 +43,17 @@ pub use gmp_chance::{Dealer, Ranked};
 pub use gmp_driver::Act;
 pub use gmp_history::History;
 pub use gmp_run::{Clock, Gate, MOST_REST, Open, Since, Sink, Stop};
-pub use gmp_seq::Outcome;
+pub use gmp_seq::{Limits, Outcome};
+pub use gmp_trace::WriteError;
 pub use gmp_waits::Waiting;
 pub use goroutine::{Go, Goroutine, Nonsense};
 pub use group::Group;
 pub use handle::Handle;
 pub use host::Host;
 pub use note::{Note, Time};
-pub use searching::{Found, search};
+pub use searching::{Found, search, shortest};
 pub use select::Select;
 pub use settings::Settings;
 pub use slots::{Slots, Typed};
 pub use spawner::{Outputs, Spawned, Spawner, Task};
+pub use traced::Traced;

@@ -1,6 +1,6 @@
 //! A search through seeds for a run that does not end well.
 ghost use Rattle.std.specs.Prelude.{IfOk};
-ghost use Rattle.gmp_host.specs.Search.{Searches};
+ghost use Rattle.gmp_host.specs.Search.{Compares, IsKept, Searches};
 
 use crate::ending::{Ended, Short};
 use std::fmt;
@@ -36,4 +36,38 @@ pub fn search<F: Fn(u64) -> Result<Ended, Short>>(
         }
     }
     Ok(None)
+}
+
+/// The shorter of what was found and this seed's run, where that did not end well.
+fn compared(least: Option<Found>, seed: u64, ended: Ended) -> Option<Found>
+    ensures { IsKept least (record { seed = seed; ended = ended }) result }
+{
+    if ended.is_well() {
+        return least;
+    }
+    match least {
+        None => Some(Found { seed, ended }),
+        Some(found) => {
+            if found.ended.entries <= ended.entries {
+                return Some(found);
+            }
+            Some(Found { seed, ended })
+        }
+    }
+}
+
+/// Runs each seed, and tells of the shortest run that does not end well: of those with the fewest entries the first.
+pub fn shortest<F: Fn(u64) -> Result<Ended, Short>>(
+    seeds: Range<u64>,
+    run: F,
+) -> Result<Option<Found>, Short>
+    requires { F.IsAlwaysCallable run }
+    ensures { IfOk result (Compares (F.post run) seeds.start seeds.end) }
+{
+    let mut least = None;
+    for seed in seeds.start..seeds.end {
+        let ended = run(seed)?;
+        least = compared(least, seed, ended);
+    }
+    Ok(least)
 }

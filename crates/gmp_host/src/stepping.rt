@@ -1,15 +1,16 @@
 //! A run by a core: one thread makes the acts of all machines, which take turns.
-ghost use Rattle.std.specs.Prelude.{◌≡◌, ◌≢◌, IfErr, IfOk, IfSome, None, OnOk, length};
+ghost use Rattle.std.specs.Prelude.{◌≡◌, ◌≢◌, IfErr, IfOk, OnOk, length, true};
 ghost use Rattle.gmp_turn.specs.Whole.{IsWholeRun};
 ghost use Rattle.gmp_host.specs.Ends.{IsOfLegalRun};
 ghost use Rattle.gmp_host.specs.Openings.{NamesNobody};
-ghost use Rattle.gmp_host.specs.Played.{EndsSo, HasNoEnd, IsPlayedOut};
+ghost use Rattle.gmp_host.specs.Played.{HasNoEnd, IsPlayedOut, IsPlayedTo};
 
 use crate::ending::{Ended, Short};
 use crate::note::Note;
-use crate::waits::waiting;
+use crate::told::{allowed, ended, kept};
 use gmp_base::{Ask, Woke};
 use gmp_core::{Outside, Player};
+use gmp_history::History;
 use gmp_seq::Limits;
 use gmp_worker::{Boxed, block_boxed, resume_boxed};
 use std::alloc::Global;
@@ -105,30 +106,36 @@ impl<T: InHand> Outside<T> for Shown {
     }
 }
 
-/// How the run, of so many bodies, ended, if it did.
-fn ended<T: InHand>(
+/// A core whose machines acted in turn until the run was over. Each choice among what can proceed was the first, and time, which `shown` shows,
+/// passed only where a machine waited for a deadline.
+fn played<T: InHand>(
     alloc: Global,
     limits: Limits,
-    bodies: usize,
     capacities: &[u32],
-    player: &Player<T, Shown>,
-) -> Option<Ended>
-    ensures some { let book = player.now.core.system.book in IfSome result (IsOfLegalRun book.limits book.capacities book.bodies) }
-    ensures so { let book = player.now.core.system.book in IfSome result (EndsSo book) }
-    ensures none { result ≡ None → player.now.core.system.book.state.outcome ≡ None }
+    bodies: Vec<T>,
+    shown: Note,
+    is_fair: bool,
+) -> Result<Player<T, Shown>, Short>
+    ensures played { IfOk result (IsPlayedTo T.resumed T.called is_fair limits capacities.now bodies.items) }
+    ensures opened { IfOk result (λ p. let book = p.core.system.book in
+        (book.limits ≡ limits) × (book.capacities ≡ capacities.now) × (book.bodies ≡ length bodies.items)) }
+    ensures whole { OnOk result (limits.room ≡ limits.entries) }
+    ensures above { IfErr result (λ e. e ≡ Short.AboveRoom → limits.room ≢ limits.entries) }
+    ensures limits { IfErr result (λ e. e ≡ Short.BadLimits → IsWholeRun limits (length bodies.items) capacities.now → ⊥) }
+    ensures memory { IfErr result (λ e. e ≡ Short.OutOfMemory → IsWholeRun limits (length bodies.items) capacities.now) }
+    ensures kinds { IfErr result (λ e. (e ≢ Short.NoEnd) × (e ≢ Short.Stopped) × (e ≢ Short.NotPushed)) }
+    ensures nobody { IfErr result NamesNobody }
 {
-    let outcome = player.outcome()?;
-    let history = player.history();
-    Some(Ended {
-        outcome,
-        entries: history.len() as u64,
-        lost: None,
-        waiting: waiting(alloc, limits, bodies, capacities, outcome, history),
-    })
+    // Also what `Player::open` tests itself: where it has no memory it doesn't say that they are in range.
+    allowed(limits, bodies.len(), capacities)?;
+    let outside = Shown::new(shown);
+    let mut player = Player::open(alloc, limits, capacities, bodies, outside, is_fair)?;
+    player.play(MOST_ACTS * u32::from(limits.machines), 0);
+    Ok(player)
 }
 
-/// Runs the bodies, of which the first is main, by a core in this thread. Its machines, which are all fair or all not, act in turn, each
-/// choice among what can proceed is the first, and time, which `shown` shows, passes only where a machine waits for a deadline: so it is the same every time.
+/// Runs the bodies, of which the first is main, by a core in this thread. Its machines, which are all fair or all not, act in turn: so it is the
+/// same every time. The history comes with the end, if it is to be kept.
 pub(crate) fn play_all<T: InHand>(
     alloc: Global,
     limits: Limits,
@@ -136,30 +143,30 @@ pub(crate) fn play_all<T: InHand>(
     bodies: Vec<T>,
     shown: Note,
     is_fair: bool,
-) -> Result<Ended, Short>
-    ensures ended { IfOk result (IsOfLegalRun limits capacities.now (length bodies.items)) }
+    keeps: bool,
+) -> Result<(Ended, History), Short>
+    ensures ended { IfOk result (λ r. (run : IsOfLegalRun limits capacities.now (length bodies.items) r.0) × (keeps ≡ true → r.1.list ≡ run.history)) }
     // The run is the one that these bodies, played in turn by machines so fair, make.
-    ensures played { IfOk result (IsPlayedOut T.resumed T.called is_fair limits capacities.now bodies.items) }
+    ensures played { IfOk result (λ r. (p : IsPlayedOut T.resumed T.called is_fair limits capacities.now bodies.items r.0) × (keeps ≡ true → r.1.list ≡ p.last.core.system.book.history)) }
     ensures endless { IfErr result (λ e. e ≡ Short.NoEnd → HasNoEnd T.resumed T.called is_fair limits capacities.now bodies.items) }
     ensures whole { OnOk result (limits.room ≡ limits.entries) }
     ensures above { IfErr result (λ e. e ≡ Short.AboveRoom → limits.room ≢ limits.entries) }
     ensures limits { IfErr result (λ e. e ≡ Short.BadLimits → IsWholeRun limits (length bodies.items) capacities.now → ⊥) }
     ensures memory { IfErr result (λ e. e ≡ Short.OutOfMemory → IsWholeRun limits (length bodies.items) capacities.now) }
-    ensures kinds { IfErr result (λ e. (e ≢ Short.Mismatch) × (e ≢ Short.Stopped) × (e ≢ Short.NotPushed)) }
+    ensures kinds { IfErr result (λ e. (e ≢ Short.Stopped) × (e ≢ Short.NotPushed)) }
     ensures nobody { IfErr result NamesNobody }
 {
-    if u64::from(limits.room) != limits.entries {
-        return Err(Short::AboveRoom);
-    }
-    // Also what `Player::open` tests itself: where it has no memory it doesn't say that they are in range.
-    if !limits.allow(bodies.len(), capacities) {
-        return Err(Short::BadLimits);
-    }
     let count = bodies.len();
-    let outside = Shown::new(shown);
-    let mut player = Player::open(alloc, limits, capacities, bodies, outside, is_fair)?;
-    player.play(MOST_ACTS * u32::from(limits.machines), 0);
-    let ended = ended(alloc, limits, count, capacities, &player);
+    let player = played(alloc, limits, capacities, bodies, shown, is_fair)?;
+    let ended = ended(
+        alloc,
+        limits,
+        count,
+        capacities,
+        player.outcome(),
+        player.history(),
+    );
+    let history = kept(alloc, player.history(), keeps);
     player.close();
-    ended.ok_or(Short::NoEnd)
+    Ok((ended?, history?))
 }

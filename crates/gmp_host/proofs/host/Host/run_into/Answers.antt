@@ -32,8 +32,8 @@ returns-clause-ended g c =
     subst (λ ran. IfOk ran (λ r. IsPiecesReport takes refuses c.limits.result c.as_slice.result.now bodies c.args.sink r mid)) c.in-Ok.is c.run_into_fair-ran.ensures.report in
     let made : c.made.result ≡ all_calls c.in-Ok.report.logs.items = c.made.ensures ∙ ap all_calls c.deref.ensures.value in
     let took : TakesLeft takes mid c.in-Ok.report.history.list sink = search (rules, tests) in
-    let ended : Ended = record { outcome = c.in-Some-outcome.outcome; entries = c.made.result; lost = c.first.result; waiting = c.new.result } in
-    let all = in_pieces takes refuses c.limits.result c.as_slice.result.now bodies c.args.sink c.in-Ok.report mid ran sink ended took (sym c.in-Some-outcome.is) made in
+    let ended : Ended = record { outcome = c.in-Some.outcome; entries = c.made.result; lost = c.first.result; waiting = c.new.result } in
+    let all = in_pieces takes refuses c.limits.result c.as_slice.result.now bodies c.args.sink c.in-Ok.report mid ran sink ended took (sym c.in-Some.is) made in
     subst (λ (limits : Limits). IsOfPieces takes limits c.args.self.capacities.items bodies c.args.sink ended sink) c.limits.ensures
     (subst (λ (capacities : List ℕ). IsOfPieces takes c.limits.result capacities bodies c.args.sink ended sink) c.as_slice.ensures.value all)
 
@@ -47,9 +47,9 @@ returns-clause-said g c =
     let given = c.args.self.bodies.items in
     let made : c.made.result ≡ all_calls c.in-Ok.report.logs.items = c.made.ensures ∙ ap all_calls c.deref.ensures.value in
     let took : TakesLeft takes mid c.in-Ok.report.history.list sink = search (rules, tests) in
-    let ended : Ended = record { outcome = c.in-Some-outcome.outcome; entries = c.made.result; lost = c.first.result; waiting = c.new.result } in
-    said_pieces takes refuses c.limits.result _ c.as_slice.result.now c.args.self.capacities.items given c.args.sink c.in-Ok.report mid sink ended c.limits.ensures c.as_slice.ensures.value
-    (of_ok _ c.run_into_fair-ran.result.0 c.in-Ok.report c.in-Ok.is c.run_into_fair-ran.ensures.says) took (sym c.in-Some-outcome.is) made
+    let ended : Ended = record { outcome = c.in-Some.outcome; entries = c.made.result; lost = c.first.result; waiting = c.new.result } in
+    said_pieces takes refuses c.limits.result _ c.as_slice.result.now c.args.self.capacities.items given c.args.sink c.in-Ok.report mid sink ended 0 c.args.self.settings.fair c.limits.ensures c.as_slice.ensures.value
+    (of_ok _ c.run_into_fair-ran.result.0 c.in-Ok.report c.in-Ok.is c.run_into_fair-ran.ensures.says) took (sym c.in-Some.is) made
 
 -- a piece was left
 pub returns-in_default-outcome-clause-stopped : goal.returns-in_default-outcome-clause-stopped
@@ -77,6 +77,6 @@ returns-then-is_err-clause-stopped g c is =
     subst (λ ran. IfOk ran (λ r. IsPiecesReport takes refuses c.limits.result c.as_slice.result.now bodies c.args.sink r mid)) c.in-Ok.is c.run_into_fair-ran.ensures.report in
     let refused : refuses mid c.in-Ok.report.history.list sink = search (rules, tests) in
     let some : c.in-Ok.report.history.list ≢ [] = search (rules, tests) in
-    let all = stopped_at_last takes refuses c.limits.result c.as_slice.result.now bodies c.args.sink c.in-Ok.report mid ran sink c.in-Some-outcome.outcome c.in-Some-outcome.is refused some in
+    let all = stopped_at_last takes refuses c.limits.result c.as_slice.result.now bodies c.args.sink c.in-Ok.report mid ran sink c.in-Some.outcome c.in-Some.is refused some in
     subst (λ (limits : Limits). StopsPieces takes refuses limits c.args.self.capacities.items bodies c.args.sink sink) c.limits.ensures
     (subst (λ (capacities : List ℕ). StopsPieces takes refuses c.limits.result capacities bodies c.args.sink sink) c.as_slice.ensures.value all)

@@ -1,5 +1,5 @@
 use Rattle.std.proofs.Common.{◌≡◌}
-use Rattle.gmp_host.proofs.drawing.copied.Given as goal
+use Rattle.gmp_host.proofs.told.copied.Given as goal
 
 -- the entries so far
 abbrev pub invariant-loop-entry : goal.invariant-loop-entry

@@ -1,0 +1,82 @@
+-- What a run by a core, and its trace, are told of.
+use Rattle.std.proofs.Common.{◌≡◌, ℕ, Bool, true, List, Result, Ok, Err, IfOk, IfErr, Some, length, ap, refl, sym, subst, ◌∙◌}
+use Rattle.gmp_base.specs.declared.ask.Ask.{Ask}
+use Rattle.gmp_base.specs.declared.ask.Woke.{Woke}
+use Rattle.gmp_seq.specs.declared.call.Entry.{Entry}
+use Rattle.gmp_seq.specs.declared.call.Limits.{Limits}
+use Rattle.gmp_seq.specs.Fits.{AreLimits}
+use Rattle.gmp_seq.specs.Run.{IsLegal}
+use Rattle.gmp_acts.specs.System.{BookRun}
+use Rattle.gmp_said.specs.Said.{AreSaid, Blocks, Resumes}
+use Rattle.gmp_host.specs.declared.ending.Ended.{Ended}
+use Rattle.gmp_host.specs.declared.traced.Traced.{Traced}
+use Rattle.gmp_host.specs.Ends.{IsOfLegalRun, IsSaidRun}
+use Rattle.gmp_host.specs.Played.{HasNoDrawnEnd, IsDrawnOut, IsPlayedOut}
+use Rattle.gmp_host.specs.Traced.{IsSaidTrace, IsTraced}
+
+-- Results
+
+pub ok_map : {A E : Type 0} (P Q : A → Type 0) (r : Result A E) → IfOk r P → ((x : A) → P x → Q x) → IfOk r Q
+ok_map P Q (Ok x) p so = so x p
+ok_map P Q (Err e) p so = tt
+
+pub err_of : {A E : Type 0} (P : E → Type 0) (x : E) (r : Result A E) → IfErr r (λ (e : E). e ≡ x) → P x → IfErr r P
+err_of P x (Ok a) same p = tt
+err_of P x (Err e) same p = subst P (sym same) p
+
+-- The run of a book
+
+module _ (limits : Limits) (capacities : List ℕ) (bodies : ℕ) (book : BookRun) (ended : Ended) (opened : (book.limits ≡ limits) × (book.capacities ≡ capacities) × (book.bodies ≡ bodies))
+    (legal : IsLegal book.limits book.bodies book.capacities book.history book.state) (within : AreLimits book.limits book.bodies book.capacities)
+    (outcome : book.state.outcome ≡ Some ended.outcome) (entries : length book.history ≡ ended.entries) where
+  -- it is one from this opening, and this is its history
+  pub legal_told : (run : IsOfLegalRun limits capacities bodies ended) × (run.history ≡ book.history)
+  legal_told =
+      subst (λ (l : Limits). (run : IsOfLegalRun l capacities bodies ended) × (run.history ≡ book.history)) opened.0
+      (subst (λ (cs : List ℕ). (run : IsOfLegalRun book.limits cs bodies ended) × (run.history ≡ book.history)) opened.1
+      (subst (λ (n : ℕ). (run : IsOfLegalRun book.limits book.capacities n ended) × (run.history ≡ book.history)) opened.2
+      (record { history = book.history; last = book.state; legal = legal; outcome = outcome; entries = entries; within = within }, refl)))
+
+-- The same told again, of limits and capacities that are these, and of an end that differs in who is lost
+
+module _ (limits limits' : Limits) (capacities capacities' : List ℕ) (limits_are : limits ≡ limits') (capacities_are : capacities ≡ capacities') (ended ended' : Ended) (outcome : ended.outcome ≡ ended'.outcome) (entries : ended.entries ≡ ended'.entries) where
+  pub run_again : (bodies : ℕ) (run : IsOfLegalRun limits capacities bodies ended) → (again : IsOfLegalRun limits' capacities' bodies ended') × (again.history ≡ run.history)
+  run_again bodies run =
+      subst (λ (l : Limits). (again : IsOfLegalRun l capacities' bodies ended') × (again.history ≡ run.history)) limits_are
+      (subst (λ (cs : List ℕ). (again : IsOfLegalRun limits cs bodies ended') × (again.history ≡ run.history)) capacities_are
+      (record { history = run.history; last = run.last; legal = run.legal; outcome = run.outcome ∙ ap Some outcome; entries = run.entries ∙ entries; within = run.within }, refl))
+
+  pub played_again : {T : Type 0} (resumed : T → Woke → Ask → T → Type 0) (called : T → ℕ → T → Type 0) (is_fair : Bool) (bodies : List T) (history : List Entry) (Keeps : Type 0)
+      → ((p : IsPlayedOut resumed called is_fair limits capacities bodies ended) × (Keeps → history ≡ p.last.core.system.book.history))
+      → (p : IsPlayedOut resumed called is_fair limits' capacities' bodies ended') × (Keeps → history ≡ p.last.core.system.book.history)
+  played_again resumed called is_fair bodies history Keeps p =
+      subst (λ (l : Limits). (p : IsPlayedOut resumed called is_fair l capacities' bodies ended') × (Keeps → history ≡ p.last.core.system.book.history)) limits_are
+      (subst (λ (cs : List ℕ). (p : IsPlayedOut resumed called is_fair limits cs bodies ended') × (Keeps → history ≡ p.last.core.system.book.history)) capacities_are
+      (record { last = p.0.last; played = p.0.played; ends = record { outcome = p.0.ends.outcome ∙ ap Some outcome; entries = p.0.ends.entries ∙ entries } }, p.1))
+
+  pub drawn_again : {T D : Type 0} (resumed : T → Woke → Ask → T → Type 0) (called : T → ℕ → T → Type 0) (deals : D → List ℕ → ℕ → ℕ → D → Type 0) (dealer : D) (is_fair : Bool) (bodies : List T) (history : List Entry) (Keeps : Type 0)
+      → ((d : IsDrawnOut resumed called deals dealer is_fair limits capacities bodies ended) × (Keeps → history ≡ d.last.core.system.book.history))
+      → (d : IsDrawnOut resumed called deals dealer is_fair limits' capacities' bodies ended') × (Keeps → history ≡ d.last.core.system.book.history)
+  drawn_again resumed called deals dealer is_fair bodies history Keeps d =
+      subst (λ (l : Limits). (d : IsDrawnOut resumed called deals dealer is_fair l capacities' bodies ended') × (Keeps → history ≡ d.last.core.system.book.history)) limits_are
+      (subst (λ (cs : List ℕ). (d : IsDrawnOut resumed called deals dealer is_fair limits cs bodies ended') × (Keeps → history ≡ d.last.core.system.book.history)) capacities_are
+      (record { last = d.0.last; drawn = d.0.drawn; ends = record { outcome = d.0.ends.outcome ∙ ap Some outcome; entries = d.0.ends.entries ∙ entries } }, d.1))
+
+-- and that it came to no outcome
+pub drawn_end : {T D : Type 0} (limits limits' : Limits) (capacities capacities' : List ℕ) → limits ≡ limits' → capacities ≡ capacities' → (resumed : T → Woke → Ask → T → Type 0) (called : T → ℕ → T → Type 0) (deals : D → List ℕ → ℕ → ℕ → D → Type 0) (dealer : D) (is_fair : Bool) (bodies : List T)
+    → HasNoDrawnEnd resumed called deals dealer is_fair limits capacities bodies → HasNoDrawnEnd resumed called deals dealer is_fair limits' capacities' bodies
+drawn_end limits limits' capacities capacities' limits_are capacities_are resumed called deals dealer is_fair bodies end =
+    subst (λ (l : Limits). HasNoDrawnEnd resumed called deals dealer is_fair l capacities' bodies) limits_are
+    (subst (λ (cs : List ℕ). HasNoDrawnEnd resumed called deals dealer is_fair limits cs bodies) capacities_are end)
+
+-- With its trace
+
+-- it is the trace of this run
+pub traced_of : (limits : Limits) (capacities : List ℕ) (bodies : ℕ) (t : Traced) (run : IsOfLegalRun limits capacities bodies t.ended) → t.history.list ≡ run.history → t.limits ≡ limits → t.capacities.items ≡ capacities → t.bodies ≡ bodies
+    → IsTraced limits capacities bodies t
+traced_of limits capacities bodies t run history limits_are capacities_are bodies_are = record { run = run; history = history; limits_are = limits_are; capacities_are = capacities_are; bodies_are = bodies_are }
+
+-- what the trace says was said is what was said in the run
+pub said_run : {T : Type 0} (resumes : Resumes T) (blocks : Blocks T) (limits : Limits) (capacities : List ℕ) (given : List T) (t : Traced) → IsTraced limits capacities (length given) t → IsSaidTrace resumes blocks limits capacities given t
+    → IsSaidRun resumes blocks limits capacities given t.ended
+said_run resumes blocks limits capacities given t traced (back, said) = (traced.run, back, subst (λ (h : List Entry). AreSaid resumes blocks limits capacities given h back) traced.history said)

@@ -1,0 +1,38 @@
+use Rattle.std.proofs.Common.{◌≡◌, ◌∙◌, IfErr, ap, length, rules, sym, tests}
+use Rattle.gmp_host.specs.declared.ending.Short.TheVariants as short
+use Rattle.gmp_host.specs.Played.{HasNoEnd}
+use Rattle.gmp_host.proofs.Again.{err_of, legal_told}
+use Rattle.gmp_host.proofs.stepping.play_all.Goals as goal
+
+-- the run came to no outcome
+pub returns-in_err-ended-clause-endless : goal.returns-in_err-ended-clause-endless
+returns-in_err-ended-clause-endless g c =
+    let none = c.in_err-ended.ensures.none in
+    let same : IfErr c.from_residual-in_err-ended.result (λ e. e ≡ c.in_err-ended.field-0.0) = search (rules, tests) in
+    let end : HasNoEnd g.T.InHand.resumed g.T.InHand.called c.args.is_fair c.args.limits c.args.capacities.now c.args.bodies.items = record { last = c.in_ok-player.player; played = c.in_ok-player.ensures.played; none = sym c.outcome.ensures ∙ none.1 } in
+    err_of (λ e. e ≡ short.NoEnd → HasNoEnd g.T.InHand.resumed g.T.InHand.called c.args.is_fair c.args.limits c.args.capacities.now c.args.bodies.items) c.in_err-ended.field-0.0 c.from_residual-in_err-ended.result same (λ _. end)
+
+pub returns-in_err-ended-clause-limits : goal.returns-in_err-ended-clause-limits
+returns-in_err-ended-clause-limits g c =
+    let none = c.in_err-ended.ensures.none.0 in
+    let same : IfErr c.from_residual-in_err-ended.result (λ e. e ≡ c.in_err-ended.field-0.0) = search (rules, tests) in
+    err_of (λ e. e ≡ short.BadLimits → _ → ⊥) c.in_err-ended.field-0.0 c.from_residual-in_err-ended.result same (λ bad. cc)
+
+-- it is legal, and its history is kept
+pub returns-clause-ended : goal.returns-clause-ended
+returns-clause-ended g c =
+    let book = c.in_ok-player.player.core.system.book in
+    let entries = ap (λ h. length h) (sym c.history.ensures.entries) ∙ c.in_ok-ended.ensures.entries in
+    let told = legal_told c.args.limits c.args.capacities.now (length c.args.bodies.items) book c.in_ok-ended.field-0 c.in_ok-player.ensures.opened c.history.ensures.headline.legal c.history.ensures.within
+    (sym c.outcome.ensures ∙ c.in_ok-ended.ensures.outcome) entries in
+    (told.0, λ keeps. c.in_ok-history.ensures keeps ∙ (c.history-2.ensures.entries ∙ sym told.1))
+
+pub returns-clause-played : goal.returns-clause-played
+returns-clause-played g c = (
+  record {
+    last = c.in_ok-player.player;
+    played = c.in_ok-player.ensures.played;
+    ends = record { outcome = sym c.outcome.ensures ∙ c.in_ok-ended.ensures.outcome; entries = ap (λ h. length h) (sym c.history.ensures.entries) ∙ c.in_ok-ended.ensures.entries };
+  },
+  λ keeps. c.in_ok-history.ensures keeps ∙ c.history-2.ensures.entries,
+)
