@@ -82,6 +82,11 @@ never why (l ∷ ls) none e = by l.test e (never why ls none.1) where
 over_is : (o : Option Outcome) (stopped : Bool) → o ≡ None → stopped ≡ false → (is_some o || stopped) ≡ false
 over_is o stopped none goes = rw (none, goes) refl
 
+-- a run that is not over has no outcome
+lasts_so : (o : Option Outcome) (stopped : Bool) → (is_some o || stopped) ≡ false → o ≡ None
+lasts_so None stopped e = refl
+lasts_so (Some x) stopped e = absurd (false≢true (sym e))
+
 module _ (log : Log) (pass : Pass) (c : Call) (values : Handed) where
   not_memory : refusal_of log pass c values ≡ Some refusal.OutOfMemory → ⊥
   not_memory = never refusal.OutOfMemory (turn_lines log pass values ++ need_lines log.state pass.m c values ++ room_lines log)
@@ -256,7 +261,8 @@ module _ {T Q : Type 0} (resumes : Resumes T) (blocks : Blocks T) (given_bodies 
       let hands : plain x'.hand ≡ hand_refused asked why (plain x.hand) = ap (λ (y : PlainMachine). y.hand) down in
       let own = own_owns t.before.m.0 its in
       let pass = passes resumes blocks x x' t.before.m asked why book.log.limits book.log.state is fits (seen (record (plain_machine x) { hand = hand_refused asked why (plain x.hand) })) goes hands book.bodies kept' heard.speakers own_mine (is_over book.log) heard.inside own.0.0
-      (wants_so book.log t.before asked _ (WantsMemory book.log.limits asked book.log.state) why t.refused) in
+      (λ out. let so = wants_so book.log t.before asked _ (WantsMemory book.log.limits asked book.log.state) why t.refused out in
+      (so.0, lasts_so book.log.state.outcome book.log.stopped so.0, so.1)) in
       let says = says_on resumes blocks book.log.limits book.log.capacities given_bodies h book.log.state heard.speakers pass.0 heard.said pass.1 pass.2 pass.3 in
       let numbers = refused_numbers asked why (plain x.hand) in
       subst (λ (b : BookContents T Q). Now b.log b.bodies h) (sym t.err.0)

@@ -122,7 +122,7 @@ pub fn run_into<R: Threads + Wait + Sync, C: Clock + Sync, G: Gate + Sync, S: Si
     ensures report { IfOk result.0 (λ r. IsPiecesReport S.takes S.refuses limits capacities.now (length bodies.items) sink r result.1) }
     ensures of { IfOk result.0 (λ r. IsPiecesReportOf run false S.takes S.refuses limits capacities.now (length bodies.items) sink r result.1) }
     ensures bodies { IfOk result.0 (λ r. AllLedFrom (λ b woke ask c. (left : _) × (c ≡ record b { value = left }) × resumed b woke ask left) (λ b number c. (left : _) × (c ≡ record b { value = left }) × blocked b number left) bodies.items r.bodies.items) }
-    ensures says { IfOk result.0 (λ r. SaysPieces (λ b woke ask c. (left : _) × (c ≡ record b { value = left }) × resumed b woke ask left) (λ b number c. (left : _) × (c ≡ record b { value = left }) × blocked b number left) S.takes S.refuses limits capacities.now bodies.items sink r result.1) }
+    ensures says { IfOk result.0 (λ r. SaysPieces run false (λ b woke ask c. (left : _) × (c ≡ record b { value = left }) × resumed b woke ask left) (λ b number c. (left : _) × (c ≡ record b { value = left }) × blocked b number left) S.takes S.refuses limits capacities.now bodies.items sink r result.1) }
     ensures why { IfErr result.0 (λ u. WhyUnrun (AreLimits limits (length bodies.items) capacities.now) u.why) }
     ensures back { IfErr result.0 (λ u. u.bodies.items ≡ bodies.items) }
     ensures unused { OnErr result.0 (result.1 ≡ sink) }
@@ -155,7 +155,7 @@ pub fn run_into_fair<
     ensures report { IfOk result.0 (λ r. IsPiecesReport S.takes S.refuses limits capacities.now (length bodies.items) sink r result.1) }
     ensures of { IfOk result.0 (λ r. IsPiecesReportOf run is_fair S.takes S.refuses limits capacities.now (length bodies.items) sink r result.1) }
     ensures bodies { IfOk result.0 (λ r. AllLedFrom T.resumes T.blocks bodies.items r.bodies.items) }
-    ensures says { IfOk result.0 (λ r. SaysPieces T.resumes T.blocks S.takes S.refuses limits capacities.now bodies.items sink r result.1) }
+    ensures says { IfOk result.0 (λ r. SaysPieces run is_fair T.resumes T.blocks S.takes S.refuses limits capacities.now bodies.items sink r result.1) }
     ensures why { IfErr result.0 (λ u. WhyUnrun (AreLimits limits (length bodies.items) capacities.now) u.why) }
     ensures back { IfErr result.0 (λ u. u.bodies.items ≡ bodies.items) }
     ensures unused { OnErr result.0 (result.1 ≡ sink) }
@@ -211,7 +211,7 @@ fn run_as<
     ensures report { IfOk result.0 (λ r. IsPiecesReport S.takes S.refuses limits capacities.now (length bodies.items) sink r result.1) }
     ensures of { IfOk result.0 (λ r. IsPiecesReportOf run is_fair S.takes S.refuses limits capacities.now (length bodies.items) sink r result.1) }
     ensures bodies { IfOk result.0 (λ r. AllLedFrom T.resumes T.blocks bodies.items r.bodies.items) }
-    ensures says { IfOk result.0 (λ r. SaysPieces T.resumes T.blocks S.takes S.refuses limits capacities.now bodies.items sink r result.1) }
+    ensures says { IfOk result.0 (λ r. SaysPieces run is_fair T.resumes T.blocks S.takes S.refuses limits capacities.now bodies.items sink r result.1) }
     ensures why { IfErr result.0 (λ u. WhyUnrun (AreLimits limits (length bodies.items) capacities.now) u.why) }
     ensures back { IfErr result.0 (λ u. u.bodies.items ≡ bodies.items) }
     ensures unused { OnErr result.0 (result.1 ≡ sink) }

@@ -88,7 +88,7 @@ module _ {T : Type 0} (resumes : Resumes T) (blocks : Blocks T) {Q : Type 0} (x 
     (goes : x'.place ≡ next_place z x.place (told.Refused why)) (hands : plain x'.hand ≡ hand_refused c why (plain x.hand)) (places : List (Option T)) (kept : KeepsValues (body_in x.hand) (body_in x'.hand) places places)
     (speakers : List (Speaker T)) (stand : HandStands resumes blocks speakers x.place x.hand) (over : Bool) (inside : AreInside resumes blocks over s.table speakers places)
     (runs : (g : GNo) → held_number x.hand.held ≡ Some g → IsRunning s.table g m)
-    (wants : why ≡ refusal.OutOfMemory → (over ≡ false) × WantsMemory limits c s) where
+    (wants : why ≡ refusal.OutOfMemory → (over ≡ false) × (s.outcome ≡ None) × WantsMemory limits c s) where
   abbrev pub Passes : Type 0
   Passes = (now : List (Speaker T)) × (turns : List (Option Entry)) × (entries_of turns ≡ []) × RunsTurns resumes blocks limits s speakers turns s now
       × Turned resumes blocks x.place x'.place x.hand x'.hand places places kept speakers over s.table now
@@ -108,8 +108,8 @@ module _ {T : Type 0} (resumes : Resumes T) (blocks : Blocks T) {Q : Type 0} (x 
   told_same hand i = sym (plain_woke x'.hand i) ∙ (ap (λ (h : PlainHand). woke_in h i) hand ∙ plain_woke x.hand i)
 
   -- the make was refused
-  unmade : (capacity : ℕ) → x.place ≡ place.Do (ask.Make capacity) → c ≡ call.Make capacity → x'.place ≡ place.Run → (plain x'.hand ≡ hand_unmade (plain x.hand)) → over ≡ false → WantsMemory limits c s → Passes
-  unmade capacity at calls_it there hand lasts wanted = by (some_is x.hand.held at_do.has_held) where
+  unmade : (capacity : ℕ) → x.place ≡ place.Do (ask.Make capacity) → c ≡ call.Make capacity → x'.place ≡ place.Run → (plain x'.hand ≡ hand_unmade (plain x.hand)) → over ≡ false → s.outcome ≡ None → WantsMemory limits c s → Passes
+  unmade capacity at calls_it there hand lasts none wanted = by (some_is x.hand.held at_do.has_held) where
     at_do : SuitsPlace (place.Do (ask.Make capacity)) x.hand
     at_do = subst (λ (p : Place). SuitsPlace p x.hand) at fits
 
@@ -145,6 +145,7 @@ module _ {T : Type 0} (resumes : Resumes T) (blocks : Blocks T) {Q : Type 0} (x 
           (
             slice_set speakers h.g.0 q',
             record {
+              lasts = none;
               m = m;
               g = h.g;
               runs = runs h.g (ap held_number held);
@@ -171,7 +172,7 @@ module _ {T : Type 0} (resumes : Resumes T) (blocks : Blocks T) {Q : Type 0} (x 
     by (inl (there, hand)) =
         same (hands ∙ hand) (λ i q b stands.
         inr (subst IsEnd (sym (goes ∙ there)) tt, subst (λ (w : Option Woke). StandsLast resumes blocks w q b) (sym (told_same (hands ∙ hand) i)) (last_of resumes blocks x.place (woke_in x.hand i) q b stands)))
-    by (inr (inl (capacity, at, out_of, calls_it, there, hand))) = unmade capacity at calls_it (goes ∙ there) (hands ∙ hand) (wants out_of).0 (wants out_of).1
+    by (inr (inl (capacity, at, out_of, calls_it, there, hand))) = unmade capacity at calls_it (goes ∙ there) (hands ∙ hand) (wants out_of).0 (wants out_of).1 (wants out_of).2
     by (inr (inr (inl (there, hand)))) =
         same (hands ∙ hand) (λ i q b stands. subst (λ (p : Place). StandsSo resumes blocks p (woke_in x'.hand i) q b) (sym (goes ∙ there))
         (subst (λ (w : Option Woke). StandsSo resumes blocks x.place w q b) (sym (told_same (hands ∙ hand) i)) stands))

@@ -90,8 +90,9 @@ module _ {T : Type 0} (resumes : Resumes T) (blocks : Blocks T) where
   LeadsSpeakers m (call.Tick moment) answer t old new = new ≡ old
   LeadsSpeakers m what answer t old new = AsksFor m what answer t old new
 
-  -- a goroutine that a machine runs asks for a make that wants memory, and is to be told that there is none
+  -- while the run lasts, a goroutine that a machine runs asks for a make that wants memory, and is to be told that there is none
   pub record PassesMake (limits : Limits) (s : State) (old new : List (Speaker T)) : Type 0 where
+    pub lasts : s.outcome ≡ None
     pub m : MNo
     pub g : GNo
     pub runs : IsRunning s.table g m

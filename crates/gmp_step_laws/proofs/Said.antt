@@ -1,5 +1,5 @@
 -- What a script's bodies said is a run of the script, but that they pass over the makes that were refused.
-use Rattle.std.proofs.Common.{◌≡◌, ℕ, zero, suc, List, [], ◌∷◌, Option, None, Some, length, map, set, slice_get, slice_set, refl, sym, ap, subst, ◌∙◌}
+use Rattle.std.proofs.Common.{◌≡◌, ℕ, zero, suc, List, [], ◌∷◌, Option, None, Some, length, map, slice_get, slice_set, refl, sym, ap, subst, ◌∙◌}
 use Rattle.std.proofs.lemmas.List.{length-map}
 use Rattle.std.proofs.lemmas.Option.{slice_get-map}
 use Rattle.std.specs.Option.{option_map}
@@ -15,7 +15,7 @@ use Rattle.gmp_seq.specs.declared.call.Reply.{Reply}
 use Rattle.gmp_seq.specs.State.{State, opening}
 use Rattle.gmp_seq.specs.Table.{Table}
 use Rattle.gmp_script.specs.Script.{AsksNext, Commands, asked_last}
-use Rattle.gmp_scene.specs.Scripted.{AsksFor, LeadsBodies}
+use Rattle.gmp_scene.specs.Scripted.{LeadsBodies}
 use Rattle.gmp_said.specs.Said as said
 use Rattle.gmp_said.specs.Said.{Blocks, IsSaid, LeadsSpeakers, Resumes, Speaker, TakesUp, unheard}
 use Rattle.gmp_step_laws.specs.Refused.{IsRunButMakes, PassesMake, RunsTurns, entries_of}

@@ -12,4 +12,4 @@ pub returns-clause-says : goal.returns-clause-says
 returns-clause-says g c =
     let whole : c.args.limits.room ≡ c.args.limits.entries = search (rules, tests) in
     let ran = c.run_into_fair-ran in
-    whole_said _ _ _ _ c.args.limits c.args.capacities.now c.args.bodies.items _ _ ran.result.0 whole ran.ensures.says
+    whole_said _ _ _ _ c.args.limits c.args.capacities.now c.args.bodies.items _ _ c.args.run c.args.is_fair ran.result.0 whole ran.ensures.says
