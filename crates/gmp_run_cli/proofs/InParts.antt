@@ -1,6 +1,6 @@
 -- What is written of a run in segments.
 use Rattle.std.specs.Prelude.{is_none}
-use Rattle.std.proofs.Common.{◌≡◌, ◌≢◌, ◌++◌, ◌+◌, ◌∙◌, ℕ, List, Option, None, Result, Ok, Err, IfOk, IfErr, true, refl, sym, ap, subst, arith, length}
+use Rattle.std.proofs.Common.{◌≡◌, ◌≢◌, ◌++◌, ◌∙◌, ℕ, List, Option, None, Result, Ok, Err, IfOk, IfErr, true, refl, sym, ap, subst, arith, length}
 use Rattle.std.proofs.lemmas.Bool.{false≢true}
 use Rattle.std.specs.Io.KnownBytes.{Appends}
 use Rattle.gmp_seq.specs.declared.call.Limits.{Limits}

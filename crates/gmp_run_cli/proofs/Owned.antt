@@ -1,5 +1,5 @@
 -- What bodies of a script said, each its own.
-use Rattle.std.proofs.Common.{◌≡◌, ℕ, List, [], ◌∷◌, ◌++◌, Result, Ok, Err, IfOk, length, map, refl, sym, ap, subst, ◌∙◌}
+use Rattle.std.proofs.Common.{Bool, ◌≡◌, ℕ, List, [], ◌∷◌, ◌++◌, Result, Ok, Err, IfOk, length, map, refl, ap, subst, ◌∙◌}
 use Rattle.std.proofs.lemmas.List.{length-map}
 use Rattle.std.proofs.Math.Logic.{∥∥₁_map}
 use Rattle.gmp_base.specs.declared.ask.Ask.{Ask}
@@ -53,8 +53,8 @@ module _ (limits : Limits) (capacities : List ℕ) (script : List Commands) (own
   run_said (Ok r) said = said_by r.history.list r.bodies.items said
   run_said (Err u) said = tt
 
-  pub pieces_said : {S E : Type 0} (takes refuses : S → List Entry → S → Type 0) (began sink : S) (ran : Result (Report OwnBody) E)
-      → IfOk ran (λ (r : Report OwnBody). SaysPieces asks brings takes refuses limits capacities owned began r sink)
+  pub pieces_said : {S E : Type 0} (takes refuses : S → List Entry → S → Type 0) (began sink : S) (run : ℕ) (is_fair : Bool) (ran : Result (Report OwnBody) E)
+      → IfOk ran (λ (r : Report OwnBody). SaysPieces run is_fair asks brings takes refuses limits capacities owned began r sink)
       → IfOk ran (λ (r : Report OwnBody). (p : IsPiecesReport takes refuses limits capacities (length owned) began r sink) × IsOfScriptButMakes limits capacities script (joined p.pieces ++ r.history.list))
-  pieces_said takes refuses began sink (Ok r) said = (said.0, said_by (joined said.0.pieces ++ r.history.list) r.bodies.items said.1)
-  pieces_said takes refuses began sink (Err u) said = tt
+  pieces_said takes refuses began sink run is_fair (Ok r) said = (said.0.0, said_by (joined said.0.0.pieces ++ r.history.list) r.bodies.items said.1)
+  pieces_said takes refuses began sink run is_fair (Err u) said = tt

@@ -1,10 +1,11 @@
 -- What `run` writes.
-use Rattle.std.specs.Prelude.{◌≡◌, ◌≢◌, ℕ, Bool, true, List, Option, IfSome, length}
+use Rattle.std.specs.Prelude.{◌≡◌, ◌≢◌, ℕ, All, Bool, true, List, Option, IfSome, length}
 use Rattle.gmp_trace.specs.declared.trace.End.TheVariants.{Running}
 use Rattle.gmp_trace.specs.HasText.{HasText}
 use Rattle.gmp_trace.specs.Text.{Content}
 use Rattle.gmp_script.specs.Lines.{lines, IsScript}
 use Rattle.gmp_script.specs.Script.{Commands}
+use Rattle.gmp_step_laws.specs.Refused.{HasNoMake}
 use Rattle.gmp_words.specs.declared.options.Settings.{Settings}
 use Rattle.gmp_words.specs.declared.said.Said.{Said}
 use Rattle.gmp_words.specs.declared.said.Said.TheVariants as said
@@ -32,6 +33,14 @@ pub record WritesReport (s : Settings) (input : Option (List ℕ)) (status : ℕ
   pub bodies : List Commands
   pub script : IfSome input (λ all. IsScript (lines all) capacities readings bodies)
   pub writes : WritesTraceOrSummary s capacities bodies status old new
+
+-- a goroutine of the script that was read makes a channel
+pub record HasMakes (all : List ℕ) : Type 0 where
+  pub capacities : List ℕ
+  pub readings : List ℕ
+  pub bodies : List Commands
+  pub script : IsScript (lines all) capacities readings bodies
+  pub some : ¬ (All HasNoMake bodies)
 
 -- what may be said by `run`
 abbrev pub is_of_threads : Said → Bool

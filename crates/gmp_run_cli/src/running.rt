@@ -6,7 +6,8 @@ ghost use Rattle.gmp_script.specs.Lines.{lines, IsFirstBadLine};
 ghost use Rattle.gmp_words.specs.declared.said.Said.TheVariants.{BadLine, BadLimits, InputTooLong, Mismatch, NoRun, Nothing, OutOfMemory, OutputFailed};
 ghost use Rattle.gmp_words.specs.Said.{is_of_input};
 ghost use Rattle.gmp_words.specs.Runs.{IsOutOfLimits, IsWithinLimits, limits_of};
-ghost use Rattle.gmp_run_cli.specs.Runs.{WritesReport, WritesTraceOrSummary, is_of_threads};
+ghost use Rattle.gmp_run_cli.specs.Runs.{HasMakes, WritesReport, WritesTraceOrSummary, is_of_threads};
+ghost use Rattle.gmp_step_laws.specs.Refused.{HasNoMake};
 ghost use Rattle.gmp_run_cli.specs.Told.{is_of_report};
 ghost use Rattle.gmp_seq.specs.Fits.{AreLimits};
 
@@ -70,6 +71,7 @@ fn threaded<H: Threads + Wait + Sync, W: Write, C: Clock + Sync>(
     ensures kinds { is_of_report result.said ≡ true }
     ensures quiet { result.said ≢ Nothing → result.said ≢ OutputFailed → result.said ≢ OutOfMemory → W.contents writer.new ≡ W.contents writer.old }
     ensures audit { result.said ≡ NoRun → (settings.now.scripted ≡ true) × AreLimits (limits_of settings.now) (length script.bodies.items) script.capacities.items }
+    ensures makes { result.said ≡ NoRun → ¬ (All HasNoMake script.bodies.items) }
     ensures mismatch { (m : MNo) → result.said ≢ Mismatch m }
     ensures limits { result.said ≡ BadLimits → ¬ (AreLimits (limits_of settings.now) (length script.bodies.items) script.capacities.items) }
     ensures failed { result.said ≡ OutputFailed → AreLimits (limits_of settings.now) (length script.bodies.items) script.capacities.items }
@@ -103,8 +105,8 @@ fn threaded<H: Threads + Wait + Sync, W: Write, C: Clock + Sync>(
 }
 
 /// Reads a script, runs its bodies by machines in threads, audits the run, and writes its trace or its summary, as the settings say.
-/// The run is one of the script's, so what no run of it has (`gmp explore`), this one hasn't, where memory refused no make. Where the settings
-/// ask for it, the audit shows that as well.
+/// The run is one of the script's, so what no run of it has (`gmp explore`), this one hasn't, where no make is refused. Where the settings ask
+/// for it, the audit shows that as well; it fails of no script without makes.
 ///
 /// It ends with what is wrong where something is: the input, the script's first bad line, the limits, the audit, the output, or memory. The
 /// script's readings of the clock are passed over. Where main waits for good among goroutines that go on for good, the run ends once the
@@ -127,6 +129,9 @@ pub fn run<H: Threads + Wait + Sync, R: Read, W: Write, C: Clock + Sync>(
     // No run is said to be none of its script where nobody asks.
     ensures audit { result.said ≡ NoRun
         → (settings.now.scripted ≡ true) × IfSome (R.remaining reader.old) (λ all. IsWithinLimits (limits_of settings.now) all) }
+
+    // Nor of a script that makes no channel: what it does is what is run.
+    ensures makes { result.said ≡ NoRun → IfSome (R.remaining reader.old) HasMakes }
 
     // No machine is found to have another count than its entries.
     ensures mismatch { (m : MNo) → result.said ≢ Mismatch m }

@@ -4,7 +4,7 @@ use Rattle.gmp_seq.specs.declared.call.Limits.{Limits}
 use Rattle.gmp_script.specs.Script.{Commands}
 use Rattle.gmp_said.specs.Said.{AreSaid}
 use Rattle.gmp_words.specs.Runs.{limits_of}
-use Rattle.gmp_run_cli.proofs.Held.{none_where, of_lent, of_script_where}
+use Rattle.gmp_run_cli.proofs.Held.{made_where, none_where, of_lent, of_script_where}
 use Rattle.gmp_run_cli.proofs.Owned.{asks, brings, length_own, run_said}
 use Rattle.gmp_run_cli.proofs.Written.{agreed, out, tried_last, wrote}
 use Rattle.gmp_run_cli.proofs.running.threaded.Given.{Over}
@@ -39,6 +39,13 @@ pub returns-clause-audit : goal.returns-clause-audit
 returns-clause-audit g c =
     let are : option_map (λ s. s.now) c.lent-against.result ≡ (if c.args.settings.now.scripted then Some c.args.script.bodies.items else None) = search rules in
     none_where c.args.settings.now c.args.script.capacities.items _ c.args.script.bodies.items c.lent-against.result c.told.result.said c.run_fair-ran.result (counted g c) are (search rules) (search rules) c.told.ensures.unrun (search rules)
+
+-- and of no script without makes
+pub returns-clause-makes : goal.returns-clause-makes
+returns-clause-makes g c =
+    let are : option_map (λ s. s.now) c.lent-against.result ≡ (if c.args.settings.now.scripted then Some c.args.script.bodies.items else None) = search rules in
+    let by_script = run_said (limits_of c.args.settings.now) c.args.script.capacities.items c.args.script.bodies.items c.in-Ok-owned.owned.items (search rules) c.run_fair-ran.result (said_in g c) in
+    made_where c.args.settings.now c.args.script.capacities.items _ c.args.script.bodies.items c.lent-against.result c.told.result.said c.run_fair-ran.result (counted g c) are (search rules) (search rules) c.told.ensures.unrun (search rules) by_script
 
 pub returns-clause-limits : goal.returns-clause-limits
 returns-clause-limits g c =

@@ -37,7 +37,7 @@ module _ (g : Over) (c : goal.After-drop-script-2 g) where
   abbrev SaysTo : Limits → List ℕ → Type 0
   SaysTo limits capacities =
       IfOk c.run_into_fair-ran.result.0
-      (λ r. SaysPieces asks brings (takes g.O.Write.contents (λ s. s.0)) (refuses g.O.Write.contents (λ s. s.0)) limits capacities c.in-Ok.owned.items (record { 0 = c.in-Ok-open.parts }) r
+      (λ r. SaysPieces 0 c.args.settings.now.fair asks brings (takes g.O.Write.contents (λ s. s.0)) (refuses g.O.Write.contents (λ s. s.0)) limits capacities c.in-Ok.owned.items (record { 0 = c.in-Ok-open.parts }) r
       c.run_into_fair-ran.result.1)
 
   said_in : SaysTo (limits_in c.args.segments c.args.settings.now) c.args.script.capacities.items
@@ -52,7 +52,7 @@ returns-clause-written g c = λ nothing.
     (within g c) (record { 0 = c.in-Ok-open.parts }) c.run_into_fair-ran.result.1 (first g c) c.args.script.bodies.items refl
     c.told_in_parts-ended.result.said c.told_in_parts-ended.result.status _ c.told_in_parts-ended.new.pieces.0 _ _ c.run_into_fair-ran.result.0 (counted g c)
     (pieces_said (limits_in c.args.segments c.args.settings.now) c.args.script.capacities.items c.args.script.bodies.items c.in-Ok.owned.items (search rules)
-    (takes g.O.Write.contents (λ s. s.0)) (refuses g.O.Write.contents (λ s. s.0)) (record { 0 = c.in-Ok-open.parts }) c.run_into_fair-ran.result.1 c.run_into_fair-ran.result.0 (said_in g c))
+    (takes g.O.Write.contents (λ s. s.0)) (refuses g.O.Write.contents (λ s. s.0)) (record { 0 = c.in-Ok-open.parts }) c.run_into_fair-ran.result.1 0 c.args.settings.now.fair c.run_into_fair-ran.result.0 (said_in g c))
     (search rules) c.told_in_parts-ended.ensures.unrun c.told_in_parts-ended.ensures.told nothing)
 
 pub returns-clause-limits : goal.returns-clause-limits

@@ -1,4 +1,4 @@
-use Rattle.std.proofs.Common.{rules, Option, None, Some, IsSomeAnd}
+use Rattle.std.proofs.Common.{Option, None, Some, IsSomeAnd}
 use Rattle.gmp_run_cli.proofs.segments.run_in_segments.Goals as goal
 
 and_so : {A : Type 0} (P Q : A → Type 0) (o : Option A) → ((x : A) → P x → Q x) → IsSomeAnd o P → IsSomeAnd o Q
