@@ -14,7 +14,7 @@ use Rattle.gmp_run.specs.declared.ending.Report.{Report}
 use Rattle.gmp_run.specs.Desks.{IsLeftSo, TakesAll, joined, with_left}
 use Rattle.gmp_run.specs.Reports.{IsPiecesReport, IsRunReport, SaysPieces}
 use Rattle.gmp_host.specs.declared.ending.Ended.{Ended}
-use Rattle.gmp_host.specs.Ends.{IsOfLegalRun, IsOfPieces, IsSaidInPieces, StopsPieces, TakesLeft}
+use Rattle.gmp_host.specs.Ends.{IsOfLegalRun, IsOfPieces, IsSaidInPieces, IsSaidToStop, StopsPieces, TakesLeft}
 
 module _ {T S : Type 0} (takes refuses : S → List Entry → S → Type 0) (limits : Limits) (capacities : List ℕ) (bodies : ℕ) (began : S) (r : Report T) (mid : S)
     (p : IsPiecesReport takes refuses limits capacities bodies began r mid) where
@@ -68,28 +68,41 @@ module _ {T S : Type 0} (takes refuses : S → List Entry → S → Type 0) (lim
       (last.0, r.bodies.items, subst (λ (h : List Entry). AreSaid resumes blocks limits capacities given h r.bodies.items) (sym (ap joined last.1 ∙ joined_with_left p.pieces r.history.list)) said)
 
   -- the sink refused what is left
-  stopped : (behind sink : S) → TakesAll takes began p.pieces behind → refuses behind r.history.list sink → r.history.list ≢ [] → StopsPieces takes refuses limits capacities bodies began sink
-  stopped behind sink taken refused some = record {
-    pieces = p.pieces;
-    left = r.history.list;
-    behind = behind;
-    taken = taken;
-    refused = refused;
-    sized = p.sized;
-    some = some;
-    few = p.few;
-    last = p.report.last;
-    legal = p.report.legal;
-    full = λ none. p.left_full (sym p.report.outcome ∙ none);
-    within = p.report.within;
-  }
+  stopped : (behind sink : S) → TakesAll takes began p.pieces behind → refuses behind r.history.list sink → r.history.list ≢ []
+      → (q : StopsPieces takes refuses limits capacities bodies began sink) × (joined q.pieces ++ q.left ≡ joined p.pieces ++ r.history.list)
+  stopped behind sink taken refused some = (
+    record {
+      pieces = p.pieces;
+      left = r.history.list;
+      behind = behind;
+      taken = taken;
+      refused = refused;
+      sized = p.sized;
+      some = some;
+      few = p.few;
+      last = p.report.last;
+      legal = p.report.legal;
+      full = λ none. p.left_full (sym p.report.outcome ∙ none);
+      within = p.report.within;
+    },
+    refl,
+  )
 
-  pub stopped_on_the_way : r.outcome ≡ None → StopsPieces takes refuses limits capacities bodies began mid
+  pub stopped_on_the_way : r.outcome ≡ None → (q : StopsPieces takes refuses limits capacities bodies began mid) × (joined q.pieces ++ q.left ≡ joined p.pieces ++ r.history.list)
   stopped_on_the_way none = stopped p.behind mid p.taken (subst (λ (o : Option Outcome). IsLeftSo refuses (is_none o) p.behind r.history.list mid) none p.left_so) (some_full p.report.within (p.left_full none))
 
   pub stopped_at_last : (sink : S) (outcome : Outcome) → r.outcome ≡ Some outcome → refuses mid r.history.list sink → r.history.list ≢ []
-      → StopsPieces takes refuses limits capacities bodies began sink
+      → (q : StopsPieces takes refuses limits capacities bodies began sink) × (joined q.pieces ++ q.left ≡ joined p.pieces ++ r.history.list)
   stopped_at_last sink outcome is refused some = stopped mid sink (taken_whole outcome is) refused some
+
+-- one that its sink stopped, on the way or at the last piece
+pub said_to_stop : {T S : Type 0} {resumes : Resumes T} {blocks : Blocks T} (takes refuses : S → List Entry → S → Type 0) (limits limits' : Limits) (capacities capacities' : List ℕ) (given : List T) (began : S) (r : Report T) (mid sink : S) (run : ℕ) (is_fair : Bool)
+    → limits ≡ limits' → capacities ≡ capacities' → (says : SaysPieces run is_fair resumes blocks takes refuses limits capacities given began r mid)
+    → ((q : StopsPieces takes refuses limits capacities (length given) began sink) × (joined q.pieces ++ q.left ≡ joined says.0.0.pieces ++ r.history.list)) → IsSaidToStop resumes blocks takes refuses limits' capacities' given began sink
+said_to_stop {resumes = resumes} {blocks = blocks} takes refuses limits limits' capacities capacities' given began r mid sink run is_fair same_limits same_capacities says q =
+    subst (λ (l : Limits). IsSaidToStop resumes blocks takes refuses l capacities' given began sink) same_limits
+    (subst (λ (cs : List ℕ). IsSaidToStop resumes blocks takes refuses limits cs given began sink) same_capacities
+    (q.0, r.bodies.items, subst (λ (h : List Entry). AreSaid resumes blocks limits capacities given h r.bodies.items) (sym q.1) says.1))
 
 -- what is so of the value that came
 pub of_ok : {A E : Type 0} (P : A → Type 0) (ran : Result A E) (r : A) → ran ≡ Ok r → IfOk ran P → P r

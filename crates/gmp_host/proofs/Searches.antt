@@ -1,5 +1,5 @@
 -- A search for the shortest run, one seed more.
-use Rattle.std.proofs.Common.{◌≡◌, ◌<◌, ◌≤◌, ◌+◌, ◌⊎◌, ℕ, Option, None, Some, Result, Ok, inl, inr, arith, refl, subst, sym}
+use Rattle.std.proofs.Common.{◌≡◌, ◌≤◌, ◌+◌, ◌⊎◌, ℕ, Option, None, Some, Result, Ok, inl, inr, arith, subst, sym}
 use Rattle.std.proofs.lemmas.Bool.{cases_lt}
 use Rattle.gmp_host.specs.declared.ending.Ended.{Ended}
 use Rattle.gmp_host.specs.declared.ending.Short.{Short}

@@ -61,3 +61,8 @@ pub record StopsPieces {S : Type 0} (takes refuses : S → List Entry → S → 
   pub legal : IsLegal limits bodies capacities (joined pieces ++ left) last
   pub full : last.outcome ≡ None → IsFull limits left
   pub within : AreLimits limits bodies capacities
+
+-- Such pieces, which with what is left are what these bodies said.
+abbrev pub IsSaidToStop : {T S : Type 0} → Resumes T → Blocks T → (S → List Entry → S → Type 0) → (S → List Entry → S → Type 0) → Limits → List ℕ → List T → S → S → Type 0
+IsSaidToStop {T} resumes blocks takes refuses limits capacities given began sink =
+    (p : StopsPieces takes refuses limits capacities (length given) began sink) × (back : List T) × AreSaid resumes blocks limits capacities given (joined p.pieces ++ p.left) back

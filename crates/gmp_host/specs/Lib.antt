@@ -1,4 +1,5 @@
 pub mod Ends
+pub mod Lately
 pub mod Openings
 pub mod Played
 pub mod Search

@@ -23,6 +23,9 @@ pub struct Ended {
     /// The goroutines that began and are not done, by number, and what each waits for or does. It is empty where main ended, where a sink
     /// took the history, and where memory was refused.
     pub waiting: Vec<Waiting>,
+    /// Whose tickets were claimed in the last hundred entries, in order, where the history was full. Else it is empty, and where a sink took the
+    /// history.
+    pub lately: Vec<GNo>,
 }
 
 impl Ended {
@@ -42,8 +45,8 @@ pub struct Lost {
 }
 
 impl fmt::Display for Ended {
-    /// Its outcome, who was lost, and where all are asleep who waits for what. Not the number of entries, which is another at each run in
-    /// threads.
+    /// Its outcome, who was lost, and where all are asleep who waits for what; where the history was full, what those do that ran lately. Not the
+    /// number of entries, which is another at each run in threads.
     fn fmt<W: fmt::Write>(&self, f: &mut fmt::Formatter<W>) -> fmt::Result {
         match self.outcome {
             Outcome::MainEnded => write!(f, "main ended")?,
@@ -53,8 +56,8 @@ impl fmt::Display for Ended {
         if let Some(Lost { goroutine, answer }) = self.lost {
             write!(f, ", goroutine {} lost at {answer:?}", goroutine.0)?;
         }
-        if self.outcome == Outcome::AllAsleep {
-            for waiting in &self.waiting {
+        for waiting in &self.waiting {
+            if self.outcome == Outcome::AllAsleep || self.lately.contains(&waiting.goroutine) {
                 write!(f, "; {waiting}")?;
             }
         }
@@ -67,7 +70,7 @@ impl fmt::Display for Ended {
 pub enum Short {
     #[error("out of memory")]
     OutOfMemory,
-    #[error("its limits, its bodies or its channels are out of range")]
+    #[error("out of range: 1 to 32 procs, procs to 64 machines, at most 1024 channels of at most 4096 values, 1 to 4096 goroutines, entries and room from 16")]
     BadLimits,
     #[error("entries above room: use run_into")]
     AboveRoom,

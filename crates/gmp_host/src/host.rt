@@ -2,7 +2,7 @@
 ghost use Rattle.std.specs.Prelude.{◌≡◌, ◌≢◌, ◌↔◌, ◌++◌, ◌∷◌, ◌+◌, ◌<◌, ◌≤◌, ◌^◌, [], IfErr, IfOk, IsTrue, OnErr, OnOk, Some, length};
 ghost use Rattle.gmp_turn.specs.Whole.{IsWholeRun};
 ghost use Rattle.gmp_seq.specs.Fits.{AreLimits};
-ghost use Rattle.gmp_host.specs.Ends.{IsOfLegalRun, IsOfPieces, IsSaidInPieces, IsSaidRun, StopsPieces, TakesLeft};
+ghost use Rattle.gmp_host.specs.Ends.{IsOfLegalRun, IsOfPieces, IsSaidInPieces, IsSaidRun, IsSaidToStop, StopsPieces, TakesLeft};
 ghost use Rattle.gmp_host.specs.Played.{BoxAnswers, BoxAsks};
 ghost use Rattle.gmp_base.specs.declared.number.GNo.{GNo};
 ghost use Rattle.gmp_host.specs.Openings.{IsCovered, IsMissing, NamesMissing, limits_of};
@@ -18,7 +18,7 @@ use crate::settings::Settings;
 use crate::spawner::{Outputs, Spawner, Task};
 use crate::stamps::Stamps;
 use crate::traced::Traced;
-use crate::waits::waiting;
+use crate::waits::{lately, waiting};
 use gmp_base::{CNo, GNo};
 use gmp_history::History;
 use gmp_run::{Clock, Gate, Open, Since, Sink, Stop, run_fair, run_into_fair};
@@ -311,11 +311,13 @@ impl Host {
         let history = report.history;
         let capacities = self.capacities;
         let waiting = waiting(alloc, limits, count, &capacities, outcome, &history);
+        let lately = lately(alloc, outcome, &history);
         let ended = Ended {
             outcome,
             entries: history.len() as u64,
             lost: first(&self.loss),
             waiting,
+            lately,
         };
         Ok(Traced {
             alloc,
@@ -348,6 +350,8 @@ impl Host {
         ensures unused { IfErr result.0 (λ e. e ≢ Short.Stopped → result.1 ≡ sink) }
         ensures stopped { IfErr result.0 (λ e. e ≡ Short.Stopped
             → StopsPieces S.takes S.refuses (limits_of self.settings) self.capacities.items (length self.bodies.items) sink result.1) }
+        ensures said_so_far { IfErr result.0 (λ e. e ≡ Short.Stopped
+            → IsSaidToStop (BoxAsks (λ box body. record box { value = body }) resumed) (BoxAnswers (λ box body. record box { value = body }) blocked) S.takes S.refuses (limits_of self.settings) self.capacities.items self.bodies.items sink result.1) }
     {
         if let Err(why) = self.ready() {
             return (Err(why), sink);
@@ -384,6 +388,7 @@ impl Host {
             entries: made(&report.logs),
             lost: first(&self.loss),
             waiting: Vec::new(self.alloc),
+            lately: Vec::new(self.alloc),
         };
         (Ok(ended), sink)
     }

@@ -3,7 +3,7 @@ ghost use Rattle.std.specs.Prelude.{◌≡◌, ◌≢◌, IfErr, IfOk, None, OnO
 ghost use Rattle.gmp_seq.specs.Fits.{AreLimits};
 
 use crate::ending::{Ended, Short};
-use crate::waits::waiting;
+use crate::waits::{lately, waiting};
 use gmp_history::History;
 use gmp_seq::{Limits, Outcome};
 use std::alloc::{AllocError, Global};
@@ -46,6 +46,7 @@ pub(crate) fn ended(
         entries: history.len() as u64,
         lost: None,
         waiting: waiting(alloc, limits, bodies, capacities, outcome, history),
+        lately: lately(alloc, outcome, history),
     })
 }
 

@@ -1,4 +1,4 @@
-use Rattle.std.proofs.Common.{◌⊎◌, ◌≤◌, ◌≡◌, ◌+◌, ℕ, inl, inr, arith}
+use Rattle.std.proofs.Common.{inl, arith}
 use Rattle.gmp_host.proofs.Searches.{all_of, one_more}
 use Rattle.gmp_host.proofs.searching.shortest.Goals as goal
 

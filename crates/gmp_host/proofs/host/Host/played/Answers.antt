@@ -1,4 +1,4 @@
-use Rattle.std.proofs.Common.{◌≡◌, ◌∙◌, true, length, refl, rules, sym, tests}
+use Rattle.std.proofs.Common.{◌≡◌, ◌∙◌, true, length, refl, rules, sym}
 use Rattle.gmp_host.proofs.Again.{played_again, run_again, traced_of}
 use Rattle.gmp_host.proofs.host.Host.played.Goals as goal
 
