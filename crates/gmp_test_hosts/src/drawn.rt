@@ -44,11 +44,11 @@ impl Way {
                 Draws::Ranked => Ok((host.step_dealt(ranked(seed))?, None)),
             },
             Way::Replayed(draws, seed) => {
-                let (ended, history) = match draws {
+                let run = match draws {
                     Draws::Even => host.replay(seed),
                     Draws::Ranked => host.replay_dealt(ranked(seed)),
                 }?;
-                Ok((ended, Some(history)))
+                Ok((run.ended, Some(run.history)))
             }
         }
     }

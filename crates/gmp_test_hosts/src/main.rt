@@ -8,6 +8,7 @@ mod handed;
 mod loaded;
 mod parcels;
 mod split;
+mod text;
 mod ways;
 
 use crate::busy::{Waits, run_busy};
@@ -16,11 +17,12 @@ use crate::handed::{Found, run_handed};
 use crate::loaded::{Tally, run_loaded};
 use crate::parcels::{run_parcels, try_places};
 use crate::split::run_split;
+use crate::text::show_text;
 use crate::ways::Runner;
 use anyhow::Result;
 use gmp_host::{
     Act, Ask, Channel, Ended, GNo, Gate, Goroutine, History, Host, MNo, Nonsense, Note, Settings,
-    Short, Since, Sink, Stop, Woke, search,
+    Short, Since, Sink, Stop, Woke, search, shortest,
 };
 use std::alloc::Global;
 use std::sync::Wait;
@@ -257,8 +259,8 @@ fn show_busy<R: Threads + Wait + Clock + Sync + Print>(
     let fair = run_busy(rt, alloc, waits, true)?;
     let unfair = run_busy(rt, alloc, waits, false)?;
     println!(rt;
-        "{words}: {fair}, {} entries; not fair: {unfair}, {} entries",
-        fair.entries, unfair.entries
+        "{words}: {fair}, {} entries; not fair: {:?}, {} entries",
+        fair.entries, unfair.outcome, unfair.entries
     )?;
     Ok(())
 }
@@ -294,12 +296,18 @@ fn are_same(alloc: Global, one: Option<History>, other: Option<History>) -> Resu
     Ok(one.len() == other.len())
 }
 
-/// What a search through 1000 seeds of such a program finds, machines drawn so, and whether its seed makes that run again, twice.
+/// What searches through 1000 seeds of such a program find, machines drawn so: the first seed whose run does not end well, whether it makes that
+/// run again, twice, the shortest such run, and how many there are.
 fn show_found<R: Print>(rt: &R, alloc: Global, words: &str, bug: Bug, draws: Draws) -> Result<()> {
-    let found = search(0..1000, |seed| {
-        Ok(run_bug(alloc, bug, drawn::Way::Drawn(draws, seed))?.0)
-    })?;
-    let Some(found) = found else {
+    let ill = Note::new(alloc)?;
+    let run = |seed| {
+        let ended = run_bug(alloc, bug, drawn::Way::Drawn(draws, seed))?.0;
+        ill.add(u64::from(!ended.is_well()));
+        Ok(ended)
+    };
+    let first = search(0..1000, run)?;
+    ill.set(0);
+    let (Some(found), Some(least)) = (first, shortest(0..1000, run)?) else {
         println!(rt; "{words}: no seed finds it")?;
         return Ok(());
     };
@@ -307,9 +315,12 @@ fn show_found<R: Print>(rt: &R, alloc: Global, words: &str, bug: Bug, draws: Dra
     let (ended, history) = run_bug(alloc, bug, again)?;
     let (_, once_more) = run_bug(alloc, bug, again)?;
     println!(rt;
-        "{words}: {found}; again: {}, the same entries: {}",
+        "{words}: {found}; again: {}, the same entries: {}; found by {} seeds, the shortest by {}: {} entries",
         ended == found.ended,
-        are_same(alloc, history, once_more)?
+        are_same(alloc, history, once_more)?,
+        ill.get(),
+        least.seed,
+        least.ended.entries
     )?;
     Ok(())
 }
@@ -381,6 +392,7 @@ fn main(rt: HostRuntime) -> Result<()> {
         ..settings
     };
     show_loaded(&rt, alloc, 1, unfair)?;
+    show_text(&rt, alloc)?;
     show_drawn(&rt, alloc, "two locks", Bug::Locks)?;
     show_drawn(&rt, alloc, "a wake-up", Bug::WakeUp)?;
     show_drawn(&rt, alloc, "a closed channel", Bug::Closed)

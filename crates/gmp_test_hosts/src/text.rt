@@ -1,0 +1,77 @@
+//! A run whose trace is handed out, by a core and by a thread: its text, and the file that has it.
+
+use crate::ways::Runner;
+use anyhow::Result;
+use gmp_host::{
+    Ask, Channel, Goroutine, Host, Nonsense, Settings, Short, Traced, Woke, WriteError,
+};
+use std::alloc::Global;
+use std::fs;
+use std::rt::Files;
+use std::sync::Wait;
+use std::thread::Threads;
+use std::time::Clock;
+
+/// Sends a value, which nobody receives, and waits to send another.
+#[derive(Drop)]
+struct Sender(Channel);
+
+impl Goroutine for Sender {
+    fn resume(&mut self, woke: Woke) -> Result<Ask, Nonsense> {
+        match woke {
+            Woke::First => Ok(self.0.send(7)),
+            Woke::Done => Ok(self.0.send(8)),
+            _ => Err(Nonsense),
+        }
+    }
+}
+
+/// Its run by one machine.
+fn run<R: Threads + Wait + Clock + Sync>(
+    rt: &R,
+    alloc: Global,
+    runner: Runner,
+) -> Result<Traced, Short> {
+    let settings = Settings {
+        procs: 1,
+        machines: 1,
+        channels: 1,
+        entries: 16,
+        ..Settings::default()
+    };
+    let mut host = Host::new(alloc, settings)?;
+    let channel = host.channel(1)?;
+    let sender = host.boxed(Sender(channel))?;
+    host.push(sender)?;
+    match runner {
+        Runner::Core => host.step_traced(),
+        Runner::Threads => host.run_traced(rt),
+    }
+}
+
+/// The text of its trace.
+fn text(alloc: Global, run: &Traced) -> Result<Vec<u8>, WriteError> {
+    let mut text = Vec::new(alloc);
+    run.write(&mut text)?;
+    Ok(text)
+}
+
+/// How its run by a core ended, the text of that, whether a thread's run has the same, and whether a file has.
+pub fn show_text<R: Threads + Wait + Clock + Files + Alloc + Print + Sync>(
+    rt: &R,
+    alloc: Global,
+) -> Result<()> {
+    let by_core = run(rt, alloc, Runner::Core)?;
+    let by_thread = run(rt, alloc, Runner::Threads)?;
+    let (one, other) = (text(alloc, &by_core)?, text(alloc, &by_thread)?);
+    by_core.save(rt, "run.trace")?;
+    let saved = fs::read(rt, "run.trace")?;
+    print!(rt; "{}", str::from_utf8(&one)?)?;
+    println!(rt;
+        "its end: {}; the same by a thread: {}, in a file: {}",
+        by_core.ended,
+        one.as_slice() == other.as_slice(),
+        one.as_slice() == saved.as_slice()
+    )?;
+    Ok(())
+}
