@@ -18,7 +18,8 @@ const MACHINES: usize = 64;
 const FALLS: usize = 8;
 
 /// Lets the machine of the greatest rank act, by ranks that are drawn from a seed, and at some acts, which are drawn too, lets the one that
-/// would act fall behind all others. A bug that needs so many changes of who acts is found with a known least probability.
+/// would act fall behind all others. An order of acts that needs D falls among the first k acts of n machines is drawn with a probability of some
+/// 1 / (n × k^D) at least (Burckhardt and others, 2010).
 #[derive(Drop)]
 pub struct Ranked {
     generator: Lcg64Xsh32,

@@ -21,7 +21,8 @@ use Rattle.gmp_explain.specs.declared.fact.Help.TheVariants as help
 use Rattle.gmp_explain.specs.declared.fact.Role.{Role}
 use Rattle.gmp_explain.specs.declared.fact.Role.TheVariants as role
 use Rattle.gmp_explain.specs.declared.heard.Lost.{Lost}
-use Rattle.gmp_explain.specs.Doing.{dealing_text, goroutine_text}
+use Rattle.gmp_explain.specs.Doing.{goroutine_text}
+use Rattle.gmp_waits.specs.Doing.{dealing_text}
 
 -- Words
 

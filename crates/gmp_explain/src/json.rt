@@ -1,11 +1,11 @@
 //! Facts as one JSON object: a list of objects, each with the name of its kind of fact under `fact`.
 
-use crate::doing::{Dealing, Doing};
 use crate::fact::{
     Caller, Fact, Help, Made, Sink, call_words, end_words, mode_words, need_words, role_words,
 };
 use gmp_base::GNo;
 use gmp_seq::{Offer, Status};
+use gmp_waits::{Dealing, Doing};
 use serde_json::{Map, Value};
 use std::alloc::{AllocError, Global};
 

@@ -20,7 +20,6 @@
 
 mod before;
 mod channels;
-mod doing;
 mod explaining;
 mod fact;
 mod heard;

@@ -1,12 +1,12 @@
 //! The text of a fact, on one line.
 
-use crate::doing::{Dealing, Doing};
 use crate::fact::{
     Caller, Fact, Help, Made, Told, call_words, end_words, mode_words, need_words, role_words,
 };
 use crate::heard::Lost;
 use gmp_base::{GNo, PNo};
 use gmp_seq::Status;
+use gmp_waits::{Dealing, Doing};
 use std::fmt;
 
 /// Since when a goroutine does what it does.

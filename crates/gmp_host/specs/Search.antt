@@ -1,5 +1,5 @@
 -- What a search through seeds finds.
-use Rattle.std.specs.Prelude.{◌≡◌, ◌⊎◌, ℕ, ◌+◌, ◌≤◌, ◌<◌, Option, None, Some, Result, Ok}
+use Rattle.std.specs.Prelude.{◌≡◌, ◌⊎◌, ℕ, ◌+◌, ◌≤◌, ◌<◌, Option, None, Some, Result, Ok, Err}
 use Rattle.gmp_seq.specs.declared.call.Outcome.TheVariants as outcome
 use Rattle.gmp_host.specs.declared.ending.Ended.{Ended}
 use Rattle.gmp_host.specs.declared.ending.Short.{Short}
@@ -40,6 +40,10 @@ module _ (runs : ℕ → Result Ended Short → Type 0) where
   abbrev pub Searches : ℕ → ℕ → Option Found → Type 0
   Searches begin end (Some found) = IsFirst begin end found
   Searches begin end None = AreWell begin end
+
+  -- the run of one of these seeds falls short so
+  abbrev pub FailsAtOne : ℕ → ℕ → Short → Type 0
+  FailsAtOne begin end why = (seed : ℕ) × (begin ≤ seed) × (seed < end) × runs seed (Err why)
 
   -- each of these seeds ran, and its run ended well, or has so many entries at least
   abbrev pub AreWellOrLong : ℕ → ℕ → ℕ → Type 0

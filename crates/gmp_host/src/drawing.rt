@@ -1,6 +1,7 @@
 //! A run by a core whose machines and words a dealer deals.
 ghost use Rattle.std.specs.Prelude.{◌≡◌, ◌≢◌, IfErr, IfOk, OnOk, length, true};
 ghost use Rattle.gmp_turn.specs.Whole.{IsWholeRun};
+ghost use Rattle.gmp_seq.specs.Fits.{AreLimits};
 ghost use Rattle.gmp_host.specs.Ends.{IsOfLegalRun};
 ghost use Rattle.gmp_host.specs.Openings.{NamesNobody};
 ghost use Rattle.gmp_host.specs.Played.{HasNoDrawnEnd, IsDrawnOut, IsDrawnTo};
@@ -33,7 +34,7 @@ fn drawn<T: InHand, D: Dealer + Drop>(
         (book.limits ≡ limits) × (book.capacities ≡ capacities.now) × (book.bodies ≡ length bodies.items)) }
     ensures whole { OnOk result (limits.room ≡ limits.entries) }
     ensures above { IfErr result (λ e. e ≡ Short.AboveRoom → limits.room ≢ limits.entries) }
-    ensures limits { IfErr result (λ e. e ≡ Short.BadLimits → IsWholeRun limits (length bodies.items) capacities.now → ⊥) }
+    ensures limits { IfErr result (λ e. e ≡ Short.BadLimits → AreLimits limits (length bodies.items) capacities.now → ⊥) }
     ensures memory { IfErr result (λ e. e ≡ Short.OutOfMemory → IsWholeRun limits (length bodies.items) capacities.now) }
     ensures kinds { IfErr result (λ e. (e ≢ Short.NoEnd) × (e ≢ Short.Stopped) × (e ≢ Short.NotPushed)) }
     ensures nobody { IfErr result NamesNobody }
@@ -63,7 +64,7 @@ pub(crate) fn draw_all<T: InHand, D: Dealer + Drop>(
     ensures endless { IfErr result (λ e. e ≡ Short.NoEnd → HasNoDrawnEnd T.resumed T.called D.deals dealer is_fair limits capacities.now bodies.items) }
     ensures whole { OnOk result (limits.room ≡ limits.entries) }
     ensures above { IfErr result (λ e. e ≡ Short.AboveRoom → limits.room ≢ limits.entries) }
-    ensures limits { IfErr result (λ e. e ≡ Short.BadLimits → IsWholeRun limits (length bodies.items) capacities.now → ⊥) }
+    ensures limits { IfErr result (λ e. e ≡ Short.BadLimits → AreLimits limits (length bodies.items) capacities.now → ⊥) }
     ensures memory { IfErr result (λ e. e ≡ Short.OutOfMemory → IsWholeRun limits (length bodies.items) capacities.now) }
     ensures kinds { IfErr result (λ e. (e ≢ Short.Stopped) × (e ≢ Short.NotPushed)) }
     ensures nobody { IfErr result NamesNobody }

@@ -45,7 +45,7 @@ pub struct Lost {
 }
 
 impl fmt::Display for Ended {
-    /// Its outcome, who was lost, and where all are asleep who waits for what; where the history was full, what those do that ran lately. Not the
+    /// Its outcome, who was lost, and where all are asleep who waits for what; where the history was full, what those do that run, or ran lately. Not the
     /// number of entries, which is another at each run in threads.
     fn fmt<W: fmt::Write>(&self, f: &mut fmt::Formatter<W>) -> fmt::Result {
         match self.outcome {
@@ -57,7 +57,11 @@ impl fmt::Display for Ended {
             write!(f, ", goroutine {} lost at {answer:?}", goroutine.0)?;
         }
         for waiting in &self.waiting {
-            if self.outcome == Outcome::AllAsleep || self.lately.contains(&waiting.goroutine) {
+            let runs = waiting.what.as_str().starts_with("runs ");
+            let ran = self.lately.contains(&waiting.goroutine);
+            if self.outcome == Outcome::AllAsleep
+                || self.outcome == Outcome::BookFull && (runs || ran)
+            {
                 write!(f, "; {waiting}")?;
             }
         }

@@ -112,6 +112,11 @@ impl Host {
     /// So many goroutines that are waited for, by a channel of their own, on which none of them waits.
     pub fn group(&mut self, members: u16) -> Result<Group, Short>
         ensures members { IfOk result (λ g. g.left ≡ members) }
+        ensures number { IfOk result (λ g. g.channel.0 ≡ Some (record { 0 = length self.old.capacities.items })) }
+        ensures capacities { OnOk result (self.new.capacities.items ≡ self.old.capacities.items ++ members ∷ []) }
+        ensures limits { (result ≡ Err Short.BadLimits) ↔ (65536 ≤ length self.old.capacities.items) }
+        ensures memory { IfErr result (λ e. e ≢ Short.BadLimits → e ≡ Short.OutOfMemory) }
+        ensures err { OnErr result (self.new.capacities.items ≡ self.old.capacities.items) }
         ensures bodies { (self.new.bodies ≡ self.old.bodies) × (self.new.boxed ≡ self.old.boxed) }
         ensures settings { self.new.settings ≡ self.old.settings }
     {
@@ -207,7 +212,7 @@ impl Host {
         ensures whole { OnOk result (self.settings.entries ≤ self.settings.room) }
         ensures above { IfErr result (λ e. e ≡ Short.AboveRoom → self.settings.room < self.settings.entries) }
         ensures limits { IfErr result (λ e. e ≡ Short.BadLimits
-            → IsWholeRun (limits_of self.settings) (length self.bodies.items) self.capacities.items → ⊥) }
+            → AreLimits (limits_of self.settings) (length self.bodies.items) self.capacities.items → ⊥) }
         ensures memory { IfErr result (λ e. e ≡ Short.OutOfMemory
             → IsWholeRun (limits_of self.settings) (length self.bodies.items) self.capacities.items) }
         ensures pushed { (result ≡ Err Short.NotPushed) ↔ (self.boxed ≢ length self.bodies.items) }
@@ -226,7 +231,7 @@ impl Host {
         ensures whole { OnOk result (self.settings.entries ≤ self.settings.room) }
         ensures above { IfErr result (λ e. e ≡ Short.AboveRoom → self.settings.room < self.settings.entries) }
         ensures limits { IfErr result (λ e. e ≡ Short.BadLimits
-            → IsWholeRun (limits_of self.settings) (length self.bodies.items) self.capacities.items → ⊥) }
+            → AreLimits (limits_of self.settings) (length self.bodies.items) self.capacities.items → ⊥) }
         ensures memory { IfErr result (λ e. e ≡ Short.OutOfMemory
             → IsWholeRun (limits_of self.settings) (length self.bodies.items) self.capacities.items) }
         ensures pushed { (result ≡ Err Short.NotPushed) ↔ (self.boxed ≢ length self.bodies.items) }
@@ -250,7 +255,7 @@ impl Host {
         ensures whole { OnOk result (self.settings.entries ≤ self.settings.room) }
         ensures above { IfErr result (λ e. e ≡ Short.AboveRoom → self.settings.room < self.settings.entries) }
         ensures limits { IfErr result (λ e. e ≡ Short.BadLimits
-            → IsWholeRun (limits_of self.settings) (length self.bodies.items) self.capacities.items → ⊥) }
+            → AreLimits (limits_of self.settings) (length self.bodies.items) self.capacities.items → ⊥) }
         ensures memory { IfErr result (λ e. e ≡ Short.OutOfMemory
             → IsWholeRun (limits_of self.settings) (length self.bodies.items) self.capacities.items) }
         ensures pushed { (result ≡ Err Short.NotPushed) ↔ (self.boxed ≢ length self.bodies.items) }
@@ -273,7 +278,7 @@ impl Host {
         ensures whole { OnOk result (self.settings.entries ≤ self.settings.room) }
         ensures above { IfErr result (λ e. e ≡ Short.AboveRoom → self.settings.room < self.settings.entries) }
         ensures limits { IfErr result (λ e. e ≡ Short.BadLimits
-            → IsWholeRun (limits_of self.settings) (length self.bodies.items) self.capacities.items → ⊥) }
+            → AreLimits (limits_of self.settings) (length self.bodies.items) self.capacities.items → ⊥) }
         ensures memory { IfErr result (λ e. e ≡ Short.OutOfMemory
             → IsWholeRun (limits_of self.settings) (length self.bodies.items) self.capacities.items) }
         ensures pushed { (result ≡ Err Short.NotPushed) ↔ (self.boxed ≢ length self.bodies.items) }

@@ -1,6 +1,6 @@
 //! A search through seeds for a run that does not end well.
-ghost use Rattle.std.specs.Prelude.{IfOk};
-ghost use Rattle.gmp_host.specs.Search.{Compares, IsKept, Searches};
+ghost use Rattle.std.specs.Prelude.{IfErr, IfOk};
+ghost use Rattle.gmp_host.specs.Search.{Compares, FailsAtOne, IsKept, Searches};
 
 use crate::ending::{Ended, Short};
 use std::fmt;
@@ -21,13 +21,14 @@ impl fmt::Display for Found {
 }
 
 /// Runs each seed, from the first on, until a run does not end well, and tells of that. The closure makes its host anew, and runs it by
-/// `Host::step_by` or the like.
+/// `Host::step_by` or the like. A run that falls short ends the search, which falls short so too.
 pub fn search<F: Fn(u64) -> Result<Ended, Short>>(
     seeds: Range<u64>,
     run: F,
 ) -> Result<Option<Found>, Short>
     requires { F.IsAlwaysCallable run }
-    ensures { IfOk result (Searches (F.post run) seeds.start seeds.end) }
+    ensures found { IfOk result (Searches (F.post run) seeds.start seeds.end) }
+    ensures err { IfErr result (FailsAtOne (F.post run) seeds.start seeds.end) }
 {
     for seed in seeds.start..seeds.end {
         let ended = run(seed)?;
@@ -62,7 +63,8 @@ pub fn shortest<F: Fn(u64) -> Result<Ended, Short>>(
     run: F,
 ) -> Result<Option<Found>, Short>
     requires { F.IsAlwaysCallable run }
-    ensures { IfOk result (Compares (F.post run) seeds.start seeds.end) }
+    ensures found { IfOk result (Compares (F.post run) seeds.start seeds.end) }
+    ensures err { IfErr result (FailsAtOne (F.post run) seeds.start seeds.end) }
 {
     let mut least = None;
     for seed in seeds.start..seeds.end {

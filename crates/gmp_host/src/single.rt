@@ -1,6 +1,7 @@
 //! A host's runs in one thread: in turn, and as a seed draws them.
 ghost use Rattle.std.specs.Prelude.{◌≡◌, ◌≢◌, ◌↔◌, ◌<◌, ◌≤◌, IfErr, IfOk, OnOk, length, true};
 ghost use Rattle.gmp_turn.specs.Whole.{IsWholeRun};
+ghost use Rattle.gmp_seq.specs.Fits.{AreLimits};
 ghost use Rattle.gmp_chance.specs.Even.{DealsEvenly, seeded};
 ghost use Rattle.gmp_host.specs.Ends.{IsOfLegalRun};
 ghost use Rattle.gmp_host.specs.Openings.{IsCovered, NamesMissing, limits_of};
@@ -28,7 +29,7 @@ impl Host {
         ensures whole { OnOk result (self.settings.entries ≤ self.settings.room) }
         ensures above { IfErr result (λ e. e ≡ Short.AboveRoom → self.settings.room < self.settings.entries) }
         ensures limits { IfErr result (λ e. e ≡ Short.BadLimits
-            → IsWholeRun (limits_of self.settings) (length self.bodies.items) self.capacities.items → ⊥) }
+            → AreLimits (limits_of self.settings) (length self.bodies.items) self.capacities.items → ⊥) }
         ensures memory { IfErr result (λ e. e ≡ Short.OutOfMemory
             → IsWholeRun (limits_of self.settings) (length self.bodies.items) self.capacities.items) }
         ensures pushed { (result ≡ Err Short.NotPushed) ↔ (self.boxed ≢ length self.bodies.items) }
@@ -84,7 +85,7 @@ impl Host {
         ensures whole { OnOk result (self.settings.entries ≤ self.settings.room) }
         ensures above { IfErr result (λ e. e ≡ Short.AboveRoom → self.settings.room < self.settings.entries) }
         ensures limits { IfErr result (λ e. e ≡ Short.BadLimits
-            → IsWholeRun (limits_of self.settings) (length self.bodies.items) self.capacities.items → ⊥) }
+            → AreLimits (limits_of self.settings) (length self.bodies.items) self.capacities.items → ⊥) }
         ensures memory { IfErr result (λ e. e ≡ Short.OutOfMemory
             → IsWholeRun (limits_of self.settings) (length self.bodies.items) self.capacities.items) }
         ensures pushed { (result ≡ Err Short.NotPushed) ↔ (self.boxed ≢ length self.bodies.items) }
@@ -141,7 +142,7 @@ impl Host {
         ensures whole { OnOk result (self.settings.entries ≤ self.settings.room) }
         ensures above { IfErr result (λ e. e ≡ Short.AboveRoom → self.settings.room < self.settings.entries) }
         ensures limits { IfErr result (λ e. e ≡ Short.BadLimits
-            → IsWholeRun (limits_of self.settings) (length self.bodies.items) self.capacities.items → ⊥) }
+            → AreLimits (limits_of self.settings) (length self.bodies.items) self.capacities.items → ⊥) }
         ensures memory { IfErr result (λ e. e ≡ Short.OutOfMemory
             → IsWholeRun (limits_of self.settings) (length self.bodies.items) self.capacities.items) }
         ensures pushed { (result ≡ Err Short.NotPushed) ↔ (self.boxed ≢ length self.bodies.items) }
@@ -164,7 +165,7 @@ impl Host {
         ensures whole { OnOk result (self.settings.entries ≤ self.settings.room) }
         ensures above { IfErr result (λ e. e ≡ Short.AboveRoom → self.settings.room < self.settings.entries) }
         ensures limits { IfErr result (λ e. e ≡ Short.BadLimits
-            → IsWholeRun (limits_of self.settings) (length self.bodies.items) self.capacities.items → ⊥) }
+            → AreLimits (limits_of self.settings) (length self.bodies.items) self.capacities.items → ⊥) }
         ensures memory { IfErr result (λ e. e ≡ Short.OutOfMemory
             → IsWholeRun (limits_of self.settings) (length self.bodies.items) self.capacities.items) }
         ensures pushed { (result ≡ Err Short.NotPushed) ↔ (self.boxed ≢ length self.bodies.items) }
@@ -175,8 +176,8 @@ impl Host {
         self.played(true)
     }
 
-    /// Runs the goroutines by a core in this thread, the machine and the word of each act drawn from the seed: the same every time. Each
-    /// machine acts as often as another. All entries have to be kept.
+    /// Runs the goroutines by a core in this thread, the machine and the word of each act drawn from the seed: the same every time. Of
+    /// the machines that are awake each is as likely as another. All entries have to be kept.
     pub fn step_by(self, seed: u64) -> Result<Ended, Short>
         ensures ended { IfOk result (IsOfLegalRun (limits_of self.settings) self.capacities.items (length self.bodies.items)) }
         // Its run is as `step` says of its own, but for the machines and words.
@@ -188,7 +189,7 @@ impl Host {
         ensures whole { OnOk result (self.settings.entries ≤ self.settings.room) }
         ensures above { IfErr result (λ e. e ≡ Short.AboveRoom → self.settings.room < self.settings.entries) }
         ensures limits { IfErr result (λ e. e ≡ Short.BadLimits
-            → IsWholeRun (limits_of self.settings) (length self.bodies.items) self.capacities.items → ⊥) }
+            → AreLimits (limits_of self.settings) (length self.bodies.items) self.capacities.items → ⊥) }
         ensures memory { IfErr result (λ e. e ≡ Short.OutOfMemory
             → IsWholeRun (limits_of self.settings) (length self.bodies.items) self.capacities.items) }
         ensures pushed { (result ≡ Err Short.NotPushed) ↔ (self.boxed ≢ length self.bodies.items) }
@@ -211,7 +212,7 @@ impl Host {
         ensures whole { OnOk result (self.settings.entries ≤ self.settings.room) }
         ensures above { IfErr result (λ e. e ≡ Short.AboveRoom → self.settings.room < self.settings.entries) }
         ensures limits { IfErr result (λ e. e ≡ Short.BadLimits
-            → IsWholeRun (limits_of self.settings) (length self.bodies.items) self.capacities.items → ⊥) }
+            → AreLimits (limits_of self.settings) (length self.bodies.items) self.capacities.items → ⊥) }
         ensures memory { IfErr result (λ e. e ≡ Short.OutOfMemory
             → IsWholeRun (limits_of self.settings) (length self.bodies.items) self.capacities.items) }
         ensures pushed { (result ≡ Err Short.NotPushed) ↔ (self.boxed ≢ length self.bodies.items) }
@@ -233,7 +234,7 @@ impl Host {
         ensures whole { OnOk result (self.settings.entries ≤ self.settings.room) }
         ensures above { IfErr result (λ e. e ≡ Short.AboveRoom → self.settings.room < self.settings.entries) }
         ensures limits { IfErr result (λ e. e ≡ Short.BadLimits
-            → IsWholeRun (limits_of self.settings) (length self.bodies.items) self.capacities.items → ⊥) }
+            → AreLimits (limits_of self.settings) (length self.bodies.items) self.capacities.items → ⊥) }
         ensures memory { IfErr result (λ e. e ≡ Short.OutOfMemory
             → IsWholeRun (limits_of self.settings) (length self.bodies.items) self.capacities.items) }
         ensures pushed { (result ≡ Err Short.NotPushed) ↔ (self.boxed ≢ length self.bodies.items) }
@@ -256,7 +257,7 @@ impl Host {
         ensures whole { OnOk result (self.settings.entries ≤ self.settings.room) }
         ensures above { IfErr result (λ e. e ≡ Short.AboveRoom → self.settings.room < self.settings.entries) }
         ensures limits { IfErr result (λ e. e ≡ Short.BadLimits
-            → IsWholeRun (limits_of self.settings) (length self.bodies.items) self.capacities.items → ⊥) }
+            → AreLimits (limits_of self.settings) (length self.bodies.items) self.capacities.items → ⊥) }
         ensures memory { IfErr result (λ e. e ≡ Short.OutOfMemory
             → IsWholeRun (limits_of self.settings) (length self.bodies.items) self.capacities.items) }
         ensures pushed { (result ≡ Err Short.NotPushed) ↔ (self.boxed ≢ length self.bodies.items) }

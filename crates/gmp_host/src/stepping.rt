@@ -1,6 +1,7 @@
 //! A run by a core: one thread makes the acts of all machines, which take turns.
 ghost use Rattle.std.specs.Prelude.{◌≡◌, ◌≢◌, IfErr, IfOk, OnOk, length, true};
 ghost use Rattle.gmp_turn.specs.Whole.{IsWholeRun};
+ghost use Rattle.gmp_seq.specs.Fits.{AreLimits};
 ghost use Rattle.gmp_host.specs.Ends.{IsOfLegalRun};
 ghost use Rattle.gmp_host.specs.Openings.{NamesNobody};
 ghost use Rattle.gmp_host.specs.Played.{HasNoEnd, IsPlayedOut, IsPlayedTo};
@@ -121,7 +122,7 @@ fn played<T: InHand>(
         (book.limits ≡ limits) × (book.capacities ≡ capacities.now) × (book.bodies ≡ length bodies.items)) }
     ensures whole { OnOk result (limits.room ≡ limits.entries) }
     ensures above { IfErr result (λ e. e ≡ Short.AboveRoom → limits.room ≢ limits.entries) }
-    ensures limits { IfErr result (λ e. e ≡ Short.BadLimits → IsWholeRun limits (length bodies.items) capacities.now → ⊥) }
+    ensures limits { IfErr result (λ e. e ≡ Short.BadLimits → AreLimits limits (length bodies.items) capacities.now → ⊥) }
     ensures memory { IfErr result (λ e. e ≡ Short.OutOfMemory → IsWholeRun limits (length bodies.items) capacities.now) }
     ensures kinds { IfErr result (λ e. (e ≢ Short.NoEnd) × (e ≢ Short.Stopped) × (e ≢ Short.NotPushed)) }
     ensures nobody { IfErr result NamesNobody }
@@ -151,7 +152,7 @@ pub(crate) fn play_all<T: InHand>(
     ensures endless { IfErr result (λ e. e ≡ Short.NoEnd → HasNoEnd T.resumed T.called is_fair limits capacities.now bodies.items) }
     ensures whole { OnOk result (limits.room ≡ limits.entries) }
     ensures above { IfErr result (λ e. e ≡ Short.AboveRoom → limits.room ≢ limits.entries) }
-    ensures limits { IfErr result (λ e. e ≡ Short.BadLimits → IsWholeRun limits (length bodies.items) capacities.now → ⊥) }
+    ensures limits { IfErr result (λ e. e ≡ Short.BadLimits → AreLimits limits (length bodies.items) capacities.now → ⊥) }
     ensures memory { IfErr result (λ e. e ≡ Short.OutOfMemory → IsWholeRun limits (length bodies.items) capacities.now) }
     ensures kinds { IfErr result (λ e. (e ≢ Short.Stopped) × (e ≢ Short.NotPushed)) }
     ensures nobody { IfErr result NamesNobody }

@@ -17,7 +17,7 @@ use crate::handed::{Found, run_handed};
 use crate::loaded::{Tally, run_loaded};
 use crate::parcels::{run_parcels, try_places};
 use crate::split::run_split;
-use crate::text::show_text;
+use crate::text::{show_poller, show_text};
 use crate::ways::Runner;
 use anyhow::Result;
 use gmp_host::{
@@ -356,7 +356,11 @@ fn main(rt: HostRuntime) -> Result<()> {
         procs: 0,
         ..Settings::default()
     };
-    for (settings, is_pushed) in [(few, true), (none, true), (few, false)] {
+    let above = Settings {
+        entries: 1_000_001,
+        ..Settings::default()
+    };
+    for (settings, is_pushed) in [(few, true), (none, true), (above, true), (few, false)] {
         match yielding(alloc, settings, is_pushed) {
             Ok(ended) => println!(rt; "{ended}, {} entries", ended.entries)?,
             Err(short) => println!(rt; "{short}")?,
@@ -393,6 +397,7 @@ fn main(rt: HostRuntime) -> Result<()> {
     };
     show_loaded(&rt, alloc, 1, unfair)?;
     show_text(&rt, alloc)?;
+    show_poller(&rt, alloc)?;
     show_drawn(&rt, alloc, "two locks", Bug::Locks)?;
     show_drawn(&rt, alloc, "a wake-up", Bug::WakeUp)?;
     show_drawn(&rt, alloc, "a closed channel", Bug::Closed)

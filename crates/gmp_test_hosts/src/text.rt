@@ -3,7 +3,7 @@
 use crate::ways::Runner;
 use anyhow::Result;
 use gmp_host::{
-    Ask, Channel, Goroutine, Host, Nonsense, Settings, Short, Traced, Woke, WriteError,
+    Ask, Channel, Goroutine, Host, Nonsense, Note, Settings, Short, Time, Traced, Woke, WriteError,
 };
 use std::alloc::Global;
 use std::fs;
@@ -54,6 +54,41 @@ fn text(alloc: Global, run: &Traced) -> Result<Vec<u8>, WriteError> {
     let mut text = Vec::new(alloc);
     run.write(&mut text)?;
     Ok(text)
+}
+
+/// Sleeps so many microseconds, notes the time, and then asks for a length until the book is full.
+#[derive(Drop)]
+struct Poller(Time, Note);
+
+impl Goroutine for Poller {
+    fn resume(&mut self, woke: Woke) -> Result<Ask, Nonsense> {
+        match woke {
+            Woke::First => Ok(Ask::Sleep(self.0.in_us(1500))),
+            Woke::Done => {
+                self.1.set(self.0.now());
+                Ok(Ask::Len(Channel::NIL.0))
+            }
+            _ => Ok(Ask::Len(Channel::NIL.0)),
+        }
+    }
+}
+
+/// How the run of one who polls ends, and when it began to; and what a note answers to two that add.
+pub fn show_poller<R: Print>(rt: &R, alloc: Global) -> Result<()> {
+    let settings = Settings {
+        entries: 200,
+        ..Settings::default()
+    };
+    let mut host = Host::new(alloc, settings)?;
+    let woke = host.note()?;
+    let poller = host.boxed(Poller(host.time()?, woke.share()?))?;
+    host.push(poller)?;
+    let ended = host.step()?;
+    println!(rt; "polls: {ended}, since {} ns", woke.get())?;
+    let note = Note::new(alloc)?;
+    let (first, second) = (note.add(3), note.add(4));
+    println!(rt; "a note: {first}, {second}, {}", note.get())?;
+    Ok(())
 }
 
 /// How its run by a core ended, the text of that, whether a thread's run has the same, and whether a file has.

@@ -16,5 +16,5 @@ loop-seed-preserved g c seed from below =
     ]
 
 -- all did
-pub returns : goal.returns
-returns g c seed from below = c.loop-seed.invariant seed from (omega (arith, below, c.loop-seed-test.false))
+pub returns-clause-found : goal.returns-clause-found
+returns-clause-found g c seed from below = c.loop-seed.invariant seed from (omega (arith, below, c.loop-seed-test.false))

@@ -14,7 +14,7 @@ loop-seed-preserved g c =
     }
 
 -- all ran
-pub returns : goal.returns
-returns g c =
+pub returns-clause-found : goal.returns-clause-found
+returns-clause-found g c =
     let so = c.loop-seed.invariant in
     all_of (λ seed result. g.F.Fn.post c.args.run (seed, tt) result) c.args.seeds.start c.loop-seed.seed c.args.seeds.end c.loop-seed.least so.within (let over = c.loop-seed-test.false in omega (arith, over)) so.compared
