@@ -1,7 +1,10 @@
-//! Calls and replies in 16 bytes each: `BriefCall`, `BriefReply`, the `Row` of an entry, and `Choosing`, what a select asks, which lies
-//! apart. Variants are those of `Call` and `Reply` of gmp_seq, and mean the same.
+//! An entry in 32 bytes: its `Row`, with the call (`BriefCall`) and the reply (`BriefReply`) each as a kind and its numbers. What a select
+//! asks (`Choosing`) and what a receive that served a waiting sender got (`Served`) lie apart.
+ghost use Rattle.std.specs.Prelude.{◌≡◌};
+ghost use Rattle.gmp_history.specs.Brief.{call_part, reply_part};
 
-use gmp_base::{CNo, Cases, Fault, GNo, MNo, PNo};
+use gmp_base::{Cases, MNo};
+use gmp_seq::Relay;
 
 /// What a select asks: 136 bytes of cases, and so wider than all else that is asked.
 #[derive(Debug, Drop)]
@@ -11,32 +14,44 @@ pub(crate) struct Choosing {
     pub(crate) until: Option<u64>,
 }
 
-/// A call. Each variant has 16 bytes at most: a readiness is a number and an epoch, side by side, since a `Readiness` alone has 16, which
-/// leave no room for the variant's mark.
-#[derive(Clone, Copy, Debug, PartialEq, Eq)]
-pub(crate) enum BriefCall {
+/// What a receive got that served a waiting sender: the value, whether it was sent, and whom it served.
+#[derive(Clone, Copy, Debug)]
+pub(crate) struct Served {
+    pub(crate) value: u64,
+    pub(crate) was_sent: bool,
+    pub(crate) from: Relay,
+}
+
+/// Which call it is, by the variants of `Call` of gmp_seq. A call on the nil channel has a kind of its own, so that no number stands for
+/// nil.
+#[derive(Clone, Copy, Debug)]
+pub enum CallKind {
     Acquire,
     Take,
-    Put(GNo, u64),
-    Claim(GNo, u64),
-    Go(GNo),
+    Put,
+    Claim,
+    Go,
     Spawn,
     Yield,
     Exit,
-    Make(u32),
-    Send(Option<CNo>, u64),
-    Recv(Option<CNo>),
-    Close(Option<CNo>),
-    Len(Option<CNo>),
-    Cap(Option<CNo>),
-    /// The number of its choosing, from 0.
-    Select(u32),
-    Sleep(u64),
-    Procs(u8),
+    Make,
+    Send,
+    SendNil,
+    Recv,
+    RecvNil,
+    Close,
+    CloseNil,
+    Len,
+    LenNil,
+    Cap,
+    CapNil,
+    Select,
+    Sleep,
+    Procs,
     Gopark,
-    Ready(GNo),
+    Ready,
     Enter,
-    Leave(u64),
+    Leave,
     Spin,
     Woken,
     Keep,
@@ -45,55 +60,142 @@ pub(crate) enum BriefCall {
     Declare,
     Bare,
     Park,
-    Tick(u64),
+    Tick,
 }
 
-/// A reply. A sender that a receive served has a number of its own, from 0, and whether one was served is told by the variant.
-#[derive(Clone, Copy, Debug, PartialEq, Eq)]
-pub(crate) enum BriefReply {
-    Proc(PNo),
+/// Which reply it is, by the variants of `Reply` of gmp_seq and of what stands in them.
+#[derive(Clone, Copy, Debug)]
+pub(crate) enum ReplyKind {
+    Proc,
     Nothing,
-    Ticket(GNo, u64),
+    Ticket,
     Shelf,
     Held,
-    Shelved(GNo, u64),
+    Shelved,
     Dead,
     MainEnded,
-    Channel(CNo),
+    Channel,
     Sent,
-    SentTo(GNo, u64),
-    Got(bool, u64),
-    /// With the number of the sender that was served.
-    GotFrom(bool, u32, u64),
+    SentTo,
+    Got,
+    /// Got what was not sent.
+    GotUnsent,
+    GotFrom,
     Waits,
-    Closed(u64),
-    Number(u64),
-    ChoseSent(u8),
-    ChoseSentTo(u8, GNo, u64),
-    ChoseGot(u8, bool, u64),
-    ChoseGotFrom(u8, bool, u32, u64),
-    ChoseFailed(u8),
+    Closed,
+    Number,
+    ChoseSent,
+    ChoseSentTo,
+    ChoseGot,
+    ChoseGotUnsent,
+    ChoseGotFrom,
+    ChoseFailed,
     Default,
-    Entered(PNo, Option<MNo>),
-    Runs(PNo),
-    Idle(PNo),
-    Answer(bool),
+    Entered,
+    EnteredWaking,
+    Runs,
+    Idle,
+    Yes,
+    No,
     Done,
-    Wakes(MNo),
+    Wakes,
     Parked,
     Work,
     LookAgain,
-    Mind(u64),
+    Mind,
     AllAsleep,
-    Woke(u64),
-    Fault(Fault),
+    Woke,
+    NoSuchBody,
+    AlreadyStarted,
+    NoSuchChannel,
+    SendOnClosed,
+    CloseOfClosed,
+    CloseOfNil,
+    NotParked,
+    BadCapacity,
+    TooManyChannels,
+    BadProcs,
 }
 
-/// An entry: 16 bytes of machine and number, 16 of call, 16 of reply.
-#[derive(Clone, Copy, Debug, PartialEq, Eq)]
+/// A call as a row has it.
+#[derive(Clone, Copy)]
+pub(crate) struct BriefCall {
+    pub(crate) kind: CallKind,
+    /// The channel or the goroutine.
+    pub(crate) number: u16,
+    /// The epoch, the value, the capacity, the moment, the count, or the number of a blocking call; of a select the number of its choosing,
+    /// from 0.
+    pub(crate) word: u64,
+}
+
+/// A reply as a row has it.
+#[derive(Clone, Copy)]
+pub(crate) struct BriefReply {
+    pub(crate) kind: ReplyKind,
+    /// The case or the processor.
+    pub(crate) small: u8,
+    /// The channel, the goroutine or the machine.
+    pub(crate) number: u16,
+    /// The epoch, the value, the count or the moment; where a waiting sender was served the number of that, from 0.
+    pub(crate) word: u64,
+}
+
+/// An entry. Fields lie as they stand here: 8 bytes of small ones, then three words.
+#[derive(Clone, Copy, Debug)]
 pub(crate) struct Row {
     pub(crate) m: MNo,
+    pub(crate) call: CallKind,
+    pub(crate) reply: ReplyKind,
+    pub(crate) reply_small: u8,
+    pub(crate) call_number: u16,
+    pub(crate) reply_number: u16,
     pub(crate) k: u64,
-    pub(crate) call: BriefCall,
-    pub(crate) reply: BriefReply,
+    pub(crate) call_word: u64,
+    pub(crate) reply_word: u64,
+}
+
+impl BriefCall {
+    #[inline(always)]
+    pub(crate) fn new(kind: CallKind, number: u16, word: u64) -> Self
+        ensures { result ≡ record { kind = kind; number = number; word = word } }
+    {
+        BriefCall { kind, number, word }
+    }
+}
+
+impl BriefReply {
+    #[inline(always)]
+    pub(crate) fn new(kind: ReplyKind, small: u8, number: u16, word: u64) -> Self
+        ensures { result ≡ record { kind = kind; small = small; number = number; word = word } }
+    {
+        BriefReply {
+            kind,
+            small,
+            number,
+            word,
+        }
+    }
+}
+
+impl Row {
+    /// The call, as the row has it.
+    #[inline(always)]
+    pub(crate) fn brief_call(&self) -> BriefCall
+        ensures { result ≡ call_part self.now }
+    {
+        BriefCall::new(self.call, self.call_number, self.call_word)
+    }
+
+    /// The reply, as the row has it.
+    #[inline(always)]
+    pub(crate) fn brief_reply(&self) -> BriefReply
+        ensures { result ≡ reply_part self.now }
+    {
+        BriefReply::new(
+            self.reply,
+            self.reply_small,
+            self.reply_number,
+            self.reply_word,
+        )
+    }
 }

@@ -1,14 +1,17 @@
 //! The history: its rows, made brief, beside the vectors of what is wide. Entries are added at the end and never changed.
-ghost use Rattle.std.specs.Prelude.{◌≡◌, ◌<◌, ◌≤◌, ◌-◌, ◌^◌, ◌↔◌, IsTrue, [], ◌∷◌, ◌++◌, length, slice_get, true, false, Some, IfOk, IsOk, OnOk};
+ghost use Rattle.std.specs.Prelude.{◌≡◌, ◌<◌, ◌≤◌, ◌-◌, ◌^◌, ◌↔◌, IsTrue, [], ◌∷◌, ◌++◌, length, map, slice_get, true, false, Some, IfOk, IsOk, OnOk};
 ghost use Rattle.gmp_seq.specs.declared.call.Entry.{Entry};
 ghost use Rattle.gmp_seq.specs.Fits.{Fits};
 ghost use Rattle.gmp_history.specs.Brief.{is_select};
+ghost use Rattle.gmp_history.specs.Heads.{head_of};
 
-use crate::brief::{BriefCall, BriefReply, Choosing, Row};
+use crate::brief::{Choosing, Row, Served};
+use crate::calls::{brief_call, whole_call};
 use crate::entries::Entries;
-use crate::parts::{brief_call, brief_reply, whole_call, whole_reply};
+use crate::heads::Heads;
+use crate::replies::{brief_reply, whole_reply};
 use gmp_base::MNo;
-use gmp_seq::{Call, Entry, Relay, Reply};
+use gmp_seq::{Call, Entry, Reply};
 use std::alloc::{AllocError, Global};
 use std::marker::Model;
 
@@ -21,8 +24,8 @@ pub struct History {
     rows: Vec<Row>,
     /// What selects asked, in order.
     choosings: Vec<Choosing>,
-    /// Whom receives served, in order.
-    relays: Vec<Relay>,
+    /// What receives got that served a waiting sender, in order.
+    served: Vec<Served>,
     /// For how many entries there is room, in each of the three.
     room: u32,
     /// For how many there is once all are let go. Room that was made entry by entry is no room for as many of the wide ones, so of a
@@ -37,11 +40,11 @@ impl Model for History {
 
     ghost Value = { HistoryContents };
 
-    ghost view = { λ h. record { list = entries_of h.choosings.items h.relays.items h.rows.items; room = h.room; lasting = h.lasting } };
+    ghost view = { λ h. record { list = entries_of h.choosings.items h.served.items h.rows.items; room = h.room; lasting = h.lasting } };
 
     // Each number that a row has is one of its vector, which has no more than there are rows, and in each of the three there is room for as
     // many entries as `room` says.
-    ghost invariant = { λ h. IsHistory h.rows.items h.choosings.items h.relays.items h.room h.lasting (vec_capacity h.rows) (vec_capacity h.choosings) (vec_capacity h.relays) };
+    ghost invariant = { λ h. IsHistory h.rows.items h.choosings.items h.served.items h.room h.lasting (vec_capacity h.rows) (vec_capacity h.choosings) (vec_capacity h.served) };
 }
 
 /// The row at this place, if there is one.
@@ -59,7 +62,7 @@ impl History {
         Ok(History {
             rows: Vec::with_capacity(alloc, room as usize)?,
             choosings: Vec::with_capacity(alloc, room as usize)?,
-            relays: Vec::with_capacity(alloc, room as usize)?,
+            served: Vec::with_capacity(alloc, room as usize)?,
             room,
             lasting: room,
         })
@@ -72,7 +75,7 @@ impl History {
         History {
             rows: Vec::new(alloc),
             choosings: Vec::new(alloc),
-            relays: Vec::new(alloc),
+            served: Vec::new(alloc),
             room: 0,
             lasting: 0,
         }
@@ -108,7 +111,7 @@ impl History {
         // changed.
         self.rows.reserve(1)?;
         self.choosings.reserve(1)?;
-        self.relays.reserve(1)?;
+        self.served.reserve(1)?;
         self.room = self.room.max(len as u32 + 1);
         Ok(())
     }
@@ -134,7 +137,7 @@ impl History {
     {
         self.rows.clear();
         self.choosings.clear();
-        self.relays.clear();
+        self.served.clear();
         self.room = self.lasting;
     }
 
@@ -159,8 +162,18 @@ impl History {
     {
         // What is wide goes first, so that the row has its number.
         let call = brief_call(&mut self.choosings, call, is_plain);
-        let reply = brief_reply(&mut self.relays, reply);
-        self.rows.push_reserved(Row { m, k, call, reply });
+        let reply = brief_reply(&mut self.served, reply);
+        self.rows.push_reserved(Row {
+            m,
+            call: call.kind,
+            reply: reply.kind,
+            reply_small: reply.small,
+            call_number: call.number,
+            reply_number: reply.number,
+            k,
+            call_word: call.word,
+            reply_word: reply.word,
+        });
     }
 
     /// The entries, in order.
@@ -171,8 +184,16 @@ impl History {
         Entries {
             rows: &self.rows,
             choosings: &self.choosings,
-            relays: &self.relays,
+            served: &self.served,
         }
+    }
+
+    /// Whose each entry is and which call it makes, in order.
+    pub fn heads(&self) -> Heads<'_>
+        ensures list { result ≡ map head_of self.now.list }
+        ensures few { length self.now.list < 2 ^ 32 }
+    {
+        Heads { rows: &self.rows }
     }
 
     /// The last entry, if there is one.
@@ -192,8 +213,8 @@ impl History {
             Some(row) => Some(Entry {
                 m: row.m,
                 k: row.k,
-                call: whole_call(&self.choosings, row.call),
-                reply: whole_reply(&self.relays, row.reply),
+                call: whole_call(&self.choosings, row.brief_call()),
+                reply: whole_reply(&self.served, row.brief_reply()),
             }),
             None => None,
         }

@@ -12,8 +12,8 @@ use Rattle.gmp_seq.specs.declared.call.Entry.{Entry}
 use Rattle.gmp_seq.specs.declared.call.Limits.{Limits}
 use Rattle.gmp_seq.specs.Run.{IsLegal, Run}
 use Rattle.gmp_seq.specs.State.{State, opening}
-use Rattle.gmp_worker.specs.Audit.{AgreesWithLogs, entries_of, logged_of}
-use Rattle.gmp_worker.specs.declared.auditing.PassLog.{PassLog}
+use Rattle.gmp_history.specs.Audit.{AgreesWithLogs, entries_of, logged_of}
+use Rattle.gmp_history.specs.declared.auditing.PassLog.{PassLog}
 use Rattle.gmp_run.specs.Reports.{AreCounts, AreLogs}
 
 -- Entries

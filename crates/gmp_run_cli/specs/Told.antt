@@ -15,8 +15,8 @@ use Rattle.gmp_trace.specs.Summary.{summary_text}
 use Rattle.gmp_trace.specs.Text.{Content, end_of, text}
 use Rattle.gmp_trace.specs.Text.Begins.{AtOpening}
 use Rattle.gmp_trace.specs.declared.trace.End.{End}
-use Rattle.gmp_worker.specs.Audit.{AgreesWithLogs, IsMismatch}
-use Rattle.gmp_worker.specs.declared.auditing.Mismatch.{Mismatch}
+use Rattle.gmp_history.specs.Audit.{AgreesWithLogs, IsMismatch}
+use Rattle.gmp_history.specs.declared.auditing.Mismatch.{Mismatch}
 use Rattle.gmp_run.specs.declared.ending.Report.{Report}
 use Rattle.gmp_words.specs.declared.said.Said.{Said}
 use Rattle.gmp_words.specs.declared.said.Said.TheVariants as said

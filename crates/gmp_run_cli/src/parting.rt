@@ -9,12 +9,12 @@ ghost use Rattle.gmp_run_cli.specs.Segments.{IsNoRun, TellsParts, is_of_end_in_p
 ghost use Rattle.gmp_run_cli.specs.Told.{said_of_unrun};
 
 use crate::telling::unrun;
+use gmp_history::PassLog;
 use gmp_parts::{Outlet, PartError, tell};
 use gmp_pieces::Pieces;
 use gmp_run::{Report, Unrun};
 use gmp_trace::End;
 use gmp_words::Ended;
-use gmp_worker::PassLog;
 use std::alloc::Global;
 use std::io::Write;
 

@@ -10,11 +10,11 @@ ghost use Rattle.gmp_trace.specs.Text.{IsCounted, begins_at, content};
 use gmp_base::Refusal;
 use gmp_check::OpenError;
 use gmp_follow::follows;
+use gmp_history::audit;
 use gmp_run::{Report, Unrun};
 use gmp_script::ScriptBody;
 use gmp_trace::{Beginning, End, Trace, summary, write};
 use gmp_words::{Ended, Settings};
-use gmp_worker::audit;
 use std::alloc::{AllocError, Global};
 use std::io::Write;
 

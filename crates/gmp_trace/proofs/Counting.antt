@@ -1,5 +1,5 @@
 -- One entry more is counted.
-use Rattle.std.proofs.Common.{◌≡◌, ℕ, suc, ◌+◌, ◌-◌, ◌<◌, ◌≤◌, ◌==◌, true, cond, List, [], ◌∷◌, ◌++◌, length, get_or, drop, refl, sym, ap, ◌∙◌, arith, inl, inr, add-one, append_assoc, drop-cons}
+use Rattle.std.proofs.Common.{◌≡◌, ℕ, suc, ◌+◌, ◌-◌, ◌<◌, ◌≤◌, ◌==◌, true, cond, None, Some, List, [], ◌∷◌, ◌++◌, length, get_or, drop, refl, sym, ap, ◌∙◌, arith, inl, inr, add-one, append_assoc, drop-cons}
 use Rattle.std.proofs.lemmas.Bool.{agree_below, agree_below_at}
 use Rattle.std.proofs.lemmas.Bool.Decides.{eqb_tells}
 use Rattle.std.proofs.lemmas.Grind.{get_or-set_at}
@@ -8,15 +8,32 @@ use Rattle.std.proofs.lemmas.List.Sums.{sum_by-append}
 use Rattle.std.proofs.Math.ListN.{set, replicate}
 use Rattle.std.specs.Str.{bytes_eq}
 use Rattle.gmp_base.specs.declared.number.MNo.{MNo}
+use Rattle.gmp_seq.specs.declared.call.Call.{Call}
+use Rattle.gmp_seq.specs.declared.call.Call.TheVariants as call
 use Rattle.gmp_seq.specs.declared.call.Entry.{Entry}
+use Rattle.gmp_history.specs.Heads.{kind_of}
 use Rattle.gmp_trace.specs.HasText.{turns}
-use Rattle.gmp_trace.specs.Summary.{CountsCalls, CountsMachines, call_line, calls_named, call_lines, machine_line, machine_lines, call_name, names}
+use Rattle.gmp_trace.specs.Summary.{CountsCalls, CountsMachines, call_line, calls_named, call_lines, machine_line, machine_lines, call_name, kind_name, names}
 
 calls_more : (name : List ℕ) (es : List Entry) (e : Entry) → calls_named name (es ++ e ∷ []) ≡ calls_named name es + cond (bytes_eq (call_name e.call) name) 1 0
 calls_more name es e = sum_by-append (λ (x : Entry). cond (bytes_eq (call_name x.call) name) 1 0) es (e ∷ []) ∙ omega arith
 
 turns_more : (m : MNo) (es : List Entry) (e : Entry) → turns m (es ++ e ∷ []) ≡ turns m es + cond (e.m.0 == m.0) 1 0
 turns_more m es e = sum_by-append (λ (x : Entry). cond (x.m.0 == m.0) 1 0) es (e ∷ []) ∙ omega arith
+
+-- the first word of a call goes by its kind
+pub named : (c : Call) → kind_name (kind_of c) ≡ call_name c
+named (call.Send None v) = refl
+named (call.Send (Some c) v) = refl
+named (call.Recv None) = refl
+named (call.Recv (Some c)) = refl
+named (call.Close None) = refl
+named (call.Close (Some c)) = refl
+named (call.Len None) = refl
+named (call.Len (Some c)) = refl
+named (call.Cap None) = refl
+named (call.Cap (Some c)) = refl
+named c = refl
 
 pub machines_more : (counts : List ℕ) (es : List Entry) (e : Entry) → length counts ≡ 256 → CountsMachines counts es → e.m.0 < 256
     → CountsMachines (set counts e.m.0 (get_or counts e.m.0 0 + 1)) (es ++ e ∷ [])

@@ -4,6 +4,8 @@ use Rattle.std.specs.List.{flat_map}
 use Rattle.std.specs.Str.{bytes_eq}
 use Rattle.gmp_seq.specs.declared.call.Call.{Call}
 use Rattle.gmp_seq.specs.declared.call.Entry.{Entry}
+use Rattle.gmp_history.specs.declared.brief.CallKind.{CallKind}
+use Rattle.gmp_history.specs.declared.brief.CallKind.TheVariants as kind
 use Rattle.gmp_trace.specs.declared.trace.End.{End}
 use Rattle.gmp_trace.specs.HasText.{turns}
 use Rattle.gmp_trace.specs.Pieces.{Piece, call_pieces, end_pieces, line, number, piece_text}
@@ -53,6 +55,44 @@ first_word (p ∷ ps) = piece_text p
 -- the first word of a call
 abbrev pub call_name : Call → List ℕ
 call_name c = first_word (call_pieces c)
+
+-- the first word of the calls of a kind
+abbrev pub kind_name : CallKind → List ℕ
+kind_name kind.Acquire = codes "acquire"
+kind_name kind.Take = codes "take"
+kind_name kind.Put = codes "put"
+kind_name kind.Claim = codes "claim"
+kind_name kind.Go = codes "go"
+kind_name kind.Spawn = codes "spawn"
+kind_name kind.Yield = codes "yield"
+kind_name kind.Exit = codes "exit"
+kind_name kind.Make = codes "make"
+kind_name kind.Send = codes "send"
+kind_name kind.SendNil = codes "send"
+kind_name kind.Recv = codes "recv"
+kind_name kind.RecvNil = codes "recv"
+kind_name kind.Close = codes "close"
+kind_name kind.CloseNil = codes "close"
+kind_name kind.Len = codes "len"
+kind_name kind.LenNil = codes "len"
+kind_name kind.Cap = codes "cap"
+kind_name kind.CapNil = codes "cap"
+kind_name kind.Select = codes "select"
+kind_name kind.Sleep = codes "sleep"
+kind_name kind.Procs = codes "procs"
+kind_name kind.Gopark = codes "gopark"
+kind_name kind.Ready = codes "ready"
+kind_name kind.Enter = codes "enter"
+kind_name kind.Leave = codes "leave"
+kind_name kind.Spin = codes "spin"
+kind_name kind.Woken = codes "woken"
+kind_name kind.Keep = codes "keep"
+kind_name kind.Unspin = codes "unspin"
+kind_name kind.Poke = codes "poke"
+kind_name kind.Declare = codes "declare"
+kind_name kind.Bare = codes "bare"
+kind_name kind.Park = codes "park"
+kind_name kind.Tick = codes "tick"
 
 -- how many entries make a call of this name
 abbrev pub calls_named : List ℕ → List Entry → ℕ

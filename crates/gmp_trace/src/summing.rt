@@ -5,14 +5,14 @@ ghost use Rattle.std.specs.Prelude.{◌≡◌, ◌<◌, ◌++◌, [], List, repl
 ghost use Rattle.std.specs.Io.KnownBytes.{Appends};
 ghost use Rattle.gmp_seq.specs.declared.call.Entry.{Entry};
 ghost use Rattle.gmp_trace.specs.declared.writing.WriteError.TheVariants.{OutOfMemory};
-ghost use Rattle.gmp_trace.specs.Summary.{CountsCalls, CountsMachines, call_line, call_lines, entries_line, machine_line, machine_lines, call_name, names, outcome_line, summary_text};
+ghost use Rattle.gmp_trace.specs.Summary.{CountsCalls, CountsMachines, call_line, call_lines, entries_line, machine_line, machine_lines, call_name, kind_name, names, outcome_line, summary_text};
 ghost use Rattle.gmp_trace.specs.Text.{content};
 
 use crate::put::{put, put_digits, put_number};
 use crate::trace::{End, Trace};
 use crate::writing::WriteError;
 use gmp_base::MNo;
-use gmp_history::History;
+use gmp_history::{CallKind, History};
 use gmp_seq::Call;
 use itoa::Buffer;
 use std::alloc::{AllocError, Global};
@@ -22,42 +22,50 @@ use std::io::Write;
 pub const CALLS: usize = 30;
 
 /// The place of a call in a table of all, in the order of the definitions, but `spawn` last.
-#[tactic(auto, unfolding(crate::specs::Summary::names))]
 pub fn call_place(call: &Call) -> usize
     ensures bound { result < 30 }
     ensures name { slice_index_or names result [] ≡ call_name call.now }
 {
-    match call {
-        Call::Acquire => 0,
-        Call::Take => 1,
-        Call::Put(_) => 2,
-        Call::Claim(_) => 3,
-        Call::Go(_) => 4,
-        Call::Yield => 5,
-        Call::Exit => 6,
-        Call::Make(_) => 7,
-        Call::Send(..) => 8,
-        Call::Recv(_) => 9,
-        Call::Close(_) => 10,
-        Call::Len(_) => 11,
-        Call::Cap(_) => 12,
-        Call::Procs(_) => 13,
-        Call::Select(..) => 14,
-        Call::Sleep(_) => 15,
-        Call::Gopark => 16,
-        Call::Ready(_) => 17,
-        Call::Enter => 18,
-        Call::Leave(_) => 19,
-        Call::Spin => 20,
-        Call::Woken => 21,
-        Call::Keep => 22,
-        Call::Unspin => 23,
-        Call::Poke => 24,
-        Call::Declare => 25,
-        Call::Bare => 26,
-        Call::Park => 27,
-        Call::Tick(_) => 28,
-        Call::Spawn => 29,
+    kind_place(CallKind::of(call))
+}
+
+/// The place of the calls of this kind.
+#[tactic(auto, unfolding(crate::specs::Summary::names))]
+fn kind_place(kind: CallKind) -> usize
+    ensures bound { result < 30 }
+    ensures name { slice_index_or names result [] ≡ kind_name kind }
+{
+    match kind {
+        CallKind::Acquire => 0,
+        CallKind::Take => 1,
+        CallKind::Put => 2,
+        CallKind::Claim => 3,
+        CallKind::Go => 4,
+        CallKind::Yield => 5,
+        CallKind::Exit => 6,
+        CallKind::Make => 7,
+        CallKind::Send | CallKind::SendNil => 8,
+        CallKind::Recv | CallKind::RecvNil => 9,
+        CallKind::Close | CallKind::CloseNil => 10,
+        CallKind::Len | CallKind::LenNil => 11,
+        CallKind::Cap | CallKind::CapNil => 12,
+        CallKind::Procs => 13,
+        CallKind::Select => 14,
+        CallKind::Sleep => 15,
+        CallKind::Gopark => 16,
+        CallKind::Ready => 17,
+        CallKind::Enter => 18,
+        CallKind::Leave => 19,
+        CallKind::Spin => 20,
+        CallKind::Woken => 21,
+        CallKind::Keep => 22,
+        CallKind::Unspin => 23,
+        CallKind::Poke => 24,
+        CallKind::Declare => 25,
+        CallKind::Bare => 26,
+        CallKind::Park => 27,
+        CallKind::Tick => 28,
+        CallKind::Spawn => 29,
     }
 }
 
@@ -123,9 +131,9 @@ fn count(entries: &History) -> Counts
 {
     let mut machines = [0u64; 256];
     let mut calls = [0u64; CALLS];
-    for entry in entries.iter() {
-        machines[machine_place(entry.m)] += 1;
-        calls[call_place(&entry.call)] += 1;
+    for head in entries.heads() {
+        machines[machine_place(head.m)] += 1;
+        calls[kind_place(head.call)] += 1;
     }
     Counts { machines, calls }
 }

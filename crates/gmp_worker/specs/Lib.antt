@@ -1,5 +1,4 @@
 pub mod Turn
 pub mod Local
-pub mod Audit
 pub mod Drawn
 pub mod AtQueue

@@ -3,13 +3,12 @@
 use crate::words::put_line;
 use gmp_base::{Fault, MNo, Refusal};
 use gmp_chan::Channels;
-use gmp_history::History;
+use gmp_history::{History, PassLog, audit};
 use gmp_idle::Machines;
 use gmp_seq::{Call, Entry, Reply};
 use gmp_table::StatusTable;
 use gmp_trace::{Bad, Why};
 use gmp_words::{Ended, Untraced};
-use gmp_worker::{PassLog, audit};
 use std::alloc::{AllocError, Global};
 
 /// What faults and refusals say, and ends with their statuses; and whether an entry is small, as histories are long.

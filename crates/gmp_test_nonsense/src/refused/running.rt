@@ -3,10 +3,10 @@
 use crate::error::RunError;
 use crate::threads::Last;
 use gmp_base::{Ask, Body, GNo, Refusal, Woke};
-use gmp_history::History;
+use gmp_history::{History, audit};
 use gmp_run::{Open, Report, Unrun, run};
 use gmp_seq::{Call, Limits, Outcome};
-use gmp_worker::{Boxed, audit};
+use gmp_worker::Boxed;
 use std::alloc::Global;
 use std::sync::Wait;
 use std::thread::Threads;

@@ -2,7 +2,7 @@ use Rattle.std.proofs.Common.{◌≡◌, ◌≢◌, ◌<◌, ◌^◌, ℕ, List,
 use Rattle.gmp_seq.specs.declared.call.Limits.{Limits}
 use Rattle.gmp_run.specs.Counts.{all_calls}
 use Rattle.gmp_run.specs.Reports.{IsPiecesReport}
-use Rattle.gmp_worker.specs.declared.auditing.PassLog.{PassLog}
+use Rattle.gmp_history.specs.declared.auditing.PassLog.{PassLog}
 use Rattle.gmp_host.specs.declared.ending.Ended.{Ended}
 use Rattle.gmp_host.specs.Ends.{IsOfPieces, StopsPieces, TakesLeft}
 use Rattle.gmp_host.proofs.Pieces.{few_calls, in_pieces, of_ok, said_pieces, said_to_stop, stopped_at_last, stopped_on_the_way}

@@ -5,10 +5,10 @@ use Rattle.std.proofs.lemmas.List.Elements.{All-cons, All-head, All-nil, All-tai
 use Rattle.std.proofs.lemmas.List.Sums.{sum_by-cons}
 use Rattle.std.specs.List.{All, sum}
 use Rattle.gmp_seq.specs.declared.call.Entry.{Entry}
-use Rattle.gmp_worker.specs.declared.auditing.PassLog.{PassLog}
-use Rattle.gmp_worker.specs.declared.auditing.Tally.{Tally}
-use Rattle.gmp_worker.specs.Audit.{AgreesWithLogs, entries_of, logged_of, tally_of}
-use Rattle.gmp_worker.proofs.Tallies.{few_entries}
+use Rattle.gmp_history.specs.declared.auditing.PassLog.{PassLog}
+use Rattle.gmp_history.specs.declared.auditing.Tally.{Tally}
+use Rattle.gmp_history.specs.Audit.{AgreesWithLogs, entries_of, logged_of, tally_of}
+use Rattle.gmp_history.proofs.Tallies.{few_entries}
 
 -- each is n
 abbrev AllAre : ℕ → List ℕ → Type 0

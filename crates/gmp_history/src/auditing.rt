@@ -1,10 +1,10 @@
 //! Whether machines made the calls of a history: a `PassLog` is what a machine says of itself, a `Tally` what is counted of it, a
 //! `Mismatch` where they disagree.
 ghost use Rattle.std.specs.Prelude.{◌≡◌, ◌↔◌, ◌⊎◌, ℕ, ◌+◌, ◌<◌, ◌^◌, IsTrue, OnOk, IfErr, length, slice_index_or};
-ghost use Rattle.gmp_worker.specs.Audit.{AgreesWithLogs, IsMismatch, no_tally, tally_of};
+ghost use Rattle.gmp_history.specs.Audit.{AgreesWithLogs, IsMismatch, no_tally, tally_of};
 
+use crate::history::History;
 use gmp_base::MNo;
-use gmp_history::History;
 
 /// How many machines an `MNo` can name.
 const MACHINES: usize = 256;
@@ -76,8 +76,8 @@ fn tallied(history: &History, logs: &[PassLog]) -> [Tally; MACHINES]
         logs: 0,
         said: 0,
     }; MACHINES];
-    for entry in history.iter() {
-        tallies[machine_place(entry.m)].found += 1;
+    for head in history.heads() {
+        tallies[machine_place(head.m)].found += 1;
     }
     for log in logs {
         let m = machine_place(log.m);

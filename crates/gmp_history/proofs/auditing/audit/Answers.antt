@@ -1,9 +1,9 @@
 use Rattle.std.proofs.Common.{◌≡◌, ap, arith, below_more, get_or, refl}
 use Rattle.std.proofs.lemmas.Bool.{false≢true}
-use Rattle.gmp_worker.specs.declared.auditing.Tally.{Tally}
-use Rattle.gmp_worker.specs.Audit.{no_tally, tally_of}
-use Rattle.gmp_worker.proofs.Agreeing.{agree, agreed}
-use Rattle.gmp_worker.proofs.auditing.audit.Goals as goal
+use Rattle.gmp_history.specs.declared.auditing.Tally.{Tally}
+use Rattle.gmp_history.specs.Audit.{no_tally, tally_of}
+use Rattle.gmp_history.proofs.Agreeing.{agree, agreed}
+use Rattle.gmp_history.proofs.auditing.audit.Goals as goal
 
 pub loop-m-preserved : goal.loop-m-preserved
 loop-m-preserved c =

@@ -6,9 +6,9 @@ use Rattle.std.proofs.lemmas.List.Elements.{filter_more, filter-append}
 use Rattle.std.proofs.lemmas.List.Sums.{count_by-le-length, length-filter, sum_by_push}
 use Rattle.std.specs.List.{count_by, sum}
 use Rattle.gmp_seq.specs.declared.call.Entry.{Entry}
-use Rattle.gmp_worker.specs.declared.auditing.PassLog.{PassLog}
-use Rattle.gmp_worker.specs.declared.auditing.Tally.{Tally}
-use Rattle.gmp_worker.specs.Audit.{entries_of, logged_of, no_tally, tally_of}
+use Rattle.gmp_history.specs.declared.auditing.PassLog.{PassLog}
+use Rattle.gmp_history.specs.declared.auditing.Tally.{Tally}
+use Rattle.gmp_history.specs.Audit.{entries_of, logged_of, no_tally, tally_of}
 
 -- One tally of the array changes
 

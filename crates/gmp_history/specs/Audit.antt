@@ -1,9 +1,9 @@
 -- Whether the logs of machines say how many entries of a history are theirs.
 use Rattle.std.specs.Prelude.{◌≡◌, ℕ, ◌<◌, ◌==◌, min, List, length, filter, map, sum, All}
 use Rattle.gmp_seq.specs.declared.call.Entry.{Entry}
-use Rattle.gmp_worker.specs.declared.auditing.Mismatch.{Mismatch}
-use Rattle.gmp_worker.specs.declared.auditing.PassLog.{PassLog}
-use Rattle.gmp_worker.specs.declared.auditing.Tally.{Tally}
+use Rattle.gmp_history.specs.declared.auditing.Mismatch.{Mismatch}
+use Rattle.gmp_history.specs.declared.auditing.PassLog.{PassLog}
+use Rattle.gmp_history.specs.declared.auditing.Tally.{Tally}
 
 -- how many entries are machine m's
 abbrev pub entries_of : List Entry → ℕ → ℕ
