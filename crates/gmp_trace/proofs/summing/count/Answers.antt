@@ -1,6 +1,6 @@
-use Rattle.std.proofs.Common.{◌≡◌, ◌<◌, ◌==◌, ◌∙◌, ◌++◌, ◌∷◌, suc, List, [], ap, get_or, length, refl, subst, sym, take, add-one, arith}
+use Rattle.std.proofs.Common.{◌≡◌, ◌<◌, ◌==◌, ◌∙◌, ◌++◌, ◌∷◌, [], ap, get_or, length, refl, subst, sym, take, add-one, arith}
 use Rattle.std.proofs.lemmas.Iterator.Consumers.{YieldsList-at, YieldsList-end, YieldsList-from_first, YieldsList-turn}
-use Rattle.std.proofs.lemmas.List.{length-map, length-set, length-take, length_push, map-id, take_all}
+use Rattle.std.proofs.lemmas.List.{length-map, length-set, length-take, length_push, take_all}
 use Rattle.std.proofs.lemmas.List.Sums.{count_by-le-length}
 use Rattle.std.specs.Prelude.{map}
 use Rattle.std.specs.Str.{bytes_eq}
