@@ -1,5 +1,5 @@
 -- A status table is kept where one goroutine changes, and the shelf with it.
-use Rattle.std.proofs.Common.{◌≡◌, ℕ, zero, suc, ◌+◌, ◌-◌, ◌<◌, ◌==◌, Bool, true, false, ◌&&◌, ◌||◌, List, [], ◌∷◌, ◌++◌, Option, Some, None, length, set, drop, replicate, slice_get, nat_lt, refl, sym, ◌∙◌, ap, arith, length-set}
+use Rattle.std.proofs.Common.{◌≡◌, ℕ, zero, suc, ◌+◌, ◌-◌, ◌<◌, ◌==◌, Bool, true, false, ◌&&◌, ◌||◌, List, [], ◌∷◌, ◌++◌, Option, Some, None, length, set, drop, replicate, slice_get, nat_lt, subst, IfSome, refl, sym, ◌∙◌, ap, arith, length-set}
 use Rattle.std.proofs.lemmas.Bool.Decides.{nat_tests}
 use Rattle.std.proofs.lemmas.Grind.{common_steps}
 use Rattle.std.proofs.lemmas.List.{length-replicate}
@@ -107,13 +107,12 @@ top_popped rows shelf capacity g y kept first now_off =
       room = rw length-set kept.room;
     }
 
--- what is told by a ready goroutine's row
-pub ready_answer : (rows : List Goroutine) (g : GNo) (place : TicketPlace) (answer woke : Woke) (epoch : ℕ)
-    → slice_get rows g.0 ≡ Some (record { status = Ready place answer; epoch = epoch }) → answer_in rows g ≡ Some woke → woke ≡ answer
-ready_answer rows g place answer woke epoch at e = let e' : Some answer ≡ Some woke = rw at at e in cc
-
-pub top_answer : (rows : List Goroutine) (g : GNo) (woke : Woke) (top : IsTop rows g) → answer_in rows g ≡ Some woke → woke ≡ top.answer
-top_answer rows g woke top e = ready_answer rows g Shelf top.answer woke top.epoch top.at e
+-- where a ready goroutine's ticket goes, it is turned so
+pub moved_so : (rows : List Goroutine) (g : GNo) (to from : TicketPlace) (answer : Woke) (epoch : ℕ) → slice_get rows g.0 ≡ Some (record { status = Ready from answer; epoch = epoch })
+    → (now : List Goroutine) → IfSome (answer_in rows g) (λ woke. now ≡ turned rows g (Ready to woke)) → now ≡ turned rows g (Ready to answer)
+moved_so rows g to from answer epoch at now moved =
+    let told : answer_in rows g ≡ Some answer = rw at refl in
+    subst (λ (o : Option Woke). IfSome o (λ woke. now ≡ turned rows g (Ready to woke))) told moved
 
 pub top_turned : (rows : List Goroutine) (g : GNo) (now : List Goroutine) (status : Status) (top : IsTop rows g) → now ≡ turned rows g status → epoch_in now g ≡ top.epoch
 top_turned rows g now status top e =

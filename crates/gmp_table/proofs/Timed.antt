@@ -1,5 +1,5 @@
 -- The deadlines of the rows, where one row changes, and what the least of them says.
-use Rattle.std.proofs.Common.{◌≡◌, ◌≢◌, ◌⊎◌, inl, inr, ◌↔◌, ℕ, zero, suc, ◌+◌, ◌<◌, ◌≤◌, ◌==◌, ◌&&◌, ◌||◌, nat_le, nat_lt, min, Bool, true, false, Option, Some, None, is_some, option_map, List, [], ◌∷◌, length, set, replicate, slice_get, Contains, All, IfSome, refl, sym, ap, ◌∙◌, arith}
+use Rattle.std.proofs.Common.{◌≡◌, ◌≢◌, ◌⊎◌, inl, inr, ◌↔◌, ℕ, zero, suc, ◌+◌, ◌<◌, ◌≤◌, ◌==◌, ◌&&◌, ◌||◌, nat_le, nat_lt, min, Bool, true, false, Option, Some, None, is_some, option_map, List, [], ◌∷◌, length, length-set, set, replicate, slice_get, slice_set, Contains, All, IfSome, refl, sym, ap, subst, ◌∙◌, arith}
 use Rattle.std.proofs.lemmas.Bool.{false≢true, cases_eq}
 use Rattle.std.proofs.lemmas.Bool.Decides.{nat_tests}
 use Rattle.std.proofs.lemmas.Option.{slice_get_within}
@@ -8,13 +8,15 @@ use Rattle.gmp_base.specs.declared.number.GNo.{GNo}
 use Rattle.gmp_base.specs.declared.ask.Woke.{Woke}
 use Rattle.gmp_seq.specs.declared.status.Goroutine.{Goroutine}
 use Rattle.gmp_seq.specs.declared.status.Status.{Status}
-use Rattle.gmp_seq.specs.declared.status.Status.TheVariants.{Waiting}
+use Rattle.gmp_seq.specs.declared.status.Status.TheVariants.{Ready, Waiting}
+use Rattle.gmp_seq.specs.declared.status.TicketPlace.{TicketPlace}
 use Rattle.gmp_seq.specs.declared.status.Wait.{Wait}
 use Rattle.gmp_seq.specs.State.{dormant}
-use Rattle.gmp_seq.specs.Table.{deadline_of, due_answer, earlier, late_answer, least_of}
+use Rattle.gmp_seq.specs.Table.{answer_of_ready, is_calling, is_ready_or_running, deadline_of, due_answer, earlier, late_answer, least_of}
 use Rattle.gmp_table.proofs.Listing.{count_by-set, slice_get-set_same, slice_get-set_other}
-use Rattle.gmp_table.specs.Contents.{has_deadline}
-use Rattle.gmp_table.specs.Due.{AreDue, deadline_at, deadline_in, is_sooner}
+use Rattle.gmp_table.proofs.Startable.{below_set}
+use Rattle.gmp_table.specs.Contents.{answer_in, has_deadline, turned}
+use Rattle.gmp_table.specs.Due.{AreDue, DueContents, IsTimed, deadline_at, deadline_in, is_sooner}
 use Rattle.gmp_table.specs.Kept.{count_status, tally}
 use Rattle.gmp_table.specs.declared.deadlines.Deadline.{Deadline}
 use Rattle.gmp_table.specs.declared.wake.Candidate.{Candidate}
@@ -326,3 +328,61 @@ module _ (rows : List Goroutine) (due : AreDue rows []) where
           let first = somebody rows least e in
           let own = deadline_until (record { 0 = first.number }) first.row.status least first.until in
           absurd (nobody_has first.number first.row own.deadline first.at own.is)
+
+-- The ticket of one that is ready moves
+
+-- a goroutine's row says that it is ready
+pub record HasTicket (rows : List Goroutine) (g : GNo) : Type 0 where
+  pub place : TicketPlace
+  pub answer : Woke
+  pub epoch : ℕ
+  pub at : slice_get rows g.0 ≡ Some (record { status = Ready place answer; epoch = epoch })
+
+pub ticket_of : (rows : List Goroutine) (g : GNo) → is_some (answer_in rows g) ≡ true → HasTicket rows g
+ticket_of rows g is = by (slice_get rows g.0) refl is
+  where
+    by_status : (s : Status) (e : ℕ) → slice_get rows g.0 ≡ Some (record { status = s; epoch = e }) → is_some (answer_of_ready s) ≡ true → HasTicket rows g
+    by_status (Ready place answer) e at told = record { place = place; answer = answer; epoch = e; at = at }
+    by_status _ e at told = absurd cc
+
+    by : (o : Option Goroutine) → slice_get rows g.0 ≡ o → is_some (option_map_or (λ (x : Goroutine). answer_of_ready x.status) o None) ≡ true → HasTicket rows g
+    by None at told = absurd cc
+    by (Some x) at told = by_status x.status x.epoch at told
+
+-- the row that is read there
+pub same_row : (rows : List Goroutine) (g : GNo) (t : HasTicket rows g) (x : Goroutine) → slice_get rows g.0 ≡ Some x → x ≡ record { status = Ready t.place t.answer; epoch = t.epoch }
+same_row rows g t x at = let e : Some x ≡ Some (record { status = Ready t.place t.answer; epoch = t.epoch }) = sym at ∙ t.at in cc
+
+-- what its move comes to
+pub moved_is : (rows : List Goroutine) (g : GNo) (to : TicketPlace) (t : HasTicket rows g) (status : Status) (epoch : ℕ) → status ≡ Ready to t.answer → epoch ≡ t.epoch
+    → (seen : List Goroutine) → rows ≡ seen → IfSome (answer_in seen g) (λ woke. slice_set rows g.0 (record { status = status; epoch = epoch }) ≡ turned seen g (Ready to woke))
+moved_is rows g to t status epoch is same seen view =
+    subst (λ (l : List Goroutine). IfSome (answer_in l g) (λ woke. slice_set rows g.0 (record { status = status; epoch = epoch }) ≡ turned l g (Ready to woke))) view
+    (rw (is, same, t.at) refl)
+
+-- what is kept beside the rows stays as it is
+pub ticket_moved : (rows : List Goroutine) (g : GNo) (to : TicketPlace) (t : HasTicket rows g) (bodies going calling : ℕ) (due : DueContents) (low : ℕ)
+    → IsTimed rows bodies going calling due low → IsTimed (set rows g.0 (record { status = Ready to t.answer; epoch = t.epoch })) bodies going calling due low
+ticket_moved rows g to t bodies going calling due low kept =
+    let x : Goroutine = record { status = Ready t.place t.answer; epoch = t.epoch } in
+    let y : Goroutine = record { status = Ready to t.answer; epoch = t.epoch } in
+    let within = slice_get_within rows g.0 x t.at in
+    let going_now : count_status is_ready_or_running (set rows g.0 y) + 1 ≡ count_status is_ready_or_running rows + 1 =
+    count_by-set (λ (z : Goroutine). is_ready_or_running z.status) rows g.0 x y t.at in
+    let calling_now : count_status is_calling (set rows g.0 y) + 0 ≡ count_status is_calling rows + 0 =
+    count_by-set (λ (z : Goroutine). is_calling z.status) rows g.0 x y t.at in
+    let timed_now : count_status has_deadline (set rows g.0 y) + 0 ≡ count_status has_deadline rows + 0 =
+    count_by-set (λ (z : Goroutine). has_deadline z.status) rows g.0 x y t.at in
+    record {
+      counted = record {
+        size = rw length-set kept.counted.size;
+        going_is = omega (arith, going_now, kept.counted.going_is);
+        calling_is = omega (arith, calling_now, kept.counted.calling_is);
+        timed_is = omega (arith, timed_now, kept.counted.timed_is);
+      };
+      each = due_set rows g x y t.at due.list due.list kept.each (λ d. (λ there. (there, λ (e : None ≡ Some d). cc), λ both. both.0)) due.list
+          (λ d. (λ there. inr there, λ either. elim either [ inl e ↦ absurd (let none : None ≡ Some d = e in cc) | inr there ↦ there ]));
+      room = kept.room;
+      few = kept.few;
+      startable = below_set rows g.0 y low low within kept.startable (omega arith) (λ e. absurd (false≢true e));
+    }

@@ -1,8 +1,11 @@
 //! The rows of the table, with counts and the deadlines in order, so that a question about all of them needs no scan. A park asks who goes
 //! on, and a park must not look at all goroutines.
-ghost use Rattle.std.specs.Prelude.{◌≡◌, ◌+◌, ◌<◌, ◌≤◌, ◌^◌, true, position, replicate, length, slice_get, slice_set, option_copied, nat_lt, IfOk};
+ghost use Rattle.std.specs.Prelude.{◌≡◌, ◌+◌, ◌<◌, ◌≤◌, ◌^◌, true, position, replicate, length, slice_get, slice_set, option_copied, nat_lt, is_some, IfOk, IfSome};
 ghost use Rattle.gmp_base.specs.declared.number.GNo.{GNo};
+ghost use Rattle.gmp_base.specs.declared.ask.Woke.{Woke};
 ghost use Rattle.gmp_seq.specs.declared.status.Goroutine.{Goroutine};
+ghost use Rattle.gmp_seq.specs.declared.status.Status.{Status};
+ghost use Rattle.gmp_seq.specs.declared.status.TicketPlace.{TicketPlace};
 ghost use Rattle.gmp_seq.specs.State.{dormant};
 ghost use Rattle.std.specs.Option.{option_map};
 ghost use Rattle.gmp_seq.specs.Table.{is_calling, is_ready_or_running, is_startable, least_of};
@@ -60,6 +63,16 @@ fn lowered(low: u16, g: GNo, status: &Status) -> u16
         low.min(g.0)
     } else {
         low
+    }
+}
+
+/// The ticket of one that is ready goes to this place. Its answer stays, and isn't written again.
+#[inline(always)]
+fn set_place(status: &mut Status, to: TicketPlace)
+    ensures { (from : TicketPlace) (woke : Woke) → status.old ≡ Status.Ready from woke → status.new ≡ Status.Ready to woke }
+{
+    if let Status::Ready(place, _) = status {
+        *place = to;
     }
 }
 
@@ -167,6 +180,15 @@ impl Rows {
     {
         let epoch = self.epoch(g);
         self.set(g, Goroutine { status, epoch });
+    }
+
+    /// Moves the ticket of one that is ready to this place. Neither counts nor deadlines change.
+    #[inline(always)]
+    pub(crate) fn move_ticket(&mut self, g: GNo, to: TicketPlace)
+        requires { is_some (answer_in self.old g) ≡ true }
+        ensures { IfSome (answer_in self.old g) (λ woke. self.new ≡ turned self.old g (Status.Ready to woke)) }
+    {
+        set_place(&mut self.list[g.0 as usize].status, to);
     }
 
     /// Makes a goroutine ready by its next epoch, which is answered: an epoch is given out once.

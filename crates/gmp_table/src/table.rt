@@ -187,11 +187,9 @@ impl StatusTable {
         ensures empty { IfNone result ((self.old.shelf ≡ []) × (self.new.shelf ≡ [])) }
         ensures first { IfSome result (λ r. self.old.shelf ≡ r.g ∷ self.new.shelf) }
     {
-        // The answer stands in the row: the shelf has numbers alone, so both can't differ.
+        // The answer stands in the row, and stays: the shelf has numbers alone, so both can't differ.
         let g = self.shelf.pop_front()?;
-        let woke = self.rows.answer(g).unwrap();
-        self.rows
-            .put_status(g, Status::Ready(TicketPlace::Out, woke));
+        self.rows.move_ticket(g, TicketPlace::Out);
         Some(Readiness {
             g,
             epoch: self.rows.epoch(g),
@@ -204,9 +202,7 @@ impl StatusTable {
         ensures puts { Puts r Reply.Shelf self.old.table self.new.table }
         ensures last { self.new.shelf ≡ self.old.shelf ++ r.g ∷ [] }
     {
-        let woke = self.rows.answer(r.g).unwrap();
-        self.rows
-            .put_status(r.g, Status::Ready(TicketPlace::Shelf, woke));
+        self.rows.move_ticket(r.g, TicketPlace::Shelf);
         self.shelf.push_back(r.g);
     }
 
