@@ -1,5 +1,5 @@
 -- Who may be started, and who is the least of them.
-use Rattle.std.proofs.Common.{◌≡◌, ℕ, zero, suc, ◌<◌, ◌≤◌, ◌==◌, nat_lt, Bool, true, false, not, Option, Some, None, option_map, List, [], ◌∷◌, length, set, slice_get, refl, sym, ap, subst, ◌∙◌, arith}
+use Rattle.std.proofs.Common.{◌≡◌, ℕ, zero, suc, ◌<◌, ◌≤◌, ◌==◌, nat_lt, Bool, true, false, Option, Some, None, option_map, List, [], ◌∷◌, length, set, slice_get, refl, ap, subst, ◌∙◌, arith}
 use Rattle.std.specs.Prelude.{◌+◌, position, slice_index_or, unwrap_or}
 use Rattle.std.specs.List.{list_any, position_or_len}
 use Rattle.std.proofs.lemmas.Bool.{false≢true}

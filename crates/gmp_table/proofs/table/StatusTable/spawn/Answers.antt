@@ -1,10 +1,5 @@
-use Rattle.std.proofs.Common.{refl, sym, ap, subst, ◌∙◌}
-use Rattle.gmp_seq.specs.Table.{Table, IsOffShelf, is_startable, some_status, status_at}
-use Rattle.gmp_seq.specs.declared.status.Goroutine.{Goroutine}
-use Rattle.std.proofs.Common.{◌≡◌, List, Some, true, false, None, position, option_map}
-use Rattle.gmp_base.specs.declared.number.GNo.{GNo}
-use Rattle.gmp_table.proofs.Startable.{found_passes, none_found, passes_off, startable}
-use Rattle.gmp_table.specs.Contents.{TableContents}
+use Rattle.std.proofs.Common.{◌≡◌, refl, sym}
+use Rattle.gmp_table.proofs.Startable.{found_passes, none_found, passes_off}
 use Rattle.gmp_table.proofs.table.StatusTable.spawn.Goals as goal
 
 pub returns-in_err-g-clause-none : goal.returns-in_err-g-clause-none
