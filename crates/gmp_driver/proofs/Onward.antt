@@ -54,7 +54,7 @@ same_turns x place.Claim (told.Replied answer) k = absurd k
 same_turns x (place.MindTick now) (told.Replied answer) k = absurd k
 same_turns x here what k = refl
 
-same_aside : (x : Seen) (here : Place) (what : Told) → IsNoReply what → next_aside x here what ≡ x.aside
+pub same_aside : (x : Seen) (here : Place) (what : Told) → IsNoReply what → next_aside x here what ≡ x.aside
 same_aside x (place.Ticking now) (told.Replied answer) k = absurd k
 same_aside x place.Keep (told.Replied answer) k = absurd k
 same_aside x here what k = refl

@@ -2,6 +2,7 @@ pub mod Registers
 pub mod Machine
 pub mod Loads
 pub mod Seen
+pub mod Spot
 pub mod Hunt
 pub mod Table
 pub mod Unfair

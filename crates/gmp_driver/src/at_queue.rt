@@ -1,88 +1,55 @@
 //! The rows of the table that say where an act at a local queue leads. Apart from table.rt, since they are told by `QueueTold`, and an act
 //! at a queue made in place needs no other row.
 ghost use Rattle.std.specs.Prelude.{◌≡◌, ◌≤◌};
-ghost use Rattle.gmp_driver.specs.Hunt as hunt;
+ghost use Rattle.gmp_base.specs.declared.ask.Ask.{Ask};
 ghost use Rattle.gmp_driver.specs.Local.{told_of};
+ghost use Rattle.gmp_driver.specs.Spot.{place_of};
 ghost use Rattle.gmp_driver.specs.Table as table;
 
 use crate::act::{QueueTold, Tried};
 use crate::hunt::more;
-use crate::place::{Place, Round};
+use crate::place::Round;
 use crate::seen::Seen;
+use crate::spot::Spot;
 use crate::table::{is_late, scanned};
-use gmp_base::PNo;
-
-// Not inlined, here and below: each makes a whole place, and whoever is told of a pop or a push pays for none.
-#[inline(never)]
-fn hunt_on(here: &mut Place, seen: Seen, round: Round, tried: Tried)
-    requires { 1 ≤ seen.procs }
-    ensures { here.new ≡ hunt.hunted seen round tried }
-{
-    *here = seen.hunted(round, tried);
-}
-
-#[inline(never)]
-pub(crate) fn steal_on(here: &mut Place, v: PNo, goal: u8)
-    ensures { here.new ≡ hunt.more v goal }
-{
-    *here = more(v, goal);
-}
-
-#[inline(never)]
-fn scan_on(here: &mut Place, seen: Seen, v: PNo)
-    ensures { here.new ≡ table.scanned seen.procs v }
-{
-    *here = scanned(seen.procs, v);
-}
 
 /// Goes where what came of an act at a local queue leads. What isn't in the row of the place leaves it: a scan that lost its race looks
 /// into the same queue again.
 #[inline(always)]
-pub(crate) fn go_on_at_queue(here: &mut Place, seen: Seen, told: QueueTold)
+pub(crate) fn go_on_at_queue(here: &mut Spot, seen: Seen, told: QueueTold)
     requires { 1 ≤ seen.procs }
-    ensures { here.new ≡ table.next_place seen here.old (told_of told) }
+    ensures { (beside : Ask) → place_of here.new beside ≡ table.next_place seen (place_of here.old beside) (told_of told) }
 {
-    match (&*here, told) {
+    match (*here, told) {
         // The own queue: what was found is claimed, or stored where the processor is given up.
-        (Place::Look, QueueTold::Popped(false)) => *here = Place::Claim,
-        (Place::Look, QueueTold::Empty) => *here = Place::Global,
-        (Place::Drain, QueueTold::Popped(true)) => *here = Place::PutDrain,
-        (Place::Drain, QueueTold::Empty) => *here = Place::Drop,
+        (Spot::Look, QueueTold::Popped(false)) => *here = Spot::Claim,
+        (Spot::Look, QueueTold::Empty) => *here = Spot::Global,
+        (Spot::Drain, QueueTold::Popped(true)) => *here = Spot::PutDrain,
+        (Spot::Drain, QueueTold::Empty) => *here = Spot::Drop,
         // A hunt: its first act told the word that it drew, and every other knows its round.
-        (Place::Hunt(None), QueueTold::Stole(Some(word), tried)) => {
-            hunt_on(here, seen, seen.begin(word), tried);
+        (Spot::Hunt, QueueTold::Stole(Some(word), tried)) => {
+            *here = seen.hunted(seen.begin(word), tried);
         }
-        (Place::Hunt(Some(round)), QueueTold::Stole(None, tried)) => {
-            let round = *round;
-            hunt_on(here, seen, round, tried);
+        (Spot::HuntOn(number, word), QueueTold::Stole(None, tried)) => {
+            *here = seen.hunted(Round { word, number }, tried);
         }
         // More of the same victim. A race that is lost ends it, since one ticket to claim is in hand.
-        (Place::More(v, goal), QueueTold::Stole(None, Tried::Got(_))) => {
-            let (v, goal) = (*v, *goal);
-            *here = Place::StoreMore(v, goal.saturating_sub(1));
+        (Spot::More(v, goal), QueueTold::Stole(None, Tried::Got(_))) => {
+            *here = Spot::StoreMore(v, goal.saturating_sub(1));
         }
-        (Place::More(_, _), QueueTold::Stole(None, _)) => *here = Place::Unspin,
-        (Place::StoreMore(v, goal), QueueTold::Pushed) => {
-            let (v, goal) = (*v, *goal);
-            steal_on(here, v, goal);
-        }
-        (Place::StoreMore(v, goal), QueueTold::PushRefused) => {
-            let (v, goal) = (*v, *goal);
-            *here = Place::PutMore(v, goal);
-        }
-        (Place::Store, QueueTold::Pushed) => *here = Place::Poke,
-        (Place::Store, QueueTold::PushRefused) => *here = Place::PutStore,
+        (Spot::More(_, _), QueueTold::Stole(None, _)) => *here = Spot::Unspin,
+        (Spot::StoreMore(v, goal), QueueTold::Pushed) => *here = more(v, goal),
+        (Spot::StoreMore(v, goal), QueueTold::PushRefused) => *here = Spot::PutMore(v, goal),
+        (Spot::Store, QueueTold::Pushed) => *here = Spot::Poke,
+        (Spot::Store, QueueTold::PushRefused) => *here = Spot::PutStore,
         // A look aside. A race that is lost is tried again.
-        (Place::Peek(_), QueueTold::Stole(None, Tried::Got(_))) => *here = Place::Claim,
-        (Place::Peek(_), QueueTold::Stole(None, Tried::Empty)) => *here = Place::Look,
+        (Spot::Peek(_), QueueTold::Stole(None, Tried::Got(_))) => *here = Spot::Claim,
+        (Spot::Peek(_), QueueTold::Stole(None, Tried::Empty)) => *here = Spot::Look,
         // The last look, without a processor. Who is late gives what it found to the shelf.
-        (Place::Scan(_), QueueTold::Stole(None, Tried::Got(_))) if is_late(seen) => *here =
-            Place::PutHave,
-        (Place::Scan(_), QueueTold::Stole(None, Tried::Got(_))) => *here = Place::Have,
-        (Place::Scan(v), QueueTold::Stole(None, Tried::Empty)) => {
-            let v = *v;
-            scan_on(here, seen, v);
-        }
+        (Spot::Scan(_), QueueTold::Stole(None, Tried::Got(_))) if is_late(seen) => *here =
+            Spot::PutHave,
+        (Spot::Scan(_), QueueTold::Stole(None, Tried::Got(_))) => *here = Spot::Have,
+        (Spot::Scan(v), QueueTold::Stole(None, Tried::Empty)) => *here = scanned(seen.procs, v),
         (_, _) => {}
     }
 }

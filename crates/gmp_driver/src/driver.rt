@@ -10,11 +10,12 @@ mod own_queue;
 use crate::act::{Act, Frequent, Told};
 use crate::hunt::victim_of;
 use crate::load::Load;
-use crate::place::{Aside, Place};
+use crate::place::Aside;
 use crate::registers::{HeldParts, Registers, fill, fill_if};
 use crate::seen::Seen;
+use crate::spot::{Spot, ask_on};
 use crate::table::{
-    act_at, ask_on, frequent_at, fresh_by, go_on, go_on_by, next_fresh, next_turns, turns_by,
+    act_at, frequent_at, fresh_by, go_on, go_on_by, next_fresh, next_turns, turns_by,
 };
 use gmp_base::{Ask, Held, PNo, Pass, Readiness, Refusal, Woke};
 use gmp_seq::Reply;
@@ -28,7 +29,9 @@ pub struct Driver<T, Q> {
     run: u64,
     /// The number of processors, 1 to 32.
     procs: u8,
-    place: Place,
+    spot: Spot,
+    /// What the body asked, at the spot Do; else of no meaning.
+    ask: Ask,
     /// Whether another machine is to be woken before the next claim.
     fresh: bool,
     /// Claims since the last tick, up to 16; of a fair machine since the last tick behind which it looked aside.
@@ -43,18 +46,20 @@ pub struct Driver<T, Q> {
 impl<T, Q> Model for Driver<T, Q> {
     ghost use Rattle.gmp_driver.specs.Machine.{Machine};
     ghost use Rattle.gmp_driver.specs.Fits.{IsDriver};
+    ghost use Rattle.gmp_driver.specs.Spot.{place_of};
 
     ghost Value = { Machine T Q };
 
-    ghost view = { λ d. record { run = d.run; procs = d.procs; place = d.place; fresh = d.fresh; turns = d.turns; aside = d.aside; pass = d.pass; hand = d.hand } };
+    ghost view = { λ d. record { run = d.run; procs = d.procs; place = place_of d.spot d.ask; fresh = d.fresh; turns = d.turns; aside = d.aside; pass = d.pass; hand = d.hand } };
 
     // There are 1 to 32 processors and 16 turns at most, the pass is of the run, and while the pass is in, exactly what the place needs is
     // in hand.
-    ghost invariant = { λ d. IsDriver (record { run = d.run; procs = d.procs; place = d.place; fresh = d.fresh; turns = d.turns; aside = d.aside; pass = d.pass; hand = d.hand }) };
+    ghost invariant = { λ d. IsDriver (record { run = d.run; procs = d.procs; place = place_of d.spot d.ask; fresh = d.fresh; turns = d.turns; aside = d.aside; pass = d.pass; hand = d.hand }) };
 }
 
 impl<T, Q> Driver<T, Q> {
     ghost use Rattle.gmp_driver.specs.declared.act.Told.TheVariants as Told;
+    ghost use Rattle.gmp_driver.specs.declared.place.Place.TheVariants as Place;
     ghost use Rattle.gmp_driver.specs.Bodies.{body_at, lends_body};
     ghost use Rattle.gmp_driver.specs.Fits.{SuitsPlace, IsDriver};
     ghost use Rattle.gmp_driver.specs.Frequent.{act_of, frequent_of};
@@ -83,7 +88,8 @@ impl<T, Q> Driver<T, Q> {
         Driver {
             run: pass.run,
             procs,
-            place: Place::Start,
+            spot: Spot::Start,
+            ask: Ask::Yield,
             fresh: false,
             turns: 0,
             aside: if is_fair {
@@ -104,7 +110,7 @@ impl<T, Q> Driver<T, Q> {
         ensures act { result ≡ next_act self.now }
         ensures keeps { IsDriver self.now }
     {
-        act_at(&self.place, self.seen())
+        act_at(self.spot, &self.ask, self.seen())
     }
 
     /// What the machine does next, in few bytes where it is one of the acts that come most often. `Other` says only that it is none of
@@ -115,7 +121,13 @@ impl<T, Q> Driver<T, Q> {
         ensures act { IfSome (act_of result) (λ act. next_act self.now ≡ act) }
         ensures keeps { IsDriver self.now }
     {
-        frequent_at(&self.place, self.fresh, self.turns, self.hand.to_claim)
+        frequent_at(
+            self.spot,
+            &self.ask,
+            self.fresh,
+            self.turns,
+            self.hand.to_claim,
+        )
     }
 
     /// The first victim of a hunt that begins by this word, which the first act of the hunt draws.
@@ -137,9 +149,9 @@ impl<T, Q> Driver<T, Q> {
     pub fn woke(&self) -> Option<Woke>
         ensures { result ≡ held_at self.now.place self.now.hand.held }
     {
-        match (&self.place, &self.hand.held) {
-            (Place::Run, Some(parts)) => Some(parts.woke),
-            (Place::Block, _) => Some(Woke::Done),
+        match (self.spot, &self.hand.held) {
+            (Spot::Run, Some(parts)) => Some(parts.woke),
+            (Spot::Block, _) => Some(Woke::Done),
             _ => None,
         }
     }
@@ -149,21 +161,21 @@ impl<T, Q> Driver<T, Q> {
         ensures* lends { sem 𝓛 (lends_body T.row Q.row self.entry result) }
         ensures body { option_copied_mut result ≡ body_at self.old.place self.old.hand }
     {
-        self.hand.body(&self.place)
+        self.hand.body(self.spot, &self.ask)
     }
 
     /// Whether there is nothing left to do: the run is over, and every value was given back.
     pub fn is_done(&self) -> bool
         ensures { result ≡ is_done self.now.place }
     {
-        matches!(self.place, Place::Done)
+        matches!(self.spot, Spot::Done)
     }
 
     /// Whether it looks aside at a queue: it steals there what its owner may be about to run.
     pub fn peeks(&self) -> bool
         ensures { result ≡ is_peek self.now.place }
     {
-        matches!(self.place, Place::Peek(_))
+        matches!(self.spot, Spot::Peek(_))
     }
 
     /// What the table looks at beside the place.
@@ -181,9 +193,9 @@ impl<T, Q> Driver<T, Q> {
         ensures { self.new ≡ after self.old told }
     {
         let seen = self.seen();
-        self.fresh = next_fresh(&self.place, seen, &told);
-        self.turns = next_turns(&self.place, seen, &told);
-        go_on(&mut self.place, &mut self.aside, seen, told);
+        self.fresh = next_fresh(self.spot, seen, &told);
+        self.turns = next_turns(self.spot, seen, &told);
+        go_on(&mut self.spot, &mut self.ask, &mut self.aside, seen, told);
     }
 
     /// Is told what the body asks, and goes on to the call that stands for it. At another place than Run nothing changes.
@@ -191,7 +203,7 @@ impl<T, Q> Driver<T, Q> {
     pub fn tell_asked(&mut self, ask: &Ask)
         ensures { self.new ≡ after self.old (Told.Asked ask.now) }
     {
-        ask_on(&mut self.place, ask);
+        ask_on(&mut self.spot, &mut self.ask, ask);
     }
 
     /// Hands out the pass alone: what the machine holds stays in its registers.
@@ -272,9 +284,9 @@ impl<T, Q> Driver<T, Q> {
         ensures { self.new ≡ record (after self.old (Told.Replied reply.now)) { pass = Some pass } }
     {
         let seen = self.seen();
-        self.fresh = fresh_by(&self.place, seen, reply);
-        self.turns = turns_by(&self.place, seen, reply);
-        go_on_by(&mut self.place, &mut self.aside, seen, reply);
+        self.fresh = fresh_by(self.spot, seen, reply);
+        self.turns = turns_by(self.spot, seen, reply);
+        go_on_by(&mut self.spot, &self.ask, &mut self.aside, seen, reply);
         fill(&mut self.pass, pass);
     }
 
@@ -331,7 +343,8 @@ impl<T: Drop, Q: Drop> Driver<T, Q> {
         let Driver {
             run: _,
             procs: _,
-            place: _,
+            spot: _,
+            ask: _,
             fresh: _,
             turns: _,
             aside: _,

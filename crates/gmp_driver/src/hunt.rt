@@ -1,11 +1,14 @@
 //! From whom a machine steals, and how many tickets (Scalable Go Scheduler Design Doc, Scheduling: a random victim, and half of what it
 //! has; a fair machine takes one). A steal takes one ticket; the goal says how many follow.
 ghost use Rattle.std.specs.Prelude.{◌≡◌, ◌≤◌, ◌<◌};
+ghost use Rattle.gmp_base.specs.declared.ask.Ask.{Ask};
 ghost use Rattle.gmp_driver.specs.Hunt as hunt;
+ghost use Rattle.gmp_driver.specs.Spot.{place_of};
 
 use crate::act::Tried;
-use crate::place::{Place, Round};
+use crate::place::Round;
 use crate::seen::Seen;
+use crate::spot::Spot;
 use gmp_base::PNo;
 
 /// How many tickets a machine that is not fair steals from a queue that is said to have so many: half of them, rounded up, at least one, and
@@ -19,7 +22,7 @@ pub fn steal_goal(hint: u32) -> u8
 }
 
 /// The victim of this number in a hunt's order. It is below the number of processors, by the last remainder.
-fn victim(procs: u8, word: u64, number: u8) -> PNo
+pub(crate) fn victim(procs: u8, word: u64, number: u8) -> PNo
     requires { 1 ≤ procs }
     ensures { result ≡ hunt.victim procs word number }
 {
@@ -36,13 +39,13 @@ pub(crate) fn victim_of(procs: u8, round: Round) -> PNo
 }
 
 /// Steals once more from this victim, unless that were none.
-pub(crate) fn more(v: PNo, goal: u8) -> Place
-    ensures { result ≡ hunt.more v goal }
+pub(crate) fn more(v: PNo, goal: u8) -> Spot
+    ensures { (beside : Ask) → place_of result beside ≡ hunt.more v goal }
 {
     if goal == 0 {
-        Place::Unspin
+        Spot::Unspin
     } else {
-        Place::More(v, goal)
+        Spot::More(v, goal)
     }
 }
 
@@ -71,18 +74,18 @@ impl Seen {
     }
 
     /// The hunt goes on at this number of its order, and ends after the last: then it found nothing.
-    fn hunt_on(self, word: u64, number: u8) -> Place
+    fn hunt_on(self, word: u64, number: u8) -> Spot
         requires { 1 ≤ self.procs }
-        ensures { result ≡ hunt.hunt_on self word number }
+        ensures { (beside : Ask) → place_of result beside ≡ hunt.hunt_on self word number }
     {
         if number >= self.procs {
-            return Place::Unspin;
+            return Spot::Unspin;
         }
         let number = self.skipped(word, number);
         if number < self.procs {
-            Place::Hunt(Some(Round { word, number }))
+            Spot::HuntOn(number, word)
         } else {
-            Place::Unspin
+            Spot::Unspin
         }
     }
 
@@ -100,15 +103,15 @@ impl Seen {
 
     /// Where a try of a hunt leads: with a ticket to more of the same victim, where the goal is more, with none to the next one. A race that
     /// was lost is tried again, since it says nothing of whether the queue is empty; it was lost to one who has the ticket.
-    pub(crate) fn hunted(self, round: Round, tried: Tried) -> Place
+    pub(crate) fn hunted(self, round: Round, tried: Tried) -> Spot
         requires { 1 ≤ self.procs }
-        ensures { result ≡ hunt.hunted self round tried }
+        ensures { (beside : Ask) → place_of result beside ≡ hunt.hunted self round tried }
     {
         match tried {
             Tried::Got(hint) => more(victim_of(self.procs, round), self.hunt_goal(hint) - 1),
             Tried::Empty if round.number < self.procs => self.hunt_on(round.word, round.number + 1),
-            Tried::Empty => Place::Unspin,
-            Tried::Unsure => Place::Hunt(Some(round)),
+            Tried::Empty => Spot::Unspin,
+            Tried::Unsure => Spot::HuntOn(round.number, round.word),
         }
     }
 }

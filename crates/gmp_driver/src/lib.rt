@@ -26,6 +26,7 @@ mod load;
 mod place;
 mod registers;
 mod seen;
+mod spot;
 mod table;
 
 pub use act::{Act, Frequent, QueueTold, Told, Tried, Value};

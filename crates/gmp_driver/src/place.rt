@@ -32,7 +32,7 @@ pub enum Aside {
 }
 
 /// A place of the program. At each there is one act. Numbers and asks stand in the place and not in a register, so that what is filled
-/// follows from the place.
+/// follows from the place. Contracts speak of places: no code makes one, since the driver keeps each as a `Spot`.
 #[derive(Debug, Drop)]
 pub enum Place {
     /// Takes a processor, without which no goroutine runs (Processors).

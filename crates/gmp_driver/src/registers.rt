@@ -6,8 +6,8 @@ ghost use Rattle.std.specs.Option.{option_copied_mut};
 ghost use Rattle.gmp_driver.specs.Registers.{first_of, first_value, nothing, one_used};
 
 use crate::act::{Act, Value};
-use crate::place::Place;
-use gmp_base::{GNo, PNo, Readiness, Woke};
+use crate::spot::Spot;
+use gmp_base::{Ask, GNo, PNo, Readiness, Woke};
 use gmp_seq::Call;
 
 /// A processor that the machine holds, with its owner.
@@ -73,6 +73,7 @@ pub(crate) fn fill_if<X>(register: &mut Option<X>, value: Option<X>)
 impl<T, Q> Registers<T, Q> {
     ghost use Rattle.gmp_driver.specs.Bodies.{body_at, lends_at};
     ghost use Rattle.gmp_driver.specs.Own.{lends_owner_held, owner_held, with_found};
+    ghost use Rattle.gmp_driver.specs.Spot.{place_of};
 
     /// What a machine holds at its start.
     pub(crate) fn empty() -> Self
@@ -142,16 +143,17 @@ impl<T, Q> Registers<T, Q> {
     }
 
     /// Lends the body that is in hand at this place: bodies stay in their register while they are resumed, and don't move.
-    pub(crate) fn body(&mut self, here: &Place) -> Option<&mut T>
-        ensures* lends { sem 𝓛 (lends_at T.row Q.row self.entry here.now result) }
-        ensures body { option_copied_mut result ≡ body_at here.now self.old }
+    // The ask is for the contract alone, which speaks of the place.
+    pub(crate) fn body(&mut self, here: Spot, ask: &Ask) -> Option<&mut T>
+        ensures* lends { sem 𝓛 (lends_at T.row Q.row self.entry (place_of here ask.now) result) }
+        ensures body { option_copied_mut result ≡ body_at (place_of here ask.now) self.old }
     {
         match here {
-            Place::Run => match &mut self.held {
+            Spot::Run => match &mut self.held {
                 Some(parts) => Some(&mut parts.body),
                 None => None,
             },
-            Place::Block => match &mut self.called {
+            Spot::Block => match &mut self.called {
                 Some(parts) => Some(&mut parts.body),
                 None => None,
             },

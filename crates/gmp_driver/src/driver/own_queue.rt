@@ -60,7 +60,7 @@ impl<T, Q> Driver<T, Q> {
         ensures { self.new ≡ after self.old (told_of told) }
     {
         let seen = Seen::of(self.procs, self.fresh, self.turns, self.aside, &self.hand);
-        go_on_at_queue(&mut self.place, seen, told);
+        go_on_at_queue(&mut self.spot, seen, told);
     }
 
     /// Holds this ticket, to claim or to store, and goes on as `tell_queue` does.
@@ -71,7 +71,7 @@ impl<T, Q> Driver<T, Q> {
     {
         self.hand.hold(r, is_to_store);
         let seen = Seen::of(self.procs, self.fresh, self.turns, self.aside, &self.hand);
-        go_on_at_queue(&mut self.place, seen, told);
+        go_on_at_queue(&mut self.spot, seen, told);
     }
 
     /// Holds no ticket to store, and goes on as `tell_queue` does.
@@ -82,6 +82,6 @@ impl<T, Q> Driver<T, Q> {
     {
         self.hand.to_store = None;
         let seen = Seen::of(self.procs, self.fresh, self.turns, self.aside, &self.hand);
-        go_on_at_queue(&mut self.place, seen, told);
+        go_on_at_queue(&mut self.spot, seen, told);
     }
 }

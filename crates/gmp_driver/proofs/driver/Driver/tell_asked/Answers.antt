@@ -1,4 +1,5 @@
 use Rattle.gmp_driver.specs.Seen.{seen_of}
+use Rattle.gmp_driver.specs.Spot.{place_of}
 use Rattle.gmp_driver.proofs.Onward.{asked_fits, asked_is}
 use Rattle.gmp_driver.proofs.driver.Driver.tell_asked.Goals as goal
 
@@ -12,11 +13,11 @@ invariant_of-self g c =
       few_procs = kept.few_procs;
       few_turns = kept.few_turns;
       pass = kept.pass;
-      fits = λ out. rw (c.ask_on.ensures sees) (asked_fits sees i.place c.args.ask.now i.hand (kept.fits out));
+      fits = λ out. rw (c.ask_on.ensures sees) (asked_fits sees (place_of i.spot i.ask) c.args.ask.now i.hand (kept.fits out));
     }
 
 pub returns : goal.returns
 returns g c =
     let i = c.self.inside in
-    asked_is c.args.self.now (record { run = i.run; procs = i.procs; place = i.place; fresh = i.fresh; turns = i.turns; aside = i.aside; pass = i.pass; hand = i.hand })
-    c.args.ask.now c.ask_on.new.here c.self.view_is (c.ask_on.ensures (seen_of i.procs i.fresh i.turns i.aside i.hand))
+    asked_is c.args.self.now (record { run = i.run; procs = i.procs; place = place_of i.spot i.ask; fresh = i.fresh; turns = i.turns; aside = i.aside; pass = i.pass; hand = i.hand })
+    c.args.ask.now (place_of c.ask_on.new.here c.ask_on.new.beside) c.self.view_is (c.ask_on.ensures (seen_of i.procs i.fresh i.turns i.aside i.hand))
