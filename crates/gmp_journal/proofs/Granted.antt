@@ -1,6 +1,6 @@
 -- Where no line refuses a call, and its values suit it, it is granted.
-use Rattle.gmp_journal.proofs.Common.{◌≡◌, ℕ, ◌+◌, ◌^◌, ◌<◌, ◌≤◌, Bool, true, false, Option, None, Some, List, [], ◌∷◌, ◌++◌, length, slice_get, refl, sym, ap, subst, inl, inr, ◌∙◌, arith, GNo, PNo, Pass, Call, Outcome, Reply, Goroutine, Mode, IsInOrder, IsAwake, IsParked, State, IsCalling, IsRunning, RunsNothing, is_running_on, some_status, status_at, Handed, Grants, Suits, goroutine_in, processor_in, Log, entries_made, IsAllowed, IsCurrent}
-use Rattle.std.proofs.Common.{◌⊎◌, sum, slice_index, slice_set, get_or}
+use Rattle.gmp_journal.proofs.Common.{◌≡◌, ℕ, ◌+◌, ◌^◌, ◌<◌, ◌≤◌, ◌||◌, Bool, true, false, false≢true, is_some, Option, None, Some, List, [], ◌∷◌, ◌++◌, length, slice_get, refl, sym, ap, subst, inl, inr, ◌∙◌, arith, GNo, PNo, Pass, Call, Outcome, Reply, Goroutine, Mode, IsInOrder, IsAwake, IsParked, State, IsCalling, IsRunning, RunsNothing, is_running_on, some_status, status_at, Handed, Grants, Suits, goroutine_in, processor_in, Log, entries_made, IsAllowed, IsCurrent}
+use Rattle.std.proofs.Common.{◌⊎◌, ◌-◌, sum, slice_index, slice_set, get_or}
 use Rattle.std.specs.Prelude.{IfNone}
 use Rattle.gmp_seq.specs.declared.call.Call.TheVariants as call
 use Rattle.gmp_seq.specs.declared.status.Mode.TheVariants as mode
@@ -19,7 +19,7 @@ use Rattle.gmp_seq.proofs.Manned.{status_of}
 use Rattle.gmp_seq.proofs.Needed.{some_place}
 use Rattle.gmp_seq.proofs.Runs.{run_join}
 use Rattle.gmp_seq.proofs.Sizes.{legal_sizes}
-use Rattle.gmp_journal.specs.Kept.{IsJournal}
+use Rattle.gmp_journal.specs.Kept.{IsJournal, IsLeft}
 use Rattle.gmp_journal.specs.Scene.{IsYoung}
 use Rattle.gmp_journal.specs.Segments.{IsPart}
 use Rattle.gmp_goroutines.proofs.Ties.{running_on}
@@ -41,6 +41,24 @@ in_order log part = legal_in_order log.limits log.bodies log.capacities (part.be
 pub ongoing_room : (old now : Log) (o : Option Outcome) → old ≡ now → IsPart old → old.state.outcome ≡ o → IfNone o (entries_made now < now.limits.entries)
 ongoing_room old now (Some how) is part lasts = tt
 ongoing_room old now None is part lasts = subst (λ (l : Log). entries_made l < l.limits.entries) is ((in_order old part).together.ongoing lasts)
+
+not_stopped : (a b : Bool) → (a || b) ≡ false → b ≡ false
+not_stopped true b e = absurd (false≢true (sym e))
+not_stopped false b e = e
+
+-- one entry more was made of those that were left
+pub left_on : (log now : Log) (last : Entry) (left left' : ℕ) → IsLeft log left → length log.history < log.limits.room → now.history ≡ log.history ++ last ∷ [] → now.limits ≡ log.limits
+    → now.stopped ≡ log.stopped → entries_made now ≡ entries_made log + 1 → left' ≤ left - 1 → (0 < left' → now.state.outcome ≡ None) → IsLeft now left'
+left_on log now last left left' kept free longer limits stopped made less goes_on = record {
+  room = let size = length-append log.history (last ∷ []) in rw (longer, limits) (omega (arith, size, kept.room, free, less));
+  lasts = λ more.
+      let was : 0 < left = omega (arith, more, less) in
+      ap (λ (o : Option Outcome). is_some o || now.stopped) (goes_on more) ∙ (stopped ∙ not_stopped (is_some log.state.outcome) log.stopped (kept.lasts was));
+  fits = λ more.
+      let was : 0 < left = omega (arith, more, less) in
+      let fits = kept.fits was in
+      rw (limits, made) (omega (arith, fits, less, was));
+}
 
 module _ (log : Log) (space lasting : ℕ) (pass : Pass) (kept : IsJournal log space lasting) (current : IsCurrent log pass) where
   -- the run is longer by one step

@@ -2,7 +2,7 @@
 use Rattle.std.specs.declared.alloc.AllocError.{AllocError}
 use Rattle.std.specs.Option.{option_map}
 use Rattle.std.specs.Prelude.{IfOk, IfSome}
-use Rattle.std.proofs.Common.{◌≡◌, ℕ, ◌≤◌, Bool, false, is_some, None, Some, Option, Result, Ok, Err, List, [], ◌∷◌, ◌++◌, length, refl, sym, ap, subst, ◌∙◌, arith}
+use Rattle.std.proofs.Common.{◌≡◌, ℕ, ◌+◌, ◌<◌, ◌≤◌, ◌||◌, Bool, false, is_some, None, Some, Option, Result, Ok, Err, List, [], ◌∷◌, ◌++◌, length, refl, sym, ap, subst, ◌∙◌, arith}
 use Rattle.std.proofs.lemmas.List.Elements.{All-append, All-nil}
 use Rattle.std.proofs.lemmas.Bool.{false≢true}
 use Rattle.gmp_seq.proofs.Counts.{legal_total, run_total}
@@ -17,8 +17,8 @@ use Rattle.gmp_seq.specs.State.{State}
 use Rattle.gmp_start.specs.declared.start.Start.{Start}
 use Rattle.gmp_start.specs.Start.{state_of}
 use Rattle.gmp_journal.proofs.Granted.{in_order, since_opening}
-use Rattle.gmp_journal.specs.Kept.{IsJournal}
-use Rattle.gmp_journal.specs.Log.{IsWhole, Log}
+use Rattle.gmp_journal.specs.Kept.{IsJournal, IsLeft}
+use Rattle.gmp_journal.specs.Log.{IsWhole, Log, entries_made}
 use Rattle.gmp_journal.specs.Segments.{AreSegments, IsPart, MayGoOn, Piece, begin_before, begin_of, entries_of}
 
 some_same : {a b : State} → Some a ≡ Some b → a ≡ b
@@ -54,6 +54,15 @@ begun_anew log space lasting history next begun closed part none room lasts are 
       begins = λ s. kept_state next begun log.state s are is;
       ongoing = λ empty. lasts_on log.state.outcome closed shut;
     })
+
+-- and so many entries may follow
+pub left_anew : (log : Log) (history : List Entry) (begun : Option State) (closed : Bool) (left : ℕ) → history ≡ [] → closed ≡ is_some log.state.outcome → left ≤ log.limits.room
+    → (0 < left → (closed || log.stopped) ≡ false) → (0 < left → entries_made log + left ≤ log.limits.entries) → IsLeft (record log { history = history; begun = begun; closed = closed }) left
+left_anew log history begun closed left none shut room lasts fits = record {
+  room = rw none (omega (arith, room));
+  lasts = λ more. ap (λ (b : Bool). b || log.stopped) (sym shut) ∙ lasts more;
+  fits = fits;
+}
 
 -- the history begins there
 begins_at : (log : Log) (start s : State) (begun : Option State) (history : List Entry) → Run log.limits start history log.state → ((s : State) → begun ≡ Some s → s ≡ start)

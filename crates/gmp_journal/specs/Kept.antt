@@ -1,8 +1,8 @@
 -- What the parts of a journal keep.
-use Rattle.std.specs.Prelude.{◌≡◌, ℕ, ◌≤◌, [], None, Some, false, length}
+use Rattle.std.specs.Prelude.{◌≡◌, ℕ, ◌+◌, ◌<◌, ◌≤◌, [], None, Some, false, length}
 use Rattle.gmp_seq.specs.declared.call.Limits.{Limits}
 use Rattle.gmp_seq.specs.State.{State}
-use Rattle.gmp_journal.specs.Log.{Log}
+use Rattle.gmp_journal.specs.Log.{Log, entries_made, is_over}
 use Rattle.gmp_journal.specs.Segments.{IsPart}
 use Rattle.gmp_journal.specs.declared.scheduler.Scheduler.{Scheduler}
 
@@ -20,3 +20,9 @@ pub record IsJournal (log : Log) (space lasting : ℕ) : Type 0 where
 pub record IsSized (limits : Limits) (s : Scheduler) : Type 0 where
   pub channels : s.goroutines.limit ≡ limits.channels
   pub machines : s.goroutines.machines ≡ limits.machines
+
+-- So many entries may follow: no more than there is room for, and than the limit leaves, and none where the run is over
+pub record IsLeft (log : Log) (left : ℕ) : Type 0 where
+  pub room : length log.history + left ≤ log.limits.room
+  pub lasts : 0 < left → is_over log ≡ false
+  pub fits : 0 < left → entries_made log + left ≤ log.limits.entries

@@ -1,6 +1,6 @@
 //! The run so far, and the call that goes on with it.
 //! One function makes all calls (`Journal::call`): refusal, effect, count and entry are stated and proved once, and not 29 times.
-ghost use Rattle.std.specs.Prelude.{◌≡◌, ◌↔◌, ◌<◌, ◌≤◌, [], None, Some, true, false, length, slice_index, IfErr, IfNone, IfOk, IfSome, IsTrue, OnErr, OnOk};
+ghost use Rattle.std.specs.Prelude.{◌≡◌, ◌↔◌, ◌+◌, ◌<◌, ◌≤◌, [], None, Some, true, false, length, slice_index, IfErr, IfNone, IfOk, IfSome, IsTrue, OnErr, OnOk};
 ghost use Rattle.gmp_seq.specs.Fits.{AreLimits};
 ghost use Rattle.gmp_seq.specs.Table.{is_outstanding, is_shelved};
 ghost use Rattle.gmp_start.specs.Start.{state_of};
@@ -43,6 +43,8 @@ pub struct Journal {
     /// Of the channels that the opening made, in order.
     capacities: Vec<u32>,
     scheduler: Scheduler,
+    /// So many entries may follow before room, limit and outcome are looked at again: none once the run is over.
+    left: u64,
     /// The entries that were not handed out. Room for as many as there may be at a time is taken at the opening and left untouched: its first
     /// write costs as much later, and a run that ends early never pays.
     entries: History,
@@ -55,7 +57,7 @@ pub struct Journal {
 }
 
 impl Model for Journal {
-    ghost use Rattle.gmp_journal.specs.Kept.{IsJournal, IsSized};
+    ghost use Rattle.gmp_journal.specs.Kept.{IsJournal, IsLeft, IsSized};
     ghost use Rattle.gmp_journal.specs.JournalView.{log_of};
     ghost use Rattle.gmp_journal.specs.Log.{Log};
 
@@ -63,7 +65,20 @@ impl Model for Journal {
 
     ghost view = { log_of };
 
-    ghost invariant = { λ l. IsJournal (log_of l) l.entries.room l.entries.lasting × IsSized l.limits l.scheduler };
+    ghost invariant = { λ l. IsJournal (log_of l) l.entries.room l.entries.lasting × IsSized l.limits l.scheduler × IsLeft (log_of l) l.left };
+}
+
+/// How many entries may follow once so many were made and none waits to be handed out.
+fn left_of(limits: &Limits, made: u64, is_over: bool) -> u64
+    ensures room { result ≤ limits.now.room }
+    ensures lasts { 0 < result → is_over ≡ false }
+    ensures fits { 0 < result → made + result ≤ limits.now.entries }
+{
+    if is_over {
+        return 0;
+    }
+    let rest = limits.entries.saturating_sub(made);
+    rest.min(u64::from(limits.room))
 }
 
 impl Journal {
@@ -87,6 +102,7 @@ impl Journal {
             bodies,
             capacities,
             scheduler,
+            left: left_of(&limits, 0, false),
             entries,
             stopped: false,
             is_closed: false,
@@ -116,7 +132,7 @@ impl Journal {
     pub fn is_over(&self) -> bool
         ensures { result ≡ is_over self.now }
     {
-        self.scheduler.outcome.is_some() || self.stopped
+        self.left == 0 && (self.scheduler.outcome.is_some() || self.stopped)
     }
 
     /// Stops the run where it stands: no call is accepted any more, as after an outcome.
@@ -124,6 +140,7 @@ impl Journal {
         ensures { self.new ≡ record self.old { stopped = true } }
     {
         self.stopped = true;
+        self.left = 0;
     }
 
     /// Every accepted call that was not handed out, with its reply, in order.
@@ -263,7 +280,8 @@ impl Journal {
         self.scheduler
             .effect(memory, &self.limits, m, g, p, call, word, frequent, out)?;
         // The count comes after the effect and before the entry: the entry has the count before (`k`), the pass the one after.
-        self.scheduler.count_one(&self.limits, m, *out);
+        self.scheduler
+            .count_one(&mut self.left, &self.limits, m, *out);
         self.entries.add(m, k, call, out, frequent);
         pass.advance(self.scheduler.counts.all());
         Ok(())
@@ -307,7 +325,7 @@ impl Journal {
     pub fn is_full(&self) -> bool
         ensures { IsTrue result ↔ (length self.now.history ≡ self.now.limits.room) }
     {
-        self.entries.len() >= self.limits.room as usize
+        self.left == 0 && self.entries.len() >= self.limits.room as usize
     }
 
     /// Hands out the entries since the last time, and takes the spare in their place. It takes no pass, makes no entry and takes no memory,
@@ -337,6 +355,8 @@ impl Journal {
         mem::swap(&mut self.entries, spare);
         self.begun = Begun::of(next);
         self.is_closed = self.scheduler.outcome.is_some();
+        let is_over = self.is_closed | self.stopped;
+        self.left = left_of(&self.limits, self.scheduler.counts.all(), is_over);
     }
 
     /// The state before the first entry once more, for the segment that begins there.
@@ -423,6 +443,7 @@ impl Journal {
             bodies: _,
             capacities,
             scheduler: _,
+            left: _,
             entries,
             stopped: _,
             is_closed: _,

@@ -1,5 +1,5 @@
 //! Goroutines, channels and machines together: the effect of each call on them.
-ghost use Rattle.std.specs.Prelude.{◌≡◌, ℕ, [], ◌∷◌, ◌+◌, ◌<◌, ◌^◌, List, None, Option, Some, true, false, length, slice_get, sum, IfOk, OnErr, OnOk};
+ghost use Rattle.std.specs.Prelude.{◌≡◌, ℕ, [], ◌∷◌, ◌+◌, ◌-◌, ◌<◌, ◌≤◌, ◌^◌, nat_le, List, None, Option, Some, true, false, length, slice_get, sum, IfOk, OnErr, OnOk};
 ghost use Rattle.gmp_seq.specs.declared.call.Call.{Call};
 ghost use Rattle.gmp_seq.specs.declared.call.Outcome.{Outcome};
 ghost use Rattle.gmp_seq.specs.declared.status.Mode.{Mode};
@@ -7,7 +7,7 @@ ghost use Rattle.gmp_seq.specs.declared.status.Status.{Status};
 ghost use Rattle.gmp_seq.specs.Fits.{AreLimits};
 ghost use Rattle.gmp_seq.specs.Machines.{Enters, Holds, IsAwake, IsBare};
 ghost use Rattle.gmp_seq.specs.State.{SameChannels, main, opening};
-ghost use Rattle.gmp_seq.specs.Step.{Effect, Exits, OnTable, Parks, counted_one, LeavesBy};
+ghost use Rattle.gmp_seq.specs.Step.{Effect, Exits, OnTable, Parks, counted_one, outcome_after, LeavesBy};
 ghost use Rattle.gmp_seq.specs.Table.{IsCalling, IsRunning, RunsNothing, set_status};
 ghost use Rattle.gmp_goroutines.specs.Shelf.{Shelves};
 ghost use Rattle.gmp_start.specs.Start.{state_of};
@@ -300,22 +300,47 @@ impl Scheduler {
     }
 
     /// m made one entry more, which was answered so; with it the run may come to its outcome. A full book is the last to be asked: the
-    /// entry that fills it may end the run by itself.
+    /// entry that fills it may end the run by itself. While more entries are left, and the reply ends nothing, the outcome isn't written.
     #[inline(always)]
-    pub(crate) fn count_one(&mut self, limits: &Limits, m: MNo, reply: Reply)
+    pub(crate) fn count_one(&mut self, left: &mut u64, limits: &Limits, m: MNo, reply: Reply)
         requires there { m.0 < length self.old.counts }
         requires few { sum self.old.counts < 2 ^ 63 }
+        requires lasts { 0 < left.old → self.old.outcome ≡ None }
+        requires fits { 0 < left.old → sum self.old.counts + left.old ≤ limits.now.entries }
         ensures counted { scheduler_state self.new ≡ counted_one limits.now m reply (scheduler_state self.old) }
         ensures rest { self.new ≡ record self.old { counts = self.new.counts; outcome = self.new.outcome } }
         ensures made { sum self.new.counts ≡ sum self.old.counts + 1 }
+        ensures less { left.new ≤ left.old - 1 }
+        ensures goes_on { 0 < left.new → self.new.outcome ≡ None }
     {
         self.counts.add_one(m);
-        let is_full = self.counts.all() >= limits.entries;
-        self.outcome = match reply {
-            Reply::MainEnded => Some(Outcome::MainEnded),
-            Reply::AllAsleep => Some(Outcome::AllAsleep),
-            _ if is_full => Some(Outcome::BookFull),
-            _ => None,
-        };
+        if *left > 1 && !is_last(reply) {
+            *left -= 1;
+            return;
+        }
+        *left = 0;
+        self.outcome = outcome_of(limits, reply, self.counts.all());
+    }
+}
+
+/// Whether a run ends by this reply, whatever its limit.
+#[inline(always)]
+fn is_last(reply: Reply) -> bool
+    ensures { result ≡ false → (limits : Limits) (counts : List ℕ) → nat_le limits.entries (sum counts) ≡ false → outcome_after limits reply counts ≡ None }
+{
+    matches!(reply, Reply::MainEnded | Reply::AllAsleep)
+}
+
+/// How the run ended by its latest entry, if it did. Apart: few entries may end one.
+#[inline(never)]
+fn outcome_of(limits: &Limits, reply: Reply, made: u64) -> Option<Outcome>
+    ensures { (counts : List ℕ) → sum counts ≡ made → result ≡ outcome_after limits.now reply counts }
+{
+    let is_full = made >= limits.entries;
+    match reply {
+        Reply::MainEnded => Some(Outcome::MainEnded),
+        Reply::AllAsleep => Some(Outcome::AllAsleep),
+        _ if is_full => Some(Outcome::BookFull),
+        _ => None,
     }
 }

@@ -1,6 +1,7 @@
 use Rattle.gmp_history.specs.Brief.{HistoryContents}
-use Rattle.gmp_journal.proofs.Common.{ap, refl, subst, arith, rules, IsInOrder, Grants, goroutine_in, processor_in, log_of, Log}
-use Rattle.gmp_journal.proofs.Granted.{in_order, kept_on, may_go}
+use Rattle.std.proofs.Common.{sum}
+use Rattle.gmp_journal.proofs.Common.{List, ℕ, ◌+◌, ◌∙◌, ap, refl, subst, arith, rules, IsInOrder, Grants, goroutine_in, processor_in, log_of, Log}
+use Rattle.gmp_journal.proofs.Granted.{in_order, kept_on, left_on, may_go}
 use Rattle.gmp_journal.specs.Scene.{scheduler_state}
 use Rattle.gmp_journal.proofs.journal.Journal.accept.Goals as goal
 
@@ -35,6 +36,8 @@ invariant_of-self-2 c =
       kept_on (log_of c.self.inside) _ _ c.args.pass.now c.self.invariant.0 (may_go _ _ _ _ c.args.pass.now c.args.call.now c.args.values.now c.self.view_is c.self.invariant.0 c.requires.suits c.requires.allowed).current c.args.call.now c.effect.new.out (scheduler_state c.effect.new.self) (record { m = c.args.pass.now.m; k = c.args.pass.now.calls; call = c.args.call.now; reply = c.effect.new.out }) _ _ _ (may_go _ _ _ _ c.args.pass.now c.args.call.now c.args.values.now c.self.view_is c.self.invariant.0 c.requires.suits c.requires.allowed).free (k.ensures.effect _ _) rest.counts
           refl c.add.ensures.fits (search rules) (ap (λ (h : HistoryContents). h.room) c.add.ensures.list) (ap (λ (h : HistoryContents). h.lasting) c.add.ensures.list),
       record { channels = rw (c.count_one.ensures.rest, rest.limit) c.self.invariant.1.channels; machines = rw (c.count_one.ensures.rest, rest.machines) c.self.invariant.1.machines },
+      left_on (log_of c.self.inside) _ _ _ _ c.self.invariant.2 (may_go _ _ _ _ c.args.pass.now c.args.call.now c.args.values.now c.self.view_is c.self.invariant.0 c.requires.suits c.requires.allowed).free
+          (ap (λ (h : HistoryContents). h.list) c.add.ensures.list) refl refl (c.count_one.ensures.made ∙ ap (λ (l : List ℕ). sum l + 1) rest.counts) c.count_one.ensures.less c.count_one.ensures.goes_on,
     )
 
 pub returns-clause-records : goal.returns-clause-records

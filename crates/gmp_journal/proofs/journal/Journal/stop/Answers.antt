@@ -1,3 +1,4 @@
+use Rattle.std.proofs.Common.{arith}
 use Rattle.gmp_journal.proofs.journal.Journal.stop.Goals as goal
 
 pub invariant_of-self : goal.invariant_of-self
@@ -13,4 +14,5 @@ invariant_of-self c =
         ongoing = kept.ongoing;
       },
       c.self.invariant.1,
+      record { room = omega (arith, c.self.invariant.2.room); lasts = λ more. absurd (omega (arith, more)); fits = λ more. absurd (omega (arith, more)) },
     )
