@@ -5,4 +5,5 @@ pub mod Moves
 pub mod Handing
 pub mod Settled
 pub mod Asking
-pub mod InPlace
+pub mod Staying
+pub mod InHand

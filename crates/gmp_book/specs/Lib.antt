@@ -5,4 +5,4 @@ pub mod Kinds
 pub mod Hands
 pub mod Went
 pub mod Returns
-pub mod InPlace
+pub mod InHand

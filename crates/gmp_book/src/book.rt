@@ -17,7 +17,7 @@ mod asking;
 mod channels;
 mod ending;
 mod goroutines;
-mod in_place;
+mod in_hand;
 mod machines;
 
 use crate::opening::{Unopened, first_passes, may_open};

@@ -31,6 +31,7 @@
 
 mod answers;
 mod book;
+mod in_hand;
 mod opening;
 mod report;
 mod returned;

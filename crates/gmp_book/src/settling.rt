@@ -1,7 +1,5 @@
 //! Where bodies and owners go by a reply.
-ghost use Rattle.std.specs.Prelude.{◌≡◌, ◌⊎◌, ℕ, None};
-ghost use Rattle.gmp_base.specs.declared.number.GNo.{GNo};
-ghost use Rattle.gmp_book.specs.declared.values.Way.TheVariants as Way;
+ghost use Rattle.std.specs.Prelude.{◌≡◌};
 ghost use Rattle.gmp_book.specs.Hands.{FitsBody, FitsHome, FitsOwner, HandsBody, HandsOwner, with_home};
 
 use crate::slots::Slots;
@@ -77,23 +75,6 @@ pub(crate) fn settle_body<T>(
         Way::OutOfCall => {
             spent(held);
             (called.map(|called| running_on(called, told)), None)
-        }
-    }
-}
-
-/// The body of the goroutine that asked goes so, and the goroutine is told this where it goes on.
-#[inline(always)]
-pub(crate) fn settle_own<T>(bodies: &mut Slots<T>, way: Way, told: Woke, held: &mut Option<Held<T>>)
-    requires way { (way ≡ Way.Stays) ⊎ (way ≡ Way.Home) }
-    requires fits { FitsBody way (record { 0 = 0 }) held.old None bodies.old }
-    ensures { (run : ℕ) → (g : GNo) → HandsBody way run g told held.old None held.new None bodies.old bodies.new }
-{
-    match way {
-        Way::Home => put_home(bodies, held.take(), None),
-        _ => {
-            if let Some(held) = held {
-                held.woke = told;
-            }
         }
     }
 }

@@ -3,7 +3,6 @@ ghost use Rattle.std.specs.Prelude.{◌≡◌, None};
 ghost use Rattle.std.specs.Option.{option_map};
 ghost use Rattle.gmp_base.specs.Values.{ticket_by};
 ghost use Rattle.gmp_seq.specs.Step.{ticket_in};
-ghost use Rattle.gmp_book.specs.InPlace.{own_handed};
 ghost use Rattle.gmp_book.specs.Hands as hands;
 ghost use Rattle.gmp_book.specs.Hands.{back_where, claimed, handed_back, handed_of, way_of};
 
@@ -172,18 +171,5 @@ pub(crate) fn handed<T, Q>(values: &Values<T, Q>) -> Handed
         held,
         called,
         proc,
-    }
-}
-
-/// What the goroutine that runs is of.
-#[inline(always)]
-pub(crate) fn handed_own<T>(held: &Option<Held<T>>) -> Handed
-    ensures { result ≡ own_handed held.now }
-{
-    Handed {
-        ticket: None,
-        held: held.as_ref().map(|h| (h.run, h.g)),
-        called: None,
-        proc: None,
     }
 }

@@ -57,20 +57,6 @@ parts_of load = record {
   to_store = option_map readiness_of load.to_store;
 }
 
--- Registers that one value came into
-
--- the goroutine that runs, where it goes on, and a ticket to store, where there is one
-abbrev pub with_held : {T Q : Type 0} → Option (Held T) → Option Readiness → Registers T Q → Registers T Q
-with_held held to_store hand = record hand { held = option_map held_parts held; to_store = first_of to_store hand.to_store }
-
--- the goroutine of the ticket to claim, which is spent
-abbrev pub with_claimed : {T Q : Type 0} → Held T → Registers T Q → Registers T Q
-with_claimed held hand = record hand { held = Some (held_parts held); to_claim = None }
-
--- a ticket to claim, where there is one
-abbrev pub with_to_claim : {T Q : Type 0} → Option Readiness → Registers T Q → Registers T Q
-with_to_claim to_claim hand = record hand { to_claim = first_of to_claim hand.to_claim }
-
 -- the pass and all values are of the run
 pub record IsOfRun {T Q : Type 0} (number : ℕ) (load : Load T Q) : Type 0 where
   pub pass : load.pass.run ≡ number

@@ -1,7 +1,8 @@
--- What an act at a local queue changes of what a machine holds: the owner of its processor, or one ticket.
+-- What is lent of what a machine holds: all of it to a call, the owner of its processor to an act at a local queue; and the ticket that such an act
+-- finds.
 use Rattle.std.specs.Prelude.{Bool, true, false, Option, Some}
 use Rattle.std.specs.Option.{option_map}
-use Rattle.std.specs.Borrow.{Fml, LendsIf, MutBor, RattleType}
+use Rattle.std.specs.Borrow.{Fml, Lends, LendsIf, MutBor, RattleType}
 use Rattle.gmp_base.specs.declared.number.Readiness.{Readiness}
 use Rattle.gmp_driver.specs.declared.registers.ProcParts.{ProcParts}
 use Rattle.gmp_driver.specs.declared.registers.Registers.{Registers}
@@ -30,3 +31,7 @@ module _ (T Q : RattleType) where
   -- the same of the machine
   abbrev pub lends_owner : MutBor (Machine T.Denot Q.Denot) → Option (MutBor Q.Denot) → Fml
   lends_owner s r = LendsIf (driver_row T Q) Q s r (λ owner. record s.now { hand = with_owner owner s.now.hand }) s.now
+
+  -- once the borrow r ends, the machine holds what was left behind r
+  abbrev pub lends_hand : MutBor (Machine T.Denot Q.Denot) → MutBor (Registers T.Denot Q.Denot) → Fml
+  lends_hand s r = Lends (driver_row T Q) (registers_row T Q) s r (λ hand. record s.now { hand = hand })

@@ -1,9 +1,9 @@
-//! A machine's program, and what the machine holds: `Driver`. An act is made in one of three ways. `give` hands out a load and `got` takes
-//! it back; `give_pass` with `got_reply` and its like leaves all else in the registers, for calls that move one value; `tell` is for acts
-//! that change no value. Acts at a queue, made in place, stand in driver/own_queue.rt.
+//! A machine's program, and what the machine holds: `Driver`. An act is made in one of three ways. A call of the book is made with the pass
+//! (`give_pass`) and what is held in its place (`hand`), and is told by `got_reply` or `got_refusal`; `give` hands out a load and `got` takes
+//! it back; `tell` is for acts that change no value. Acts at a queue, made in place, stand in driver/own_queue.rt.
 ghost use Rattle.std.specs.Prelude.{◌≡◌, ◌≤◌, None, Some, IfSome, IsNone, IsSome, false, is_some};
 ghost use Rattle.std.specs.Borrow.{sem};
-ghost use Rattle.std.specs.Option.{option_copied_mut, option_map};
+ghost use Rattle.std.specs.Option.{option_copied_mut};
 
 mod own_queue;
 
@@ -11,13 +11,13 @@ use crate::act::{Act, Frequent, Told};
 use crate::hunt::victim_of;
 use crate::load::Load;
 use crate::place::Aside;
-use crate::registers::{HeldParts, Registers, fill, fill_if};
+use crate::registers::{Registers, fill};
 use crate::seen::Seen;
 use crate::spot::{Spot, ask_on};
 use crate::table::{
     act_at, frequent_at, fresh_by, go_on, go_on_by, next_fresh, next_turns, turns_by,
 };
-use gmp_base::{Ask, Held, PNo, Pass, Readiness, Refusal, Woke};
+use gmp_base::{Ask, PNo, Pass, Refusal, Woke};
 use gmp_seq::Reply;
 use std::marker::Model;
 
@@ -64,9 +64,10 @@ impl<T, Q> Driver<T, Q> {
     ghost use Rattle.gmp_driver.specs.Fits.{SuitsPlace, IsDriver};
     ghost use Rattle.gmp_driver.specs.Frequent.{act_of, frequent_of};
     ghost use Rattle.gmp_driver.specs.Hunt.{begun, victim_of};
-    ghost use Rattle.gmp_driver.specs.Loads.{IsOfRun, held_of, load_of, parts_of, with_claimed, with_held, with_to_claim};
+    ghost use Rattle.gmp_driver.specs.Loads.{IsOfRun, load_of, parts_of};
+    ghost use Rattle.gmp_driver.specs.Own.{lends_hand};
     ghost use Rattle.gmp_driver.specs.Machine.{held_at, is_done, is_peek};
-    ghost use Rattle.gmp_driver.specs.Registers.{AreFilledOnce, but, joined, nothing, put_value, unused, used};
+    ghost use Rattle.gmp_driver.specs.Registers.{AreFilledOnce, joined, nothing, unused, used};
     ghost use Rattle.gmp_driver.specs.Seen.{seen};
     ghost use Rattle.gmp_driver.specs.Table.{after, first_aside, next_act};
 
@@ -217,61 +218,15 @@ impl<T, Q> Driver<T, Q> {
         self.pass.take().unwrap()
     }
 
-    /// Hands out the goroutine that runs, where there is one.
+    /// Lends what it holds, for a call that the pass is out for.
+    // While the pass is in, exactly what the place needs is in hand, so that nobody may change it then.
     #[inline(always)]
-    pub fn give_held(&mut self) -> Option<Held<T>>
+    pub fn hand(&mut self) -> &mut Registers<T, Q>
         requires { IsNone self.old.pass }
-        ensures held { result ≡ option_map (held_of self.old.run) self.old.hand.held }
-        ensures left { self.new ≡ record self.old { hand = record self.old.hand { held = None } } }
+        ensures* lends { sem 𝓛 (lends_hand T.row Q.row self.entry result) }
+        ensures hand { result.now ≡ self.old.hand }
     {
-        HeldParts::wrap(self.hand.held.take(), self.run)
-    }
-
-    /// Takes back the goroutine that runs, if it goes on, and a ticket to store, where there is one.
-    #[inline(always)]
-    pub fn got_held(&mut self, held: Option<Held<T>>, to_store: Option<Readiness>)
-        requires out { IsNone self.old.pass }
-        requires empty { IsNone self.old.hand.held }
-        ensures { self.new ≡ record self.old { hand = with_held held to_store self.old.hand } }
-    {
-        fill_if(&mut self.hand.held, HeldParts::of(held));
-        if let Some(r) = to_store {
-            self.hand.to_store = Some(r);
-        }
-    }
-
-    /// Takes the goroutine that runs, by the ticket to claim, which is spent.
-    #[inline(always)]
-    pub fn got_claimed(&mut self, held: Held<T>)
-        requires out { IsNone self.old.pass }
-        requires empty { IsNone self.old.hand.held }
-        ensures { self.new ≡ record self.old { hand = with_claimed held self.old.hand } }
-    {
-        fill_if(&mut self.hand.held, HeldParts::of(Some(held)));
-        self.hand.to_claim = None;
-    }
-
-    /// Takes a ticket to claim, where there is one.
-    #[inline(always)]
-    pub fn got_ticket(&mut self, to_claim: Option<Readiness>)
-        requires { IsNone self.old.pass }
-        ensures { self.new ≡ record self.old { hand = with_to_claim to_claim self.old.hand } }
-    {
-        if let Some(r) = to_claim {
-            self.hand.to_claim = Some(r);
-        }
-    }
-
-    /// Lets go of the ticket that was put onto the shelf: the one to store, where there is one, and else the one to claim.
-    #[inline(always)]
-    pub fn put_ticket(&mut self)
-        requires { IsNone self.old.pass }
-        ensures { self.new ≡ record self.old { hand = but (put_value self.old.hand.to_store) self.old.hand } }
-    {
-        match self.hand.to_store {
-            Some(_) => self.hand.to_store = None,
-            None => self.hand.to_claim = None,
-        }
+        &mut self.hand
     }
 
     /// Takes the pass back, is told the reply, and goes on to the next place, where it must hold what that place says.

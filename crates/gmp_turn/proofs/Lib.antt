@@ -9,4 +9,4 @@ pub mod Giving
 pub mod Keeping
 pub mod Moving
 pub mod Kept
-pub mod InPlace
+pub mod InHand

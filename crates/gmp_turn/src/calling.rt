@@ -1,14 +1,13 @@
 //! One book call of one machine.
-ghost use Rattle.std.specs.Prelude.{◌≡◌, IsSome};
+ghost use Rattle.std.specs.Prelude.{◌≡◌, true, IsSome};
 ghost use Rattle.gmp_driver.specs.declared.act.Act.TheVariants as act;
 ghost use Rattle.gmp_driver.specs.Fits.{SuitsPlace};
 ghost use Rattle.gmp_driver.specs.Table.{next_act};
+ghost use Rattle.gmp_journal.specs.Frequent.{is_frequent};
 ghost use Rattle.gmp_journal.specs.Grants.{NeedsMemory};
 ghost use Rattle.gmp_turn.specs.Turns as turns;
-ghost use Rattle.gmp_turn.specs.Turns.{HasMemory, Turns, woken_in};
+ghost use Rattle.gmp_turn.specs.Turns.{HasMemory, Turns, replied, woken_in};
 
-use crate::in_place::{alone_turn, claim_turn, own_turn, put_turn};
-use crate::passing::{is_to_claim, load_back, opened, told_to_driver};
 use gmp_base::{MNo, Refusal};
 use gmp_book::Book;
 use gmp_driver::{Act, Driver};
@@ -40,45 +39,45 @@ pub fn turn<T, Q>(
     ensures pass { IsSome driver.new.pass }
     ensures run { driver.new.run ≡ book.new.log.run }
 {
-    match call {
-        Call::Claim(r) => replied(Reply::Held, claim_turn(driver, book, r)),
-        Call::Put(r) => {
-            let mut reply = Reply::Done;
-            let made = put_turn(driver, book, r, &mut reply);
-            replied(reply, made)
+    let mut reply = Reply::Done;
+    let made = make(memory, driver, book, &call, word, false, &mut reply);
+    replied(reply, made)
+}
+
+/// The same; the reply is written in place. Of a call that is known to be frequent, by a constant that is handed down, no arm of another is
+/// compiled in.
+// Inlined: whoever knows the call has its arms alone.
+#[inline(always)]
+pub(crate) fn make<T, Q>(
+    memory: Option<Global>,
+    driver: &mut Driver<T, Q>,
+    book: &mut Book<T, Q>,
+    call: &Call,
+    word: u64,
+    frequent: bool,
+    out: &mut Reply,
+) -> Result<(), Refusal>
+    requires often { frequent ≡ true → is_frequent call.now ≡ true }
+    requires act { next_act driver.old ≡ act.Call call.now }
+    requires memory { NeedsMemory call.now memory }
+    requires pass { IsSome driver.old.pass }
+    requires run { driver.old.run ≡ book.old.log.run }
+    requires keeps { SuitsPlace driver.old.place driver.old.hand }
+    ensures turns { Turns driver.old book.old call.now word (replied out.new result) driver.new book.new }
+    ensures fits { SuitsPlace driver.new.place driver.new.hand }
+    ensures pass { IsSome driver.new.pass }
+    ensures run { driver.new.run ≡ book.new.log.run }
+{
+    let mut pass = driver.give_pass();
+    match book.call_in_hand(memory, &mut pass, driver.hand(), call, word, frequent, out) {
+        Ok(()) => {
+            driver.got_reply(pass, out);
+            Ok(())
         }
-        Call::Take
-        | Call::Poke
-        | Call::Spin
-        | Call::Unspin
-        | Call::Woken
-        | Call::Keep
-        | Call::Bare
-        | Call::Park
-        | Call::Tick(_) => {
-            let mut reply = Reply::Done;
-            let made = alone_turn(driver, book, &call, word, &mut reply);
-            replied(reply, made)
+        Err(why) => {
+            driver.got_refusal(pass, why);
+            Err(why)
         }
-        Call::Yield
-        | Call::Exit
-        | Call::Send(_, _)
-        | Call::Recv(_)
-        | Call::Select(_, _, _)
-        | Call::Go(_)
-        | Call::Spawn
-        | Call::Close(_)
-        | Call::Len(_)
-        | Call::Cap(_)
-        | Call::Sleep(_)
-        | Call::Procs(_)
-        | Call::Gopark
-        | Call::Ready(_) => {
-            let mut reply = Reply::Done;
-            let made = own_turn(driver, book, &call, word, &mut reply);
-            replied(reply, made)
-        }
-        _ => turn_by_values(memory, driver, book, call, word),
     }
 }
 
@@ -91,35 +90,6 @@ fn replied(reply: Reply, made: Result<(), Refusal>) -> Result<Reply, Refusal>
         Ok(()) => Ok(reply),
         Err(why) => Err(why),
     }
-}
-
-/// A turn with the values that the driver hands out.
-#[inline(never)]
-fn turn_by_values<T, Q>(
-    memory: Option<Global>,
-    driver: &mut Driver<T, Q>,
-    book: &mut Book<T, Q>,
-    call: Call,
-    word: u64,
-) -> Result<Reply, Refusal>
-    requires act { next_act driver.old ≡ act.Call call }
-    requires memory { NeedsMemory call memory }
-    requires pass { IsSome driver.old.pass }
-    requires run { driver.old.run ≡ book.old.log.run }
-    // `Driver::next`, which names the call, says so.
-    requires keeps { SuitsPlace driver.old.place driver.old.hand }
-    ensures turns { Turns driver.old book.old call word result driver.new book.new }
-    ensures fits { SuitsPlace driver.new.place driver.new.hand }
-    ensures pass { IsSome driver.new.pass }
-    ensures run { driver.new.run ≡ book.new.log.run }
-{
-    let load = driver.give();
-    let to_claim = is_to_claim(&call, &load);
-    let (pass, values) = opened(load);
-    let mut pass = pass;
-    let (values, result) = book.call(memory, &mut pass, call, values, word);
-    driver.got(load_back(pass, to_claim, values), told_to_driver(result));
-    result
 }
 
 /// The memory that an act is handed: a make has some, and no other act any.

@@ -1,5 +1,5 @@
-//! Turns of the calls that come most often. But for a claim, of which there is one turn, each is compiled apart with its call known (`Known`):
-//! of a match on the call its arm alone is left there. In one turn for all calls every local of each arm would be zeroed in each call. None
+//! Turns of the calls that come most often. Each is compiled apart with its call known (`Known`): of a match on the call its arm alone is left
+//! there. In one turn for all calls every local of each arm would be zeroed in each call. None
 //! of them reads the word, of which contracts speak.
 //!
 //! The book's call is inlined into each. A turn that is inlined itself would grow larger than what the toolchain inlines.
@@ -8,17 +8,14 @@ ghost use Rattle.gmp_seq.specs.declared.call.Call.{Call as CallValue};
 ghost use Rattle.gmp_seq.specs.declared.call.Call.TheVariants as variant;
 ghost use Rattle.gmp_journal.specs.Frequent.{is_frequent};
 ghost use Rattle.gmp_journal.specs.Grants.{NeedsMemory};
-ghost use Rattle.gmp_book.specs.InPlace.{is_alone};
-ghost use Rattle.gmp_book.specs.Kinds.{is_own};
 ghost use Rattle.gmp_driver.specs.declared.act.Act.TheVariants as act;
 ghost use Rattle.gmp_driver.specs.Fits.{SuitsPlace};
 ghost use Rattle.gmp_driver.specs.Frequent.{act_of};
 ghost use Rattle.gmp_driver.specs.Table.{next_act};
 ghost use Rattle.gmp_turn.specs.Turns.{Wakes, is_call};
 
-use crate::calling::woken;
-use crate::in_place::claim_turn;
-use gmp_base::{CNo, MNo, Readiness};
+use crate::calling::{make, woken};
+use gmp_base::{CNo, GNo, MNo, Readiness};
 use gmp_book::Book;
 use gmp_driver::{Driver, Frequent};
 use gmp_seq::{Call, Reply};
@@ -43,16 +40,12 @@ pub fn frequent_turn<T, Q>(
     ensures run { driver.new.run ≡ book.new.log.run }
 {
     match which {
-        Frequent::Take => known_alone(driver, book, TakeCall, word),
-        Frequent::Claim(g, epoch) => {
-            // Made or refused, it wakes nobody.
-            let _ = claim_turn(driver, book, Readiness { g, epoch });
-            None
-        }
-        Frequent::Yield => known_own(driver, book, YieldCall, word),
-        Frequent::Poke => known_alone(driver, book, PokeCall, word),
-        Frequent::Send(c, v) => known_own(driver, book, SendCall(c, v), word),
-        Frequent::Recv(c) => known_own(driver, book, RecvCall(c), word),
+        Frequent::Take => make_known(driver, book, TakeCall, word),
+        Frequent::Claim(g, epoch) => make_known(driver, book, ClaimCall(g, epoch), word),
+        Frequent::Yield => make_known(driver, book, YieldCall, word),
+        Frequent::Poke => make_known(driver, book, PokeCall, word),
+        Frequent::Send(c, v) => make_known(driver, book, SendCall(c, v), word),
+        Frequent::Recv(c) => make_known(driver, book, RecvCall(c), word),
         Frequent::Pop | Frequent::Push | Frequent::Resume | Frequent::Other => unreachable!(),
     }
 }
@@ -74,6 +67,10 @@ struct TakeCall;
 /// The call `poke`.
 #[derive(Drop)]
 struct PokeCall;
+
+/// The call `claim` of the ticket of this goroutine and epoch.
+#[derive(Drop)]
+struct ClaimCall(GNo, u64);
 
 /// The call `yield`.
 #[derive(Drop)]
@@ -105,6 +102,20 @@ impl Known for PokeCall {
     }
 }
 
+impl Known for ClaimCall {
+    ghost use Rattle.gmp_base.specs.declared.number.Readiness.{Readiness};
+
+    ghost call = { λ known. let r : Readiness = record { g = known.0; epoch = known.1 } in variant.Claim r };
+
+    #[inline(always)]
+    fn call(&self) -> Call {
+        Call::Claim(Readiness {
+            g: self.0,
+            epoch: self.1,
+        })
+    }
+}
+
 impl Known for YieldCall {
     ghost call = { λ known. variant.Yield };
 
@@ -132,54 +143,17 @@ impl Known for RecvCall {
     }
 }
 
-/// As `alone_turn`, of a frequent call that is known where this is compiled.
+/// Makes a frequent call that is known where this is compiled.
 // Not inlined: whoever makes one frequent call pays for no local of another.
 #[inline(never)]
-fn known_alone<T, Q, C: Known>(
+fn make_known<T, Q, C: Known>(
     driver: &mut Driver<T, Q>,
     book: &mut Book<T, Q>,
     known: C,
     word: u64,
 ) -> Option<MNo>
-    requires alone { is_alone (C.call known) ≡ true }
     requires often { is_frequent (C.call known) ≡ true }
-    requires act { next_act driver.old ≡ act.Call (C.call known) }
-    requires pass { IsSome driver.old.pass }
-    requires run { driver.old.run ≡ book.old.log.run }
-    requires keeps { SuitsPlace driver.old.place driver.old.hand }
-    ensures turns { Wakes driver.old book.old (C.call known) word result driver.new book.new }
-    ensures fits { SuitsPlace driver.new.place driver.new.hand }
-    ensures pass { IsSome driver.new.pass }
-    ensures run { driver.new.run ≡ book.new.log.run }
-{
-    let call = known.call();
-    let mut reply = Reply::Done;
-    let mut pass = driver.give_pass();
-    match book.call_alone(&mut pass, &call, word, true, &mut reply) {
-        Ok(()) => {
-            driver.got_ticket(reply.ticket());
-            driver.got_reply(pass, &reply);
-            woken(reply)
-        }
-        Err(why) => {
-            driver.got_refusal(pass, why);
-            None
-        }
-    }
-}
-
-/// As `own_turn`, of a frequent call that is known where this is compiled.
-// Not inlined, as above.
-#[inline(never)]
-fn known_own<T, Q, C: Known>(
-    driver: &mut Driver<T, Q>,
-    book: &mut Book<T, Q>,
-    known: C,
-    word: u64,
-) -> Option<MNo>
-    requires own { is_own (C.call known) ≡ true }
     requires plain { NeedsMemory (C.call known) None }
-    requires often { is_frequent (C.call known) ≡ true }
     requires act { next_act driver.old ≡ act.Call (C.call known) }
     requires pass { IsSome driver.old.pass }
     requires run { driver.old.run ≡ book.old.log.run }
@@ -191,18 +165,8 @@ fn known_own<T, Q, C: Known>(
 {
     let call = known.call();
     let mut reply = Reply::Done;
-    let mut pass = driver.give_pass();
-    let mut held = driver.give_held();
-    match book.call_own(&mut pass, &call, &mut held, word, true, &mut reply) {
-        Ok(()) => {
-            driver.got_held(held, reply.ticket());
-            driver.got_reply(pass, &reply);
-            woken(reply)
-        }
-        Err(why) => {
-            driver.got_held(held, None);
-            driver.got_refusal(pass, why);
-            None
-        }
+    match make(None, driver, book, &call, word, true, &mut reply) {
+        Ok(()) => woken(reply),
+        Err(_) => None,
     }
 }

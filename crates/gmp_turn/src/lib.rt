@@ -11,9 +11,7 @@
 
 mod calling;
 mod frequent;
-mod in_place;
 pub mod laws;
-mod passing;
 mod surrendering;
 
 pub use calling::{memory_at, turn, woken};

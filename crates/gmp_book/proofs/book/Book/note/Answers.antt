@@ -2,7 +2,7 @@ use Rattle.std.proofs.Common.{None, Some}
 use Rattle.gmp_journal.specs.Handed.{nothing_handed}
 use Rattle.gmp_journal.specs.Refusals.{refusal_of}
 use Rattle.gmp_book.proofs.Asking.{plain}
-use Rattle.gmp_book.proofs.InPlace.{values_kept}
+use Rattle.gmp_book.proofs.Staying.{values_kept}
 use Rattle.gmp_book.proofs.book.Book.note.Goals as goal
 
 pub returns-in-Ok-clause-refused : goal.returns-in-Ok-clause-refused
