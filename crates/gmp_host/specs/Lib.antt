@@ -1,5 +1,4 @@
 pub mod Ends
-pub mod Lately
 pub mod Openings
 pub mod Played
 pub mod Search

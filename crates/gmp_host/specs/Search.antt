@@ -3,6 +3,7 @@ use Rattle.std.specs.Prelude.{◌≡◌, ◌⊎◌, ℕ, ◌+◌, ◌≤◌, ◌
 use Rattle.gmp_seq.specs.declared.call.Outcome.TheVariants as outcome
 use Rattle.gmp_host.specs.declared.ending.Ended.{Ended}
 use Rattle.gmp_host.specs.declared.ending.Short.{Short}
+use Rattle.gmp_host.specs.declared.searching.FellShort.{FellShort}
 use Rattle.gmp_host.specs.declared.searching.Found.{Found}
 
 -- main ended, and no goroutine was lost
@@ -41,9 +42,16 @@ module _ (runs : ℕ → Result Ended Short → Type 0) where
   Searches begin end (Some found) = IsFirst begin end found
   Searches begin end None = AreWell begin end
 
-  -- the run of one of these seeds falls short so
-  abbrev pub FailsAtOne : ℕ → ℕ → Short → Type 0
-  FailsAtOne begin end why = (seed : ℕ) × (begin ≤ seed) × (seed < end) × runs seed (Err why)
+  -- of these seeds the run of the one that is named falls short so
+  pub record FallsShort (begin end : ℕ) (fell : FellShort) : Type 0 where
+    pub there : (begin ≤ fell.seed) × (fell.seed < end)
+    pub ran : runs fell.seed (Err fell.why)
+
+  -- and all before it ended well
+  pub record FallsAtFirst (begin end : ℕ) (fell : FellShort) : Type 0 where
+    pub there : (begin ≤ fell.seed) × (fell.seed < end)
+    pub ran : runs fell.seed (Err fell.why)
+    pub before : AreWell begin fell.seed
 
   -- each of these seeds ran, and its run ended well, or has so many entries at least
   abbrev pub AreWellOrLong : ℕ → ℕ → ℕ → Type 0

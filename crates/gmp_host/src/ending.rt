@@ -7,7 +7,7 @@ ghost use Rattle.gmp_host.specs.Search.{IsWell};
 
 use gmp_base::{GNo, Refusal, Woke};
 use gmp_seq::Outcome;
-use gmp_waits::Waiting;
+use gmp_waits::{Does, Waiting};
 use std::alloc::{AllocError, AllocFailed};
 use std::fmt;
 use thiserror::Error;
@@ -20,11 +20,10 @@ pub struct Ended {
     pub entries: u64,
     /// The goroutine that was the first to get an answer that made no sense to it.
     pub lost: Option<Lost>,
-    /// The goroutines that began and are not done, by number, and what each waits for or does. It is empty where main ended, where a sink
-    /// took the history, and where memory was refused.
+    /// The goroutines that began and are not done, by number, and what each waits for or does. It is empty where main ended, of which
+    /// `Traced::at_end` tells, where a sink took the history, and where memory was refused.
     pub waiting: Vec<Waiting>,
-    /// Whose tickets were claimed in the last hundred entries, in order, where the history was full. Else it is empty, and where a sink took the
-    /// history.
+    /// Whose the last hundred entries are, in order: those goroutines ran lately. It is empty where `waiting` is.
     pub lately: Vec<GNo>,
 }
 
@@ -57,11 +56,14 @@ impl fmt::Display for Ended {
             write!(f, ", goroutine {} lost at {answer:?}", goroutine.0)?;
         }
         for waiting in &self.waiting {
-            let runs = waiting.what.as_str().starts_with("runs ");
-            let ran = self.lately.contains(&waiting.goroutine);
-            if self.outcome == Outcome::AllAsleep
-                || self.outcome == Outcome::BookFull && (runs || ran)
-            {
+            let is_told = match self.outcome {
+                Outcome::MainEnded => false,
+                Outcome::AllAsleep => true,
+                Outcome::BookFull => {
+                    waiting.does == Does::Runs || self.lately.contains(&waiting.goroutine)
+                }
+            };
+            if is_told {
                 write!(f, "; {waiting}")?;
             }
         }

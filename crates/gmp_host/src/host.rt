@@ -18,7 +18,7 @@ use crate::settings::Settings;
 use crate::spawner::{Outputs, Spawner, Task};
 use crate::stamps::Stamps;
 use crate::traced::Traced;
-use crate::waits::{lately, waiting};
+use crate::waits::told_at_end;
 use gmp_base::{CNo, GNo};
 use gmp_history::{History, PassLog};
 use gmp_run::{Clock, Gate, Open, Since, Sink, Stop, run_fair, run_into_fair};
@@ -315,14 +315,13 @@ impl Host {
         let outcome = report.outcome.unwrap();
         let history = report.history;
         let capacities = self.capacities;
-        let waiting = waiting(alloc, limits, count, &capacities, outcome, &history);
-        let lately = lately(alloc, outcome, &history);
+        let told = told_at_end(alloc, limits, count, &capacities, outcome, &history);
         let ended = Ended {
             outcome,
             entries: history.len() as u64,
             lost: first(&self.loss),
-            waiting,
-            lately,
+            waiting: told.waiting,
+            lately: told.lately,
         };
         Ok(Traced {
             alloc,

@@ -2,7 +2,7 @@
 //!
 //! A `Host` takes the goroutines, the first of which is main, and runs them: `run` by machines in threads, `step` in one thread, the same
 //! every time, and `step_by` in one thread, machines and words drawn from a seed. Each tells how it `Ended`, as a legal run from the opening
-//! ended; `step_traced`, `run_traced` and `replay` hand its trace out. `run_into` runs them for as long as they like, and hands the history to a
+//! ended; `step_traced`, `run_traced` and `replay` hand its trace out, and `run_saved` writes it to a file. `run_into` runs them for as long as they like, and hands the history to a
 //! `Sink` piece by piece. `search` looks for a seed whose run does not end well, `shortest` for the shortest such run.
 //!
 //! A `Spawner` starts goroutines while the run goes on, and hands each its body over, a `Task`, whose output it leaves in `Outputs`.
@@ -24,6 +24,7 @@ mod handle;
 mod host;
 mod note;
 mod queue;
+mod saving;
 mod searching;
 mod select;
 mod settings;
@@ -45,13 +46,14 @@ pub use gmp_history::History;
 pub use gmp_run::{Clock, Gate, MOST_REST, Open, Since, Sink, Stop};
 pub use gmp_seq::{Limits, Outcome};
 pub use gmp_trace::WriteError;
-pub use gmp_waits::Waiting;
+pub use gmp_waits::{AtEnd, Does, Waiting};
 pub use goroutine::{Go, Goroutine, Nonsense};
 pub use group::Group;
 pub use handle::Handle;
 pub use host::Host;
 pub use note::{Note, Time};
-pub use searching::{Found, search, shortest};
+pub use saving::SaveError;
+pub use searching::{FellShort, Found, search, shortest};
 pub use select::Select;
 pub use settings::Settings;
 pub use slots::{Slots, Typed};

@@ -1,10 +1,11 @@
 //! A search through seeds for a run that does not end well.
 ghost use Rattle.std.specs.Prelude.{IfErr, IfOk};
-ghost use Rattle.gmp_host.specs.Search.{Compares, FailsAtOne, IsKept, Searches};
+ghost use Rattle.gmp_host.specs.Search.{Compares, FallsAtFirst, FallsShort, IsKept, Searches};
 
 use crate::ending::{Ended, Short};
 use std::fmt;
 use std::ops::Range;
+use thiserror::Error;
 
 /// A run that did not end well, and its seed.
 #[derive(Debug, PartialEq, Eq, Drop)]
@@ -20,18 +21,29 @@ impl fmt::Display for Found {
     }
 }
 
+/// A search that came to an end before it was done, since the run of this seed fell short.
+#[derive(Debug, Drop, Error)]
+#[error("seed {seed}: {why}")]
+pub struct FellShort {
+    pub seed: u64,
+    pub why: Short,
+}
+
 /// Runs each seed, from the first on, until a run does not end well, and tells of that. The closure makes its host anew, and runs it by
-/// `Host::step_by` or the like. A run that falls short ends the search, which falls short so too.
+/// `Host::step_by` or the like. A run that falls short ends the search.
 pub fn search<F: Fn(u64) -> Result<Ended, Short>>(
     seeds: Range<u64>,
     run: F,
-) -> Result<Option<Found>, Short>
+) -> Result<Option<Found>, FellShort>
     requires { F.IsAlwaysCallable run }
     ensures found { IfOk result (Searches (F.post run) seeds.start seeds.end) }
-    ensures err { IfErr result (FailsAtOne (F.post run) seeds.start seeds.end) }
+    ensures err { IfErr result (FallsAtFirst (F.post run) seeds.start seeds.end) }
 {
     for seed in seeds.start..seeds.end {
-        let ended = run(seed)?;
+        let ended = match run(seed) {
+            Ok(ended) => ended,
+            Err(why) => return Err(FellShort { seed, why }),
+        };
         if !ended.is_well() {
             return Ok(Some(Found { seed, ended }));
         }
@@ -61,14 +73,17 @@ fn compared(least: Option<Found>, seed: u64, ended: Ended) -> Option<Found>
 pub fn shortest<F: Fn(u64) -> Result<Ended, Short>>(
     seeds: Range<u64>,
     run: F,
-) -> Result<Option<Found>, Short>
+) -> Result<Option<Found>, FellShort>
     requires { F.IsAlwaysCallable run }
     ensures found { IfOk result (Compares (F.post run) seeds.start seeds.end) }
-    ensures err { IfErr result (FailsAtOne (F.post run) seeds.start seeds.end) }
+    ensures err { IfErr result (FallsShort (F.post run) seeds.start seeds.end) }
 {
     let mut least = None;
     for seed in seeds.start..seeds.end {
-        let ended = run(seed)?;
+        let ended = match run(seed) {
+            Ok(ended) => ended,
+            Err(why) => return Err(FellShort { seed, why }),
+        };
         least = compared(least, seed, ended);
     }
     Ok(least)

@@ -3,9 +3,10 @@ ghost use Rattle.std.specs.Prelude.{◌≡◌, ◌≢◌, IfErr, IfOk, None, OnO
 ghost use Rattle.gmp_seq.specs.Fits.{AreLimits};
 
 use crate::ending::{Ended, Short};
-use crate::waits::{lately, waiting};
+use crate::waits::told_at_end;
 use gmp_history::History;
 use gmp_seq::{Limits, Outcome};
+use gmp_waits::AtEnd;
 use std::alloc::{AllocError, Global};
 
 /// Whether a core may run so: it keeps all entries, and all is in range.
@@ -41,12 +42,15 @@ pub(crate) fn ended(
     let Some(outcome) = outcome else {
         return Err(Short::NoEnd);
     };
+    let AtEnd { waiting, lately } = told_at_end(
+        alloc, limits, bodies, capacities, outcome, history,
+    );
     Ok(Ended {
         outcome,
         entries: history.len() as u64,
         lost: None,
-        waiting: waiting(alloc, limits, bodies, capacities, outcome, history),
-        lately: lately(alloc, outcome, history),
+        waiting,
+        lately,
     })
 }
 

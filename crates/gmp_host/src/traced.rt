@@ -1,13 +1,16 @@
 //! A run with its trace.
-ghost use Rattle.std.specs.Prelude.{◌≡◌, IfErr, OnOk};
+ghost use Rattle.std.specs.Prelude.{◌≡◌, IfErr, IfOk, OnOk};
 ghost use Rattle.std.specs.Io.KnownBytes.{Appends};
 ghost use Rattle.gmp_trace.specs.declared.writing.WriteError.TheVariants.{OutOfMemory};
 ghost use Rattle.gmp_trace.specs.Text.{AppendsStart, text};
+ghost use Rattle.gmp_waits.specs.Lately.{IsLately};
+ghost use Rattle.gmp_waits.specs.Waits.{AreWaiting};
 
-use crate::ending::Ended;
+use crate::ending::{Ended, Short};
 use gmp_history::History;
 use gmp_seq::Limits;
 use gmp_trace::{BeginningView, End, TraceView, WriteError, write_view};
+use gmp_waits::{AtEnd, at_end};
 use std::alloc::Global;
 use std::fs;
 use std::io::Write;
@@ -29,6 +32,26 @@ pub struct Traced {
 
 impl Traced {
     ghost use Rattle.gmp_host.specs.Traced.{trace_of};
+
+    /// Who began and is not done at its end, also where main ended it, and who ran lately.
+    ///
+    ///     for waiting in &host.replay(seed)?.at_end()?.waiting {
+    ///         println!(rt; "{waiting}")?;
+    ///     }
+    pub fn at_end(&self) -> Result<AtEnd, Short>
+        ensures waiting { IfOk result (λ end. AreWaiting self.now.limits self.now.bodies self.now.capacities.items self.now.history.list end.waiting.items) }
+        ensures lately { IfOk result (λ end. IsLately self.now.limits self.now.bodies self.now.capacities.items self.now.history.list end.lately.items) }
+        ensures memory { IfErr result (λ e. e ≡ Short.OutOfMemory) }
+    {
+        let told = at_end(
+            self.alloc,
+            self.limits,
+            self.bodies,
+            &self.capacities,
+            &self.history,
+        );
+        told.ok_or(Short::OutOfMemory)
+    }
 
     /// Writes the text of the trace. `Device` comes where the writer failed.
     pub fn write<W: Write>(&self, writer: &mut W) -> Result<(), WriteError>

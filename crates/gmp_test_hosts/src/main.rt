@@ -17,7 +17,7 @@ use crate::handed::{Found, run_handed};
 use crate::loaded::{Tally, run_loaded};
 use crate::parcels::{run_parcels, try_places};
 use crate::split::run_split;
-use crate::text::{show_poller, show_text};
+use crate::text::{show_left, show_poller, show_text};
 use crate::ways::Runner;
 use anyhow::Result;
 use gmp_host::{
@@ -76,6 +76,16 @@ struct Yielder;
 impl Goroutine for Yielder {
     fn resume(&mut self, _woke: Woke) -> Result<Ask, Nonsense> {
         Ok(Ask::Yield)
+    }
+}
+
+/// Main ends at once.
+#[derive(Drop)]
+struct Ender;
+
+impl Goroutine for Ender {
+    fn resume(&mut self, _woke: Woke) -> Result<Ask, Nonsense> {
+        Ok(Ask::Exit)
     }
 }
 
@@ -325,6 +335,27 @@ fn show_found<R: Print>(rt: &R, alloc: Global, words: &str, bug: Bug, draws: Dra
     Ok(())
 }
 
+/// What a search tells whose third run is refused.
+fn show_refused<R: Print>(rt: &R, alloc: Global) -> Result<()> {
+    let run = |seed: u64| {
+        let settings = Settings {
+            entries: 16,
+            procs: if seed == 2 { 0 } else { 1 },
+            machines: 1,
+            ..Settings::default()
+        };
+        let mut host = Host::new(alloc, settings)?;
+        let ender = host.boxed(Ender)?;
+        host.push(ender)?;
+        host.step_by(seed)
+    };
+    match search(0..4, run) {
+        Ok(_) => println!(rt; "a search: all ran")?,
+        Err(fell) => println!(rt; "a search: {fell}")?,
+    }
+    Ok(())
+}
+
 /// How a program that goes wrong by few schedules ends in turn, and what searches find.
 fn show_drawn<R: Print>(rt: &R, alloc: Global, words: &str, bug: Bug) -> Result<()> {
     let (ended, _) = run_bug(alloc, bug, drawn::Way::InTurn)?;
@@ -398,6 +429,8 @@ fn main(rt: HostRuntime) -> Result<()> {
     show_loaded(&rt, alloc, 1, unfair)?;
     show_text(&rt, alloc)?;
     show_poller(&rt, alloc)?;
+    show_left(&rt, alloc)?;
+    show_refused(&rt, alloc)?;
     show_drawn(&rt, alloc, "two locks", Bug::Locks)?;
     show_drawn(&rt, alloc, "a wake-up", Bug::WakeUp)?;
     show_drawn(&rt, alloc, "a closed channel", Bug::Closed)

@@ -3,7 +3,8 @@
 use crate::ways::Runner;
 use anyhow::Result;
 use gmp_host::{
-    Ask, Channel, Goroutine, Host, Nonsense, Note, Settings, Short, Time, Traced, Woke, WriteError,
+    Ask, Channel, Goroutine, Handle, Host, Nonsense, Note, Settings, Short, Time, Traced, Woke,
+    WriteError,
 };
 use std::alloc::Global;
 use std::fs;
@@ -88,6 +89,44 @@ pub fn show_poller<R: Print>(rt: &R, alloc: Global) -> Result<()> {
     let note = Note::new(alloc)?;
     let (first, second) = (note.add(3), note.add(4));
     println!(rt; "a note: {first}, {second}, {}", note.get())?;
+    Ok(())
+}
+
+/// Main of a run that leaves another behind: it starts that, yields until it waits, and ends.
+#[derive(Drop)]
+struct Leaver(Handle, u8);
+
+impl Goroutine for Leaver {
+    fn resume(&mut self, _woke: Woke) -> Result<Ask, Nonsense> {
+        self.1 = self.1.saturating_add(1);
+        match self.1 {
+            1 => Ok(self.0.go()),
+            2 => Ok(Ask::Yield),
+            _ => Ok(Ask::Exit),
+        }
+    }
+}
+
+/// How a run ends that main ends while another waits, and who that is.
+pub fn show_left<R: Print>(rt: &R, alloc: Global) -> Result<()> {
+    let settings = Settings {
+        procs: 1,
+        machines: 1,
+        ..Settings::default()
+    };
+    let mut host = Host::new(alloc, settings)?;
+    let (channel, handle) = (host.channel(0)?, host.reserve()?);
+    let leaver = host.boxed(Leaver(handle, 0))?;
+    host.push(leaver)?;
+    let sender = host.boxed(Sender(channel))?;
+    host.push(sender)?;
+    let run = host.step_traced()?;
+    print!(rt; "left behind: {}", run.ended)?;
+    let told = run.at_end()?;
+    for waiting in &told.waiting {
+        print!(rt; "; {waiting}")?;
+    }
+    println!(rt; "; {} entries are somebody's", told.lately.len())?;
     Ok(())
 }
 

@@ -7,27 +7,37 @@ use Rattle.gmp_seq.specs.declared.status.Status.{Status}
 use Rattle.gmp_seq.specs.declared.status.Status.TheVariants as status
 use Rattle.gmp_seq.specs.Run.{IsLegal}
 use Rattle.gmp_seq.specs.State.{State}
+use Rattle.gmp_waits.specs.declared.ending.Does.{Does}
+use Rattle.gmp_waits.specs.declared.ending.Does.TheVariants as does
 use Rattle.gmp_waits.specs.declared.ending.Waiting.{Waiting}
 use Rattle.gmp_waits.specs.Doing.{doing_text}
 
--- the goroutine's number, with what it does, unless it never began or is done
-abbrev pub waits_so : ℕ → Status → List (ℕ × List ℕ)
-waits_so g status.Dormant = []
-waits_so g status.Dead = []
-waits_so g does = (g, doing_text does) ∷ []
+-- what a goroutine does, unless it never began or is done
+abbrev pub does_so : Status → Option Does
+does_so status.Dormant = None
+does_so status.Dead = None
+does_so (status.Ready place answer) = Some does.Ready
+does_so (status.Running m) = Some does.Runs
+does_so (status.Calling m) = Some does.Calls
+does_so (status.Waiting wait) = Some does.Waits
 
-abbrev pub waits_at : ℕ → Option Goroutine → List (ℕ × List ℕ)
+-- its number, what it does, and that in words
+abbrev pub row_so : ℕ → Option Does → List ℕ → List (ℕ × Does × List ℕ)
+row_so g None text = []
+row_so g (Some does) text = (g, does, text) ∷ []
+
+abbrev pub waits_at : ℕ → Option Goroutine → List (ℕ × Does × List ℕ)
 waits_at g None = []
-waits_at g (Some row) = waits_so g row.status
+waits_at g (Some row) = row_so g (does_so row.status) (doing_text row.status)
 
 -- those of the goroutines below this number
-abbrev pub waits_below : List Goroutine → ℕ → List (ℕ × List ℕ)
+abbrev pub waits_below : List Goroutine → ℕ → List (ℕ × Does × List ℕ)
 waits_below rows zero = []
 waits_below rows (suc g) = waits_below rows g ++ waits_at g (slice_get rows g)
 
 -- who is told, and what of it
-abbrev pub told : List Waiting → List (ℕ × List ℕ)
-told list = map (λ (w : Waiting). (w.goroutine.0, w.what.bytes.items)) list
+abbrev pub told : List Waiting → List (ℕ × Does × List ℕ)
+told list = map (λ (w : Waiting). (w.goroutine.0, w.does, w.what.bytes.items)) list
 
 -- the history is a legal run, and these are all goroutines that began and are not done where it ends, each with what it does
 pub record AreWaiting (limits : Limits) (bodies : ℕ) (capacities : List ℕ) (history : List Entry) (list : List Waiting) : Type 0 where

@@ -1,4 +1,4 @@
-//! Who is not done at the end of a run, and what it waits for, in words.
+//! Who is not done at the end of a run, and what it waits for, in words; and who ran lately.
 //!
 //! The plain scheduler replays the history, and its rows say it. By the same words `gmp explain` says it.
 #![tactic(auto)]
@@ -7,4 +7,4 @@ mod doing;
 mod ending;
 
 pub use doing::{Dealing, Doing};
-pub use ending::{Waiting, waiting_at_end};
+pub use ending::{AtEnd, Does, Waiting, at_end};

@@ -8,7 +8,7 @@ loop-seed-preserved g c =
     let so = c.loop-seed.invariant in
     let below = c.loop-seed-test.true in
     record {
-      compared = one_more (λ seed result. g.F.Fn.post c.args.run (seed, tt) result) c.args.seeds.start c.loop-seed.seed c.in_ok-ended.ended c.in_ok-ended.ensures so.from c.loop-seed.least c.compared-least.result c.compared-least.ensures so.compared;
+      compared = one_more (λ seed result. g.F.Fn.post c.args.run (seed, tt) result) c.args.seeds.start c.loop-seed.seed c.in-Ok.ended c.in-Ok.ensures so.from c.loop-seed.least c.compared-least.result c.compared-least.ensures so.compared;
       from = (let from = so.from in omega (arith, from));
       within = inl (omega (arith, below));
     }

@@ -1,9 +1,13 @@
-use Rattle.std.proofs.Common.{◌≡◌, true, rules, subst}
+use Rattle.std.proofs.Common.{◌≡◌, ◌-◌, ◌+◌, ℕ, List, [], ◌∷◌, true, length, refl, inr, rules, sym, subst, ◌∙◌, arith, ap}
+use Rattle.std.proofs.lemmas.List.{length-append}
+use Rattle.gmp_base.specs.declared.number.GNo.{GNo}
 use Rattle.gmp_seq.specs.declared.call.Limits.{Limits}
 use Rattle.gmp_seq.specs.Run.{IsStep}
 use Rattle.gmp_seq.specs.State.{opening}
 use Rattle.gmp_check.proofs.Replaying.{run_next}
 use Rattle.gmp_check.specs.Decides.{Decides}
+use Rattle.gmp_waits.specs.Lately.{RanTo, listed}
+use Rattle.gmp_waits.proofs.Later.{late_next}
 use Rattle.gmp_waits.proofs.ending.replayed.Goals as goal
 
 pub loop-entry-preserved : goal.loop-entry-preserved
@@ -17,4 +21,8 @@ loop-entry-preserved c =
     record {
       limits = search rules;
       run = run_next c.args.limits (opening c.args.limits c.args.bodies c.args.capacities.now) before.state after.state c.loop-entry.yielded e k.run step;
+      -- one fewer
+      skips = ?skips;
+      -- by late_next of Later, with the clauses of late, rows_of and list_one
+      late = ?late;
     }

@@ -7,7 +7,7 @@ use Rattle.gmp_host.proofs.host.Host.ran.Goals as goal
 pub returns-clause-traced : goal.returns-clause-traced
 returns-clause-traced g c =
     let count = length c.args.self.bodies.items in
-    let ended : Ended = record { outcome = c.unwrap-outcome.result; entries = c.len.result; lost = c.first.result; waiting = c.waiting-waiting.result; lately = c.lately-lately.result } in
+    let ended : Ended = record { outcome = c.unwrap-outcome.result; entries = c.len.result; lost = c.first.result; waiting = c.told_at_end-told.result.waiting; lately = c.told_at_end-told.result.lately } in
     let run = whole_run c.limits-limits.result c.as_slice.result.now count c.in-Ok.report ended c.in-Ok.ensures.report (search (rules, tests)) (sym c.len.ensures.value) in
     let again = run_again c.limits-limits.result _ c.as_slice.result.now c.args.self.capacities.items c.limits-limits.ensures c.as_slice.ensures.value ended ended refl refl count run.0 in
     traced_of _ c.args.self.capacities.items count _ again.0 (sym run.1 ∙ sym again.1) c.limits-limits.ensures refl (search rules)
