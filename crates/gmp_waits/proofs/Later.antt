@@ -1,11 +1,11 @@
 -- Who ran lately, with one entry more.
-use Rattle.std.proofs.Common.{◌≡◌, ◌⊎◌, inl, inr, ℕ, ◌+◌, ◌-◌, ◌<◌, ◌≤◌, List, [], ◌∷◌, ◌++◌, Option, None, Some, length, refl, sym, ap, subst, ◌∙◌, arith}
+use Rattle.std.proofs.Common.{◌≡◌, inl, inr, ℕ, ◌-◌, ◌<◌, ◌≤◌, List, [], ◌∷◌, ◌++◌, Option, None, drop, length, refl, sym, ap, subst, ◌∙◌, arith}
 use Rattle.std.proofs.lemmas.Bool.{cases_lt}
-use Rattle.std.proofs.lemmas.List.{append_assoc, append-nil, length-append}
+use Rattle.std.proofs.lemmas.List.{append_assoc, append-nil, drop-append-le, drop_all, length_push, take-append-le, take_all}
 use Rattle.gmp_base.specs.declared.number.GNo.{GNo}
 use Rattle.gmp_seq.specs.declared.call.Entry.{Entry}
 use Rattle.gmp_seq.specs.declared.call.Limits.{Limits}
-use Rattle.gmp_seq.specs.Run.{IsLegal, IsStep, Run}
+use Rattle.gmp_seq.specs.Run.{IsLegal, IsStep}
 use Rattle.gmp_seq.specs.State.{State, opening}
 use Rattle.gmp_check.proofs.Replaying.{run_next}
 use Rattle.gmp_waits.specs.Lately.{AreOf, RanTo, listed, whose}
@@ -23,45 +23,27 @@ one_more limits (first ∷ h) e s mid s' gs (next, rest, step_first, are, is) st
 
 module _ (limits : Limits) (bodies : ℕ) (capacities : List ℕ) (early : ℕ) (h : List Entry) (e : Entry) (s s' : State) (gs : List GNo) (k : RanTo limits bodies capacities early h s gs)
     (run : IsLegal limits bodies capacities h s) (step : IsStep limits e s s') where
-  parted : length h ≡ length k.before + length k.behind
-  parted = ap (λ (l : List Entry). length l) k.parts ∙ length-append k.before k.behind
-
   -- there are more to skip
   skipped : length h < early → RanTo limits bodies capacities early (h ++ e ∷ []) s' gs
   skipped less = record {
-    before = h ++ e ∷ [];
-    behind = [];
-    parts = sym (append-nil (h ++ e ∷ []));
-    few = (let more = length-append h (e ∷ []) in omega (arith, more, less));
-    all = inr refl;
     mid = s';
-    legal = run_next limits (opening limits bodies capacities) s s' h e run step;
-    are = (refl, nobody k.all);
+    legal = subst (λ (l : List Entry). IsLegal limits bodies capacities l s') (sym (take_all early (h ++ e ∷ []) within)) (run_next limits (opening limits bodies capacities) s s' h e run step);
+    are = subst (λ (l : List Entry). AreOf limits l s' s' gs) (sym (drop_all early (h ++ e ∷ []) within)) (refl, nobody);
   } where
-    -- none is told of so far
-    none_of : (behind : List Entry) → behind ≡ [] → AreOf limits behind k.mid s gs → gs ≡ []
-    none_of [] is are = are.1
-    none_of (x ∷ xs) is are = absurd cc
+    within : length (h ++ e ∷ []) ≤ early
+    within = (let longer = length_push h e in omega (arith, longer, less))
 
-    nobody : (length k.before ≡ early) ⊎ (k.behind ≡ []) → gs ≡ []
-    nobody (inl full) = absurd (let is = parted in omega (arith, is, less, full))
-    nobody (inr none) = none_of k.behind none k.are
+    -- none is told of so far
+    nobody : gs ≡ []
+    nobody = (subst (λ (l : List Entry). AreOf limits l k.mid s gs) (drop_all early h (omega (arith, less))) k.are).1
 
   -- there are none
   told : early ≤ length h → RanTo limits bodies capacities early (h ++ e ∷ []) s' (gs ++ listed (whose e s.table.goroutines))
   told over = record {
-    before = k.before;
-    behind = k.behind ++ e ∷ [];
-    parts = ap (λ (l : List Entry). l ++ e ∷ []) k.parts ∙ append_assoc k.before k.behind (e ∷ []);
-    few = k.few;
-    all = inl (full k.all);
     mid = k.mid;
-    legal = k.legal;
-    are = one_more limits k.behind e k.mid s s' gs k.are step;
-  } where
-    full : (length k.before ≡ early) ⊎ (k.behind ≡ []) → length k.before ≡ early
-    full (inl is) = is
-    full (inr none) = (let is = parted in let zero_ = ap (λ (l : List Entry). length l) none in let few = k.few in omega (arith, is, zero_, few, over))
+    legal = subst (λ (l : List Entry). IsLegal limits bodies capacities l k.mid) (sym (take-append-le early h (e ∷ []) over)) k.legal;
+    are = subst (λ (l : List Entry). AreOf limits l k.mid s' (gs ++ listed (whose e s.table.goroutines))) (sym (drop-append-le early h (e ∷ []) over)) (one_more limits (drop early h) e k.mid s s' gs k.are step);
+  }
 
   pub late_next : (who : Option GNo) → (0 < early - length h → who ≡ None) → (early - length h ≡ 0 → who ≡ whose e s.table.goroutines)
       → RanTo limits bodies capacities early (h ++ e ∷ []) s' (gs ++ listed who)

@@ -1,5 +1,5 @@
 -- Who ran in the last hundred entries of a history.
-use Rattle.std.specs.Prelude.{◌≡◌, ◌⊎◌, ℕ, zero, suc, ◌-◌, ◌≤◌, ◌||◌, Bool, false, if◌then◌else◌, Option, None, Some, List, [], ◌∷◌, ◌++◌, length, slice_get}
+use Rattle.std.specs.Prelude.{◌≡◌, ℕ, zero, suc, ◌-◌, ◌||◌, Bool, false, if◌then◌else◌, Option, None, Some, List, [], ◌∷◌, ◌++◌, drop, length, slice_get, take}
 use Rattle.gmp_base.specs.declared.number.GNo.{GNo}
 use Rattle.gmp_base.specs.declared.number.MNo.{MNo}
 use Rattle.gmp_seq.specs.declared.call.Call.{Call}
@@ -37,16 +37,11 @@ abbrev pub AreOf : Limits → List Entry → State → State → List GNo → Ty
 AreOf limits [] s s' gs = (s' ≡ s) × (gs ≡ [])
 AreOf limits (e ∷ h) s s' gs = (mid : State) × (rest : List GNo) × IsStep limits e s mid × AreOf limits h mid s' rest × (gs ≡ listed (whose e s.table.goroutines) ++ rest)
 
--- the history is a legal run to this state, and all entries of it but so many are these goroutines', in order
+-- the history is a legal run to this state, and all its entries but the first so many are these goroutines', in order
 pub record RanTo (limits : Limits) (bodies : ℕ) (capacities : List ℕ) (early : ℕ) (history : List Entry) (last : State) (gs : List GNo) : Type 0 where
-  pub before : List Entry
-  pub behind : List Entry
-  pub parts : history ≡ before ++ behind
-  pub few : length before ≤ early
-  pub all : (length before ≡ early) ⊎ (behind ≡ [])
   pub mid : State
-  pub legal : IsLegal limits bodies capacities before mid
-  pub are : AreOf limits behind mid last gs
+  pub legal : IsLegal limits bodies capacities (take early history) mid
+  pub are : AreOf limits (drop early history) mid last gs
 
 -- the last hundred are these goroutines', in order
 abbrev pub IsLately : Limits → ℕ → List ℕ → List Entry → List GNo → Type 0
