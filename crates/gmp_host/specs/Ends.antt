@@ -1,5 +1,5 @@
 -- What is told of a run.
-use Rattle.std.specs.Prelude.{◌≡◌, ◌≢◌, ◌≤◌, ℕ, All, List, [], ◌∷◌, ◌++◌, length, None, Some}
+use Rattle.std.specs.Prelude.{◌≡◌, ◌≢◌, ◌≤◌, ℕ, All, List, [], ◌∷◌, ◌++◌, length, None, Some, ⊤}
 use Rattle.gmp_seq.specs.declared.call.Entry.{Entry}
 use Rattle.gmp_seq.specs.declared.call.Limits.{Limits}
 use Rattle.gmp_seq.specs.Fits.{AreLimits}
@@ -8,6 +8,9 @@ use Rattle.gmp_seq.specs.State.{State}
 use Rattle.gmp_said.specs.Said.{AreSaid, Blocks, Resumes}
 use Rattle.gmp_run.specs.Desks.{IsCut, IsFull, TakesAll, joined}
 use Rattle.gmp_host.specs.declared.ending.Ended.{Ended}
+use Rattle.gmp_host.specs.declared.ending.Short.{Short}
+use Rattle.gmp_host.specs.declared.saving.SaveError.{SaveError}
+use Rattle.gmp_host.specs.declared.saving.SaveError.TheVariants as save_error
 
 -- There is a legal run, from the opening under these limits, which are in range, with these capacities and so many bodies, that has this
 -- outcome and as many entries.
@@ -66,3 +69,8 @@ pub record StopsPieces {S : Type 0} (takes refuses : S → List Entry → S → 
 abbrev pub IsSaidToStop : {T S : Type 0} → Resumes T → Blocks T → (S → List Entry → S → Type 0) → (S → List Entry → S → Type 0) → Limits → List ℕ → List T → S → S → Type 0
 IsSaidToStop {T} resumes blocks takes refuses limits capacities given began sink =
     (p : StopsPieces takes refuses limits capacities (length given) began sink) × (back : List T) × AreSaid resumes blocks limits capacities given (joined p.pieces ++ p.left) back
+
+-- where the run fell short, this holds of why
+abbrev pub FellSo : (Short → Type 0) → SaveError → Type 0
+FellSo So (save_error.Short why) = So why
+FellSo So (save_error.Write why) = ⊤
