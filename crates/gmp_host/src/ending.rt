@@ -44,8 +44,8 @@ pub struct Lost {
 }
 
 impl fmt::Display for Ended {
-    /// Its outcome, who was lost, and where all are asleep who waits for what; where the history was full, what those do that run, or ran lately. Not the
-    /// number of entries, which is another at each run in threads.
+    /// Its outcome, who was lost, and where all are asleep who waits for what; where the history was full, what those do that run, or ran
+    /// lately. Not the number of entries, which is another at each run in threads.
     fn fmt<W: fmt::Write>(&self, f: &mut fmt::Formatter<W>) -> fmt::Result {
         match self.outcome {
             Outcome::MainEnded => write!(f, "main ended")?,

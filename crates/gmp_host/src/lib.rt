@@ -2,8 +2,9 @@
 //!
 //! A `Host` takes the goroutines, the first of which is main, and runs them: `run` by machines in threads, `step` in one thread, the same
 //! every time, and `step_by` in one thread, machines and words drawn from a seed. Each tells how it `Ended`, as a legal run from the opening
-//! ended; `step_traced`, `run_traced` and `replay` hand its trace out, and `run_saved` writes it to a file. `run_into` runs them for as long as they like, and hands the history to a
-//! `Sink` piece by piece. `search` looks for a seed whose run does not end well, `shortest` for the shortest such run.
+//! ended; `step_traced`, `run_traced` and `replay` hand its trace out, and `run_saved` writes it to a file. `run_into` runs them for as long
+//! as they like, and hands the history to a `Sink` piece by piece. `search` looks for a seed whose run does not end well, `shortest` for the
+//! shortest such run.
 //!
 //! A `Spawner` starts goroutines while the run goes on, and hands each its body over, a `Task`, whose output it leaves in `Outputs`.
 //!
