@@ -21,6 +21,14 @@ one_more limits (first ∷ h) e s mid s' gs (next, rest, step_first, are, is) st
     let own = listed (whose first s.table.goroutines) in
     (next, rest ++ more, step_first, one_more limits h e next mid s' rest are step, ap (λ (l : List GNo). l ++ more) is ∙ append_assoc own rest more)
 
+-- none are before the first
+pub late_init : (limits : Limits) (bodies : ℕ) (capacities : List ℕ) (early : ℕ) (s : State) (gs : List GNo) → s ≡ opening limits bodies capacities → gs ≡ [] → RanTo limits bodies capacities early [] s gs
+late_init limits bodies capacities early s gs first none = record {
+  mid = s;
+  legal = subst (λ (h : List Entry). IsLegal limits bodies capacities h s) (sym (take_all early [] (omega arith))) first;
+  are = subst (λ (h : List Entry). AreOf limits h s s gs) (sym (drop_all early [] (omega arith))) (refl, none);
+}
+
 module _ (limits : Limits) (bodies : ℕ) (capacities : List ℕ) (early : ℕ) (h : List Entry) (e : Entry) (s s' : State) (gs : List GNo) (k : RanTo limits bodies capacities early h s gs)
     (run : IsLegal limits bodies capacities h s) (step : IsStep limits e s s') where
   -- there are more to skip

@@ -8,8 +8,19 @@ use Rattle.gmp_seq.specs.State.{opening}
 use Rattle.gmp_check.proofs.Replaying.{run_next}
 use Rattle.gmp_check.specs.Decides.{Decides}
 use Rattle.gmp_waits.specs.Lately.{RanTo, listed, whose}
-use Rattle.gmp_waits.proofs.Later.{late_next}
+use Rattle.gmp_waits.proofs.Later.{late_init, late_next}
 use Rattle.gmp_waits.proofs.ending.replayed.Goals as goal
+
+pub loop-entry-init : goal.loop-entry-init
+loop-entry-init c =
+    let replay = c.in_ok-replay.replay in
+    let first : replay.state ≡ opening c.args.limits c.args.bodies c.args.capacities.now = search rules in
+    record {
+      limits = search rules;
+      run = first;
+      skips = (let skips = c.saturating_sub-skips.ensures in let count = c.len.ensures.value in omega (arith, skips, count));
+      late = late_init c.args.limits c.args.bodies c.args.capacities.now (length c.args.history.now.list - 100) replay.state c.new-lately.result.items first (search rules);
+    }
 
 pub loop-entry-preserved : goal.loop-entry-preserved
 loop-entry-preserved c =
