@@ -1,9 +1,8 @@
 //! One book call of one machine.
-ghost use Rattle.std.specs.Prelude.{◌≡◌, true, IsSome};
+ghost use Rattle.std.specs.Prelude.{◌≡◌, IsSome};
 ghost use Rattle.gmp_driver.specs.declared.act.Act.TheVariants as act;
 ghost use Rattle.gmp_driver.specs.Fits.{SuitsPlace};
 ghost use Rattle.gmp_driver.specs.Table.{next_act};
-ghost use Rattle.gmp_journal.specs.Frequent.{is_frequent};
 ghost use Rattle.gmp_journal.specs.Grants.{NeedsMemory};
 ghost use Rattle.gmp_turn.specs.Turns as turns;
 ghost use Rattle.gmp_turn.specs.Turns.{HasMemory, Turns, replied, woken_in};
@@ -40,24 +39,20 @@ pub fn turn<T, Q>(
     ensures run { driver.new.run ≡ book.new.log.run }
 {
     let mut reply = Reply::Done;
-    let made = make(memory, driver, book, &call, word, false, &mut reply);
+    let made = make(memory, driver, book, &call, word, &mut reply);
     replied(reply, made)
 }
 
-/// The same; the reply is written in place. Of a call that is known to be frequent, by a constant that is handed down, no arm of another is
-/// compiled in.
-// Inlined: whoever knows the call has its arms alone.
+/// The same; the reply is written in place.
 #[inline(always)]
-pub(crate) fn make<T, Q>(
+fn make<T, Q>(
     memory: Option<Global>,
     driver: &mut Driver<T, Q>,
     book: &mut Book<T, Q>,
     call: &Call,
     word: u64,
-    frequent: bool,
     out: &mut Reply,
 ) -> Result<(), Refusal>
-    requires often { frequent ≡ true → is_frequent call.now ≡ true }
     requires act { next_act driver.old ≡ act.Call call.now }
     requires memory { NeedsMemory call.now memory }
     requires pass { IsSome driver.old.pass }
@@ -69,7 +64,7 @@ pub(crate) fn make<T, Q>(
     ensures run { driver.new.run ≡ book.new.log.run }
 {
     let mut pass = driver.give_pass();
-    match book.call_in_hand(memory, &mut pass, driver.hand(), call, word, frequent, out) {
+    match book.call_in_hand(memory, &mut pass, driver.hand(), call, word, false, out) {
         Ok(()) => {
             driver.got_reply(pass, out);
             Ok(())

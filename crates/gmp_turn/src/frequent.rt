@@ -14,7 +14,7 @@ ghost use Rattle.gmp_driver.specs.Frequent.{act_of};
 ghost use Rattle.gmp_driver.specs.Table.{next_act};
 ghost use Rattle.gmp_turn.specs.Turns.{Wakes, is_call};
 
-use crate::calling::{make, woken};
+use crate::calling::woken;
 use gmp_base::{CNo, GNo, MNo, Readiness};
 use gmp_book::Book;
 use gmp_driver::{Driver, Frequent};
@@ -165,8 +165,23 @@ fn make_known<T, Q, C: Known>(
 {
     let call = known.call();
     let mut reply = Reply::Done;
-    match make(None, driver, book, &call, word, true, &mut reply) {
-        Ok(()) => woken(reply),
-        Err(_) => None,
+    let mut pass = driver.give_pass();
+    match book.call_in_hand(
+        None,
+        &mut pass,
+        driver.hand(),
+        &call,
+        word,
+        true,
+        &mut reply,
+    ) {
+        Ok(()) => {
+            driver.got_reply(pass, &reply);
+            woken(reply)
+        }
+        Err(why) => {
+            driver.got_refusal(pass, why);
+            None
+        }
     }
 }
