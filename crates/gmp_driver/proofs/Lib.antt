@@ -1,4 +1,5 @@
 pub mod Local
+pub mod Naming
 pub mod Onward
 pub mod OwnQueue
 pub mod Parts

@@ -10,11 +10,14 @@ use Rattle.gmp_driver.specs.declared.place.Place.{Place}
 use Rattle.gmp_driver.specs.declared.place.Place.TheVariants as place
 use Rattle.gmp_driver.specs.declared.registers.Registers.{Registers}
 use Rattle.gmp_driver.specs.declared.seen.Seen.{Seen}
+use Rattle.gmp_driver.specs.declared.spot.Spot.{Spot}
+use Rattle.gmp_driver.specs.declared.spot.Spot.TheVariants as spot
 use Rattle.gmp_driver.specs.Fits.{SuitsPlace}
 use Rattle.gmp_driver.specs.Local.{told_of}
 use Rattle.gmp_driver.specs.Machine.{Machine}
 use Rattle.gmp_driver.specs.Registers.{joined}
 use Rattle.gmp_driver.specs.Seen.{seen}
+use Rattle.gmp_driver.specs.Spot.{asked_at, is_ask, place_of}
 use Rattle.gmp_driver.specs.Table.{after, next_aside, next_fresh, next_place, next_turns}
 
 pub told_is : {T Q : Type 0} (now x y : Machine T Q) (what : Told) (given : Pass) (came hand : Registers T Q) (pass : Option Pass)
@@ -69,6 +72,15 @@ holding_is to now x what hand sees here is held so place_is =
     let aside : next_aside (seen (record x { hand = hand })) x.place (told_of what) ≡ x.aside = same_aside (seen (record x { hand = hand })) x.place (told_of what) (no_reply what) in
     subst (λ (z : Machine _ _). record x { place = here; hand = hand } ≡ after (record z { hand = to z.hand }) (told_of what)) is
     (rw (place_is, so, ← held, fresh, turns, aside) refl)
+
+-- Where the call is a body's, only the place changes.
+
+pub asked_place : (here : Spot) (beside : Ask) → is_ask here ≡ true → place_of here beside ≡ place.Do (asked_at here beside)
+asked_place spot.Yield beside k = refl
+asked_place (spot.Send c v) beside k = refl
+asked_place (spot.Recv c) beside k = refl
+asked_place spot.Do beside k = refl
+asked_place here beside k = absurd cc
 
 -- The body asked: at Run its call comes, and what is held suits that as well.
 

@@ -12,3 +12,4 @@ pub mod Uses
 pub mod Local
 pub mod Bodies
 pub mod Own
+pub mod Pass

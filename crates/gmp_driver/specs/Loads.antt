@@ -1,18 +1,16 @@
 -- What an act is handed, from the parts that the machine keeps, and the parts of what comes back.
-use Rattle.std.specs.Prelude.{◌≡◌, ℕ, IfSome, Option, None, Some}
+use Rattle.std.specs.Prelude.{◌≡◌, ℕ, IfSome}
 use Rattle.std.specs.Option.{option_map}
 use Rattle.gmp_base.specs.declared.pass.Pass.{Pass}
 use Rattle.gmp_base.specs.declared.value.Called.{Called}
 use Rattle.gmp_base.specs.declared.value.Held.{Held}
 use Rattle.gmp_base.specs.declared.value.Proc.{Proc}
 use Rattle.gmp_base.specs.Values.{readiness_of, ticket_by}
-use Rattle.gmp_base.specs.declared.number.Readiness.{Readiness}
 use Rattle.gmp_driver.specs.declared.load.Load.{Load}
 use Rattle.gmp_driver.specs.declared.registers.CalledParts.{CalledParts}
 use Rattle.gmp_driver.specs.declared.registers.HeldParts.{HeldParts}
 use Rattle.gmp_driver.specs.declared.registers.ProcParts.{ProcParts}
 use Rattle.gmp_driver.specs.declared.registers.Registers.{Registers}
-use Rattle.gmp_driver.specs.Registers.{first_of}
 
 -- Values of a run, from their parts
 

@@ -1,5 +1,5 @@
 -- The place that a spot stands for.
-use Rattle.std.specs.Prelude.{Some, None}
+use Rattle.std.specs.Prelude.{Bool, true, false, Some, None}
 use Rattle.gmp_base.specs.declared.ask.Ask.{Ask}
 use Rattle.gmp_base.specs.declared.ask.Ask.TheVariants as ask
 use Rattle.gmp_driver.specs.declared.place.Place.{Place}
@@ -54,3 +54,11 @@ asked_at (spot.Send c value) beside = ask.Send c value
 asked_at (spot.Recv c) beside = ask.Recv c
 asked_at spot.Do beside = beside
 asked_at _ beside = ask.Yield
+
+-- the call that is made there is a body's
+abbrev pub is_ask : Spot → Bool
+is_ask spot.Yield = true
+is_ask (spot.Send c value) = true
+is_ask (spot.Recv c) = true
+is_ask spot.Do = true
+is_ask _ = false

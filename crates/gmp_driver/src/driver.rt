@@ -10,12 +10,13 @@ mod own_queue;
 use crate::act::{Act, Frequent, Told};
 use crate::hunt::victim_of;
 use crate::load::Load;
+use crate::pass::PassParts;
 use crate::place::Aside;
-use crate::registers::{Registers, fill};
+use crate::registers::Registers;
 use crate::seen::Seen;
 use crate::spot::{Spot, ask_on};
 use crate::table::{
-    act_at, frequent_at, fresh_by, go_on, go_on_by, next_fresh, next_turns, turns_by,
+    act_at, frequent_at, fresh_by, go_on, go_on_by, is_ask, next_fresh, next_turns, turns_by,
 };
 use gmp_base::{Ask, PNo, Pass, Refusal, Woke};
 use gmp_seq::Reply;
@@ -38,23 +39,23 @@ pub struct Driver<T, Q> {
     turns: u8,
     /// Where it looks aside next, if it is fair.
     aside: Option<Aside>,
-    /// None while an act has it.
-    pass: Option<Pass>,
+    pass: PassParts,
     hand: Registers<T, Q>,
 }
 
 impl<T, Q> Model for Driver<T, Q> {
     ghost use Rattle.gmp_driver.specs.Machine.{Machine};
     ghost use Rattle.gmp_driver.specs.Fits.{IsDriver};
+    ghost use Rattle.gmp_driver.specs.Pass.{pass_of};
     ghost use Rattle.gmp_driver.specs.Spot.{place_of};
 
     ghost Value = { Machine T Q };
 
-    ghost view = { λ d. record { run = d.run; procs = d.procs; place = place_of d.spot d.ask; fresh = d.fresh; turns = d.turns; aside = d.aside; pass = d.pass; hand = d.hand } };
+    ghost view = { λ d. record { run = d.run; procs = d.procs; place = place_of d.spot d.ask; fresh = d.fresh; turns = d.turns; aside = d.aside; pass = pass_of d.run d.pass; hand = d.hand } };
 
     // There are 1 to 32 processors and 16 turns at most, the pass is of the run, and while the pass is in, exactly what the place needs is
     // in hand.
-    ghost invariant = { λ d. IsDriver (record { run = d.run; procs = d.procs; place = place_of d.spot d.ask; fresh = d.fresh; turns = d.turns; aside = d.aside; pass = d.pass; hand = d.hand }) };
+    ghost invariant = { λ d. IsDriver (record { run = d.run; procs = d.procs; place = place_of d.spot d.ask; fresh = d.fresh; turns = d.turns; aside = d.aside; pass = pass_of d.run d.pass; hand = d.hand }) };
 }
 
 impl<T, Q> Driver<T, Q> {
@@ -98,7 +99,7 @@ impl<T, Q> Driver<T, Q> {
             } else {
                 None
             },
-            pass: Some(pass),
+            pass: PassParts::of(pass),
             hand: Registers::empty(),
         }
     }
@@ -215,7 +216,7 @@ impl<T, Q> Driver<T, Q> {
         ensures run { result.run ≡ self.old.run }
         ensures left { self.new ≡ record self.old { pass = None } }
     {
-        self.pass.take().unwrap()
+        self.pass.hand_out(self.run)
     }
 
     /// Lends what it holds, for a call that the pass is out for.
@@ -239,10 +240,13 @@ impl<T, Q> Driver<T, Q> {
         ensures { self.new ≡ record (after self.old (Told.Replied reply.now)) { pass = Some pass } }
     {
         let seen = self.seen();
-        self.fresh = fresh_by(self.spot, seen, reply);
-        self.turns = turns_by(self.spot, seen, reply);
+        // What a body asked changes neither.
+        if !is_ask(self.spot) {
+            self.fresh = fresh_by(self.spot, seen, reply);
+            self.turns = turns_by(self.spot, seen, reply);
+        }
         go_on_by(&mut self.spot, &self.ask, &mut self.aside, seen, reply);
-        fill(&mut self.pass, pass);
+        self.pass = PassParts::of(pass);
     }
 
     /// Takes the pass back, is told why the call was refused, and goes on to the next place, where it must hold what that place says.
@@ -255,7 +259,7 @@ impl<T, Q> Driver<T, Q> {
         ensures { self.new ≡ record (after self.old (Told.Refused why)) { pass = Some pass } }
     {
         self.tell(Told::Refused(why));
-        fill(&mut self.pass, pass);
+        self.pass = PassParts::of(pass);
     }
 
     /// Hands out the pass, and the values that the next act uses.
@@ -269,7 +273,7 @@ impl<T, Q> Driver<T, Q> {
     {
         // The act says what is used, so that whoever takes the load need not.
         let act = self.next();
-        let pass = self.pass.take().unwrap();
+        let pass = self.pass.hand_out(self.run);
         self.hand.take_used(self.run, pass, &act)
     }
 
@@ -285,7 +289,7 @@ impl<T, Q> Driver<T, Q> {
     {
         let pass = self.hand.take_back(load);
         self.tell(told);
-        fill(&mut self.pass, pass);
+        self.pass = PassParts::of(pass);
     }
 }
 
@@ -296,16 +300,16 @@ impl<T: Drop, Q: Drop> Driver<T, Q> {
         ensures { self.pass ≡ Some result }
     {
         let Driver {
-            run: _,
+            run,
             procs: _,
             spot: _,
             ask: _,
             fresh: _,
             turns: _,
             aside: _,
-            pass,
+            mut pass,
             hand: _,
         } = self;
-        pass.unwrap()
+        pass.hand_out(run)
     }
 }

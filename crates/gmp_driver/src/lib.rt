@@ -23,6 +23,7 @@ mod driver;
 mod hunt;
 pub mod laws;
 mod load;
+mod pass;
 mod place;
 mod registers;
 mod seen;

@@ -8,7 +8,7 @@ ghost use Rattle.gmp_driver.specs.declared.act.Told.TheVariants as Told;
 ghost use Rattle.gmp_driver.specs.declared.place.Place.TheVariants as Place;
 ghost use Rattle.gmp_driver.specs.declared.seen.Seen.{Seen};
 ghost use Rattle.gmp_driver.specs.Frequent.{frequent_of};
-ghost use Rattle.gmp_driver.specs.Spot.{asked_at, place_of};
+ghost use Rattle.gmp_driver.specs.Spot.{asked_at, is_ask, place_of};
 ghost use Rattle.gmp_driver.specs.Table as table;
 
 use crate::act::{Act, Frequent, QueueTold, Told};
@@ -169,6 +169,17 @@ fn raised(before: u64, ask: &Ask) -> bool
     }
 }
 
+/// Whether the call that is made here is a body's.
+#[inline(always)]
+pub(crate) fn is_ask(here: Spot) -> bool
+    ensures { result ≡ is_ask here }
+{
+    matches!(
+        here,
+        Spot::Yield | Spot::Send(_, _) | Spot::Recv(_) | Spot::Do
+    )
+}
+
 /// Where a call of the body leads.
 #[inline(always)]
 fn after_ask(here: Spot, ask: &Ask, reply: &Reply) -> Spot
@@ -242,6 +253,10 @@ pub(crate) fn go_on_by(
     ensures place { place_of here.new ask.now ≡ table.next_place seen (place_of here.old ask.now) (Told.Replied reply.now) }
     ensures aside { aside.new ≡ table.next_aside seen (place_of here.old ask.now) (Told.Replied reply.now) }
 {
+    if is_ask(*here) {
+        *here = after_ask(*here, ask, reply);
+        return;
+    }
     match (*here, reply) {
         (Spot::Start, Reply::Proc(_)) => *here = Spot::Look,
         (Spot::Start, Reply::Nothing) => *here = Spot::Bare,
@@ -266,10 +281,6 @@ pub(crate) fn go_on_by(
         (Spot::Unspin, Reply::Done) => *here = Spot::Drop,
         (Spot::Claim, Reply::Wakes(_) | Reply::Nothing) => *here = Spot::Claim,
         (Spot::Claim, Reply::Held) => *here = Spot::Run,
-        (Spot::Yield, _) => *here = after_ask(*here, ask, reply),
-        (Spot::Send(_, _), _) => *here = after_ask(*here, ask, reply),
-        (Spot::Recv(_), _) => *here = after_ask(*here, ask, reply),
-        (Spot::Do, _) => *here = after_ask(*here, ask, reply),
         (Spot::PutStore, Reply::Shelf) => *here = Spot::Poke,
         (Spot::Poke, Reply::Wakes(_) | Reply::Nothing) => *here = Spot::Run,
         (Spot::Leave(_), Reply::Runs(_)) => *here = Spot::Run,

@@ -1,3 +1,4 @@
+use Rattle.gmp_driver.specs.Pass.{pass_of}
 use Rattle.gmp_driver.specs.Seen.{seen_of}
 use Rattle.gmp_driver.specs.Spot.{place_of}
 use Rattle.gmp_driver.proofs.Onward.{asked_fits, asked_is}
@@ -19,5 +20,5 @@ invariant_of-self g c =
 pub returns : goal.returns
 returns g c =
     let i = c.self.inside in
-    asked_is c.args.self.now (record { run = i.run; procs = i.procs; place = place_of i.spot i.ask; fresh = i.fresh; turns = i.turns; aside = i.aside; pass = i.pass; hand = i.hand })
+    asked_is c.args.self.now (record { run = i.run; procs = i.procs; place = place_of i.spot i.ask; fresh = i.fresh; turns = i.turns; aside = i.aside; pass = pass_of i.run i.pass; hand = i.hand })
     c.args.ask.now (place_of c.ask_on.new.here c.ask_on.new.beside) c.self.view_is (c.ask_on.ensures (seen_of i.procs i.fresh i.turns i.aside i.hand))

@@ -1,4 +1,5 @@
 use Rattle.std.proofs.Common.{rules}
+use Rattle.gmp_driver.specs.Pass.{pass_of}
 use Rattle.gmp_driver.specs.Own.{with_found}
 use Rattle.gmp_driver.specs.Spot.{place_of}
 use Rattle.gmp_driver.proofs.Onward.{holding_is}
@@ -10,5 +11,5 @@ invariant_of-self g c = search rules
 pub returns : goal.returns
 returns g c =
     let i = c.self.inside in
-    holding_is (with_found c.args.r c.args.is_to_store) c.args.self.now (record { run = i.run; procs = i.procs; place = place_of i.spot i.ask; fresh = i.fresh; turns = i.turns; aside = i.aside; pass = i.pass; hand = i.hand })
+    holding_is (with_found c.args.r c.args.is_to_store) c.args.self.now (record { run = i.run; procs = i.procs; place = place_of i.spot i.ask; fresh = i.fresh; turns = i.turns; aside = i.aside; pass = pass_of i.run i.pass; hand = i.hand })
     c.args.told c.hold.new.self c.of-seen.result (place_of c.go_on_at_queue.new.here i.ask) c.self.view_is c.hold.ensures c.of-seen.ensures (c.go_on_at_queue.ensures i.ask)

@@ -1,4 +1,5 @@
 use Rattle.std.proofs.Common.{None, refl, rules}
+use Rattle.gmp_driver.specs.Pass.{pass_of}
 use Rattle.gmp_driver.specs.declared.registers.Registers.{Registers}
 use Rattle.gmp_driver.specs.Spot.{place_of}
 use Rattle.gmp_driver.proofs.Onward.{holding_is}
@@ -10,5 +11,5 @@ invariant_of-self g c = search rules
 pub returns : goal.returns
 returns g c =
     let i = c.self.inside in
-    holding_is (λ (hand : Registers _ _). record hand { to_store = None }) c.args.self.now (record { run = i.run; procs = i.procs; place = place_of i.spot i.ask; fresh = i.fresh; turns = i.turns; aside = i.aside; pass = i.pass; hand = i.hand })
+    holding_is (λ (hand : Registers _ _). record hand { to_store = None }) c.args.self.now (record { run = i.run; procs = i.procs; place = place_of i.spot i.ask; fresh = i.fresh; turns = i.turns; aside = i.aside; pass = pass_of i.run i.pass; hand = i.hand })
     c.args.told (record i.hand { to_store = None }) c.of-seen.result (place_of c.go_on_at_queue.new.here i.ask) c.self.view_is refl c.of-seen.ensures (c.go_on_at_queue.ensures i.ask)
