@@ -15,6 +15,7 @@ use gmp_acts::Choice;
 use gmp_base::MNo;
 use gmp_book::Book;
 use gmp_driver::{Act, Driver, Frequent, Told};
+use gmp_seq::Reply;
 use gmp_turn::{frequent_turn, memory_at, surrender, turn};
 use std::alloc::Global;
 
@@ -96,7 +97,8 @@ fn act_next<T>(
 {
     match next {
         Act::Call(call) => {
-            let _ = turn(memory, driver, book, call, choice.word);
+            let mut reply = Reply::Done;
+            let _ = turn(memory, driver, book, &call, choice.word, &mut reply);
         }
         Act::Pop => pop(driver, queues, false),
         Act::Drain => pop(driver, queues, true),

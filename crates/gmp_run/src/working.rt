@@ -2,7 +2,7 @@
 //! places: for the lock (`Shared::take`; its holder ends that), at Rest (`make`; whoever pokes the machine, or the run's end), at Mind
 //! (`mind`; a call, the watched deadline, or the run's end), and in a hunt (`lie_in_wait`; a push, a call, or so many looks).
 
-ghost use Rattle.std.specs.Prelude.{◌≡◌};
+ghost use Rattle.std.specs.Prelude.{◌≡◌, IfSome};
 ghost use Rattle.gmp_driver.specs.Fits.{IsDriver};
 ghost use Rattle.gmp_driver.specs.Table.{next_act};
 ghost use Rattle.gmp_turn.specs.Turns.{HasMemory};
@@ -82,9 +82,11 @@ impl<'a, T: Runs, C: Clock, G: Gate, L: DeskLedger<T, S>, S: Sink> Floor<'a, T, 
         alloc: Global,
         memory: Option<Global>,
         machine: &mut Machine<T, L>,
+        act: Option<&Act>,
     )
         requires fits { IsDriver machine.old.driver }
         requires act { IsAtBook (next_act machine.old.driver) }
+        requires lent { IfSome act (λ a. a.now ≡ next_act machine.old.driver) }
         requires memory { HasMemory (next_act machine.old.driver) memory }
     {
         // Asked with no lock held.
@@ -92,7 +94,7 @@ impl<'a, T: Runs, C: Clock, G: Gate, L: DeskLedger<T, S>, S: Sink> Floor<'a, T, 
         let mut bench = self.shared.take(rt);
         // It stays so: who is parked is woken by an act of this hold alone, which is its last then.
         let is_alone = is_open && bench.is_alone(machine.m);
-        let mut woken = bench.turn(memory, machine);
+        let mut woken = bench.turn(memory, machine, act);
         for _ in 0..most_more(is_open, is_alone) {
             if woken.is_some() {
                 break;
@@ -102,14 +104,9 @@ impl<'a, T: Runs, C: Clock, G: Gate, L: DeskLedger<T, S>, S: Sink> Floor<'a, T, 
                 // A body may take its time, and nothing can take the lock from it.
                 Frequent::Resume if !is_alone => break,
                 Frequent::Resume => machine.local_turn(0),
-                Frequent::Other => match machine.driver.next() {
-                    // At Rest a machine waits first, and no thread waits with the lock.
-                    Act::Call(Call::Woken) => break,
-                    Act::Call(call) => woken = bench.turn(memory_for(&call, alloc), machine),
-                    Act::Drain => machine.queue_turn(),
-                    _ => break,
-                },
-                _ => woken = bench.turn(None, machine),
+                Frequent::Other if !bench.rare_turn(alloc, machine, &mut woken) => break,
+                Frequent::Other => {}
+                _ => woken = bench.turn(None, machine, None),
             }
         }
         let told = bench.settle(machine);
@@ -144,7 +141,7 @@ impl<'a, T: Runs, C: Clock, G: Gate, L: DeskLedger<T, S>, S: Sink> Floor<'a, T, 
             Frequent::Pop | Frequent::Push => machine.queue_turn(),
             Frequent::Resume => machine.local_turn(0),
             Frequent::Other => return false,
-            _ => self.at_book(rt, alloc, None, machine),
+            _ => self.at_book(rt, alloc, None, machine, None),
         }
         true
     }
@@ -152,9 +149,9 @@ impl<'a, T: Runs, C: Clock, G: Gate, L: DeskLedger<T, S>, S: Sink> Floor<'a, T, 
     /// Makes the act that the machine's driver names next.
     // Not inlined: whoever makes a frequent act pays for no local of another.
     #[inline(never)]
-    fn make<R: Wait>(&self, rt: &R, alloc: Global, machine: &mut Machine<T, L>, act: Act)
+    fn make<R: Wait>(&self, rt: &R, alloc: Global, machine: &mut Machine<T, L>, act: &Act)
         requires fits { IsDriver machine.old.driver }
-        requires act { act ≡ next_act machine.old.driver }
+        requires act { act.now ≡ next_act machine.old.driver }
     {
         match act {
             Act::Nothing => {}
@@ -163,16 +160,16 @@ impl<'a, T: Runs, C: Clock, G: Gate, L: DeskLedger<T, S>, S: Sink> Floor<'a, T, 
                 if matches!(call, Call::Woken) {
                     machine.parker.park(rt);
                 }
-                self.at_book(rt, alloc, memory_for(&call, alloc), machine);
+                self.at_book(rt, alloc, memory_for(call, alloc), machine, Some(act));
             }
-            Act::Surrender(_) => self.at_book(rt, alloc, None, machine),
+            Act::Surrender(_) => self.at_book(rt, alloc, None, machine, Some(act)),
             Act::Pop | Act::Drain | Act::Push => machine.queue_turn(),
             Act::Hunt => {
                 machine.lie_in_wait(self.clock, self.shared);
                 machine.queue_turn();
             }
             Act::Steal(victim) => {
-                machine.leave_to_owner(victim);
+                machine.leave_to_owner(*victim);
                 machine.queue_turn();
             }
             Act::Resume | Act::Block => machine.local_turn(0),
@@ -221,7 +218,7 @@ impl<'a, T: Runs, C: Clock, G: Gate, L: DeskLedger<T, S>, S: Sink> Works<T, L>
             if matches!(act, Act::Nothing) {
                 break;
             }
-            self.make(rt, alloc, &mut machine, act);
+            self.make(rt, alloc, &mut machine, &act);
         }
         // The seat is empty, since this thread emptied it; were it not, its machine's values had to be spent.
         if let Some(other) = seat.lock(rt).replace(machine) {

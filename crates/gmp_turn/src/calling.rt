@@ -4,7 +4,6 @@ ghost use Rattle.gmp_driver.specs.declared.act.Act.TheVariants as act;
 ghost use Rattle.gmp_driver.specs.Fits.{SuitsPlace};
 ghost use Rattle.gmp_driver.specs.Table.{next_act};
 ghost use Rattle.gmp_journal.specs.Grants.{NeedsMemory};
-ghost use Rattle.gmp_turn.specs.Turns as turns;
 ghost use Rattle.gmp_turn.specs.Turns.{HasMemory, Turns, replied, woken_in};
 
 use gmp_base::{MNo, Refusal};
@@ -14,38 +13,13 @@ use gmp_journal::memory_for;
 use gmp_seq::{Call, Reply};
 use std::alloc::Global;
 
-/// Makes the call that the driver's machine names next, with the pass and the values that it hands out, and tells the driver the reply, or
-/// why the book refused it. A make is handed memory, and `word` chooses among the cases of a select. The driver holds what its new place
-/// says.
+/// Makes the call that the driver's machine names next, with what the machine holds, and tells the driver the reply, which is written in
+/// place, or why the book refused the call. A make is handed memory, and `word` chooses among the cases of a select. The driver holds what
+/// its new place says.
 // Both are of one run, which callers keep in their types: a run beside each register would be eight bytes each, for what no caller does.
 // Not inlined: whoever makes a frequent call pays for no local of another.
 #[inline(never)]
 pub fn turn<T, Q>(
-    memory: Option<Global>,
-    driver: &mut Driver<T, Q>,
-    book: &mut Book<T, Q>,
-    call: Call,
-    word: u64,
-) -> Result<Reply, Refusal>
-    requires act { next_act driver.old ≡ act.Call call }
-    requires memory { NeedsMemory call memory }
-    requires pass { IsSome driver.old.pass }
-    requires run { driver.old.run ≡ book.old.log.run }
-    // `Driver::next`, which names the call, says so.
-    requires keeps { SuitsPlace driver.old.place driver.old.hand }
-    ensures turns { Turns driver.old book.old call word result driver.new book.new }
-    ensures fits { SuitsPlace driver.new.place driver.new.hand }
-    ensures pass { IsSome driver.new.pass }
-    ensures run { driver.new.run ≡ book.new.log.run }
-{
-    let mut reply = Reply::Done;
-    let made = make(memory, driver, book, &call, word, &mut reply);
-    replied(reply, made)
-}
-
-/// The same; the reply is written in place.
-#[inline(always)]
-fn make<T, Q>(
     memory: Option<Global>,
     driver: &mut Driver<T, Q>,
     book: &mut Book<T, Q>,
@@ -57,6 +31,7 @@ fn make<T, Q>(
     requires memory { NeedsMemory call.now memory }
     requires pass { IsSome driver.old.pass }
     requires run { driver.old.run ≡ book.old.log.run }
+    // `Driver::next`, which names the call, says so.
     requires keeps { SuitsPlace driver.old.place driver.old.hand }
     ensures turns { Turns driver.old book.old call.now word (replied out.new result) driver.new book.new }
     ensures fits { SuitsPlace driver.new.place driver.new.hand }
@@ -73,17 +48,6 @@ fn make<T, Q>(
             driver.got_refusal(pass, why);
             Err(why)
         }
-    }
-}
-
-/// What a call is answered whose reply is written in place.
-#[inline(always)]
-fn replied(reply: Reply, made: Result<(), Refusal>) -> Result<Reply, Refusal>
-    ensures { result ≡ turns.replied reply made }
-{
-    match made {
-        Ok(()) => Ok(reply),
-        Err(why) => Err(why),
     }
 }
 

@@ -1,5 +1,6 @@
 //! One turn of a machine at the book.
 ghost use Rattle.std.specs.Prelude.{◌≡◌, None, IsSome};
+ghost use Rattle.gmp_driver.specs.Fits.{IsDriver};
 ghost use Rattle.gmp_driver.specs.Table.{next_act};
 ghost use Rattle.gmp_turn.specs.Turns.{HasMemory};
 ghost use Rattle.gmp_worker.specs.Turn.{IsAtBook, TakesTurn};
@@ -8,6 +9,7 @@ use crate::drawing::draw_for;
 use gmp_base::MNo;
 use gmp_book::Book;
 use gmp_driver::{Act, Driver, Frequent};
+use gmp_seq::Reply;
 use gmp_turn::{frequent_turn, surrender, woken};
 use rand_pcg::Lcg64Xsh32;
 use std::alloc::Global;
@@ -29,16 +31,16 @@ pub fn turn<T, Q>(
     ensures run { driver.new.run ≡ book.new.log.run }
 {
     match driver.frequent() {
-        Frequent::Other => any_turn(memory, driver, book, random),
+        Frequent::Other => rare_turn(memory, driver, book, random),
         Frequent::Pop | Frequent::Push | Frequent::Resume => unreachable!(),
         which => frequent_turn(driver, book, which, 0),
     }
 }
 
-/// The same, whichever act comes next.
+/// The same of an act that isn't frequent.
 // Not inlined: whoever makes a frequent call looks at no wide one.
 #[inline(never)]
-fn any_turn<T, Q>(
+fn rare_turn<T, Q>(
     memory: Option<Global>,
     driver: &mut Driver<T, Q>,
     book: &mut Book<T, Q>,
@@ -53,14 +55,40 @@ fn any_turn<T, Q>(
     ensures run { driver.new.run ≡ book.new.log.run }
 {
     let act = driver.next();
-    let word = draw_for(&act, random);
+    turn_by(memory, driver, book, random, &act)
+}
+
+/// The same where the act that the driver names is at hand: it is wide, and isn't asked for once more.
+#[inline(never)]
+pub fn turn_by<T, Q>(
+    memory: Option<Global>,
+    driver: &mut Driver<T, Q>,
+    book: &mut Book<T, Q>,
+    random: &mut Lcg64Xsh32,
+    act: &Act,
+) -> Option<MNo>
+    requires next { act.now ≡ next_act driver.old }
+    requires act { IsAtBook act.now }
+    requires memory { HasMemory act.now memory }
+    // `Driver::next`, which names the act, says so.
+    requires keeps { IsDriver driver.old }
+    requires pass { IsSome driver.old.pass }
+    requires run { driver.old.run ≡ book.old.log.run }
+    ensures turn { TakesTurn act.now driver.old book.old random.old result driver.new book.new random.new }
+    ensures pass { IsSome driver.new.pass }
+    ensures run { driver.new.run ≡ book.new.log.run }
+{
+    let word = draw_for(act, random);
     match act {
-        Act::Call(call) => match gmp_turn::turn(memory, driver, book, call, word) {
-            Ok(reply) => woken(reply),
-            Err(_) => None,
-        },
+        Act::Call(call) => {
+            let mut reply = Reply::Done;
+            match gmp_turn::turn(memory, driver, book, call, word, &mut reply) {
+                Ok(()) => woken(reply),
+                Err(_) => None,
+            }
+        }
         Act::Surrender(which) => {
-            let _ = surrender(driver, book, which);
+            let _ = surrender(driver, book, *which);
             None
         }
         _ => unreachable!(),

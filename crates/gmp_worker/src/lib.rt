@@ -18,7 +18,7 @@ mod drawing;
 mod locally;
 mod trying;
 
-pub use at_book::turn;
+pub use at_book::{turn, turn_by};
 pub use at_queue::queue_turn;
 pub use bodies::{Boxed, Own, Runs, block_boxed, resume_boxed};
 pub use locally::local_turn;

@@ -1,5 +1,5 @@
 use Rattle.std.proofs.Common.{rules}
-use Rattle.gmp_worker.proofs.at_book.any_turn.Goals as goal
+use Rattle.gmp_worker.proofs.at_book.turn_by.Goals as goal
 
 pub turn-requires-clause-act : goal.turn-requires-clause-act
 turn-requires-clause-act g c = search rules
