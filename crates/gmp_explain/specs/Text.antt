@@ -78,6 +78,7 @@ from_text (Some first) = codes ", from entry " ++ (decimal first ++ codes " on")
 abbrev pub help_text : Help → List ℕ
 help_text (help.Sent c) = codes "sent on channel " ++ decimal c.0
 help_text (help.Received c) = codes "received from channel " ++ decimal c.0
+help_text (help.Filled c) = codes "sent on channel " ++ (decimal c.0 ++ codes ", which is full")
 help_text help.Readied = codes "called ready for it"
 
 -- whose calls are counted

@@ -25,6 +25,8 @@ pub enum Role {
 pub enum Help {
     Sent(CNo),
     Received(CNo),
+    /// Sent on the channel, which is full.
+    Filled(CNo),
     Readied,
 }
 

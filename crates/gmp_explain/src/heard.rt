@@ -76,21 +76,21 @@ pub struct Lost {
     pub at: u64,
 }
 
-/// Who made a goroutine ready by `ready`.
+/// Who had a part in something.
 #[derive(Clone, Copy)]
-pub enum Readier {
+pub enum Parted {
     Nobody,
     One(GNo),
     Several,
 }
 
-impl Readier {
+impl Parted {
     /// This one too.
-    fn and(self, g: GNo) -> Readier {
+    pub fn and(self, g: GNo) -> Parted {
         match self {
-            Readier::Nobody => Readier::One(g),
-            Readier::One(by) if by == g => Readier::One(g),
-            _ => Readier::Several,
+            Parted::Nobody => Parted::One(g),
+            Parted::One(by) if by == g => Parted::One(g),
+            _ => Parted::Several,
         }
     }
 }
@@ -121,7 +121,8 @@ pub struct Heard {
     ready: Vec<Option<u64>>,
     /// By goroutine, the last `ready` that was lost, if none was taken since.
     pub lost: Vec<Option<Lost>>,
-    pub readiers: Vec<Readier>,
+    /// By goroutine, who made it ready by `ready`.
+    pub readiers: Vec<Parted>,
     pub parties: Parties,
     pub machines: Vec<Counts>,
     pub processors: Vec<Counts>,
@@ -161,7 +162,7 @@ impl Heard {
             since: vec![in alloc; None; all]?,
             ready: vec![in alloc; None; all]?,
             lost: vec![in alloc; None; all]?,
-            readiers: vec![in alloc; Readier::Nobody; all]?,
+            readiers: vec![in alloc; Parted::Nobody; all]?,
             parties: Parties::new(alloc, limits.channels, all)?,
             machines: vec![in alloc; [0; CALLS]; usize::from(limits.machines)]?,
             processors: vec![in alloc; [0; CALLS]; usize::from(limits.procs)]?,

@@ -4,7 +4,7 @@ ghost use Rattle.std.specs.Prelude.{[], OnOk};
 ghost use Rattle.gmp_explain.specs.Spoken.{TellsOf};
 
 use crate::fact::{Fact, Help, Sink};
-use crate::heard::{Heard, Party, Readier};
+use crate::heard::{Heard, Parted, Party};
 use crate::told::Story;
 use gmp_base::{CNo, GNo};
 use gmp_seq::{Deal, Goroutine, Kind, Offer, Status, Wait};
@@ -18,40 +18,33 @@ struct Helper {
     help: Help,
 }
 
-/// The only goroutine of so many that did this on the channel.
-fn only(heard: &Heard, bodies: usize, c: CNo, party: Party) -> Option<GNo> {
-    let mut found = None;
+/// Which of so many goroutines did this on the channel.
+fn who(heard: &Heard, bodies: usize, c: CNo, party: Party) -> Parted {
+    let mut who = Parted::Nobody;
     for g in 0..bodies {
         let g = goroutine_at(g);
         if heard.parties.has(c, g, party) {
-            if found.is_some() {
-                return None;
-            }
-            found = Some(g);
+            who = who.and(g);
         }
     }
-    found
+    who
 }
 
-/// Who alone did what an offer waits for: a send for a receiver, a receive for a sender. Nobody waits on a channel that was closed.
+/// Who alone did what an offer waits for: a send for a receiver, a receive for a sender. Where nobody ever received, the channel is full of what
+/// was sent, as a lock that is held, and whoever alone sent it could take it back. Nobody waits on a channel that was closed.
 fn helper_on(heard: &Heard, bodies: usize, offer: &Offer) -> Option<Helper> {
     let c = offer.channel;
-    match offer.deal {
-        Deal::Send(_) => {
-            let g = only(heard, bodies, c, Party::Received)?;
-            Some(Helper {
-                g,
-                help: Help::Received(c),
-            })
-        }
-        Deal::Receive => {
-            let g = only(heard, bodies, c, Party::Sent)?;
-            Some(Helper {
-                g,
-                help: Help::Sent(c),
-            })
-        }
-    }
+    let (received, sent) = (
+        who(heard, bodies, c, Party::Received),
+        who(heard, bodies, c, Party::Sent),
+    );
+    let (g, help) = match (offer.deal, received, sent) {
+        (Deal::Send(_), Parted::One(g), _) => (g, Help::Received(c)),
+        (Deal::Send(_), Parted::Nobody, Parted::One(g)) => (g, Help::Filled(c)),
+        (Deal::Receive, _, Parted::One(g)) => (g, Help::Sent(c)),
+        _ => return None,
+    };
+    Some(Helper { g, help })
 }
 
 /// Who alone could have ended the wait. Of several cases any could be taken, and at a deadline the clock ends it.
@@ -61,7 +54,7 @@ fn helper_of(heard: &Heard, bodies: usize, g: GNo, wait: &Wait) -> Option<Helper
     }
     match (wait.kind, wait.offers.as_slice()) {
         (Kind::Parked, _) => match heard.readiers.get(usize::from(g.0)) {
-            Some(Readier::One(by)) => Some(Helper {
+            Some(Parted::One(by)) => Some(Helper {
                 g: *by,
                 help: Help::Readied,
             }),

@@ -75,6 +75,7 @@ impl fmt::Display for Help {
         match self {
             Help::Sent(c) => write!(f, "sent on channel {}", c.0),
             Help::Received(c) => write!(f, "received from channel {}", c.0),
+            Help::Filled(c) => write!(f, "sent on channel {}, which is full", c.0),
             Help::Readied => f.write_str("called ready for it"),
         }
     }
