@@ -18,7 +18,7 @@ const MACHINES: usize = 64;
 const FALLS: usize = 8;
 
 /// Lets the machine of the greatest rank act, by ranks that are drawn from a seed, and at some acts, which are drawn too, lets the one that
-/// would act fall behind all others. Machines have ranks, not goroutines: which of these a machine takes isn't drawn. Of n threads that make
+/// would act fall behind all that never fell. Machines have ranks, not goroutines: which of these a machine takes isn't drawn. Of n threads that make
 /// k steps in all Burckhardt and others (2010) prove that what an order of D + 1 steps shows is found with a probability of 1 / (n × k^D) at
 /// least by D falls. No clause says so of machines and acts.
 #[derive(Drop)]

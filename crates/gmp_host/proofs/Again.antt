@@ -2,15 +2,17 @@
 use Rattle.std.proofs.Common.{◌≡◌, ℕ, Bool, List, Result, Ok, Err, IfOk, IfErr, Some, length, ap, refl, sym, subst, ◌∙◌}
 use Rattle.gmp_base.specs.declared.ask.Ask.{Ask}
 use Rattle.gmp_base.specs.declared.ask.Woke.{Woke}
+use Rattle.gmp_base.specs.declared.number.GNo.{GNo}
 use Rattle.gmp_seq.specs.declared.call.Entry.{Entry}
 use Rattle.gmp_seq.specs.declared.call.Limits.{Limits}
 use Rattle.gmp_seq.specs.Fits.{AreLimits}
 use Rattle.gmp_seq.specs.Run.{IsLegal}
 use Rattle.gmp_acts.specs.System.{BookRun}
 use Rattle.gmp_said.specs.Said.{AreSaid, Blocks, Resumes}
+use Rattle.gmp_waits.specs.declared.ending.Waiting.{Waiting}
 use Rattle.gmp_host.specs.declared.ending.Ended.{Ended}
 use Rattle.gmp_host.specs.declared.traced.Traced.{Traced}
-use Rattle.gmp_host.specs.Ends.{IsOfLegalRun, IsSaidRun}
+use Rattle.gmp_host.specs.Ends.{IsOfLegalRun, IsSaidRun, TellsOf}
 use Rattle.gmp_host.specs.Played.{HasNoDrawnEnd, IsDrawnOut, IsPlayedOut}
 use Rattle.gmp_host.specs.Traced.{IsSaidTrace, IsTraced}
 
@@ -30,21 +32,27 @@ module _ (limits : Limits) (capacities : List ℕ) (bodies : ℕ) (book : BookRu
     (legal : IsLegal book.limits book.bodies book.capacities book.history book.state) (within : AreLimits book.limits book.bodies book.capacities)
     (outcome : book.state.outcome ≡ Some ended.outcome) (entries : length book.history ≡ ended.entries) where
   -- it is one from this opening, and this is its history
-  pub legal_told : (run : IsOfLegalRun limits capacities bodies ended) × (run.history ≡ book.history)
+  pub legal_told : TellsOf limits bodies capacities book.history ended.waiting.items ended.lately.items → (run : IsOfLegalRun limits capacities bodies ended) × (run.history ≡ book.history)
   legal_told =
-      subst (λ (l : Limits). (run : IsOfLegalRun l capacities bodies ended) × (run.history ≡ book.history)) opened.0
-      (subst (λ (cs : List ℕ). (run : IsOfLegalRun book.limits cs bodies ended) × (run.history ≡ book.history)) opened.1
-      (subst (λ (n : ℕ). (run : IsOfLegalRun book.limits book.capacities n ended) × (run.history ≡ book.history)) opened.2
-      (record { history = book.history; last = book.state; legal = legal; outcome = outcome; entries = entries; within = within }, refl)))
+      subst (λ (l : Limits). TellsOf l bodies capacities book.history ended.waiting.items ended.lately.items → (run : IsOfLegalRun l capacities bodies ended) × (run.history ≡ book.history)) opened.0
+      (subst (λ (cs : List ℕ). TellsOf book.limits bodies cs book.history ended.waiting.items ended.lately.items → (run : IsOfLegalRun book.limits cs bodies ended) × (run.history ≡ book.history)) opened.1
+      (subst (λ (n : ℕ). TellsOf book.limits n book.capacities book.history ended.waiting.items ended.lately.items → (run : IsOfLegalRun book.limits book.capacities n ended) × (run.history ≡ book.history)) opened.2
+      (λ tells. (record { history = book.history; last = book.state; legal = legal; outcome = outcome; entries = entries; within = within; tells = tells }, refl))))
 
 -- The same told again, of limits and capacities that are these, and of an end that differs in who is lost
 
-module _ (limits limits' : Limits) (capacities capacities' : List ℕ) (limits_are : limits ≡ limits') (capacities_are : capacities ≡ capacities') (ended ended' : Ended) (outcome : ended.outcome ≡ ended'.outcome) (entries : ended.entries ≡ ended'.entries) where
+module _ (limits limits' : Limits) (capacities capacities' : List ℕ) (limits_are : limits ≡ limits') (capacities_are : capacities ≡ capacities') (ended ended' : Ended) (outcome : ended.outcome ≡ ended'.outcome) (entries : ended.entries ≡ ended'.entries)
+    (waiting : ended.waiting.items ≡ ended'.waiting.items) (lately : ended.lately.items ≡ ended'.lately.items) where
   pub run_again : (bodies : ℕ) (run : IsOfLegalRun limits capacities bodies ended) → (again : IsOfLegalRun limits' capacities' bodies ended') × (again.history ≡ run.history)
   run_again bodies run =
       subst (λ (l : Limits). (again : IsOfLegalRun l capacities' bodies ended') × (again.history ≡ run.history)) limits_are
       (subst (λ (cs : List ℕ). (again : IsOfLegalRun limits cs bodies ended') × (again.history ≡ run.history)) capacities_are
-      (record { history = run.history; last = run.last; legal = run.legal; outcome = run.outcome ∙ ap Some outcome; entries = run.entries ∙ entries; within = run.within }, refl))
+      (record { history = run.history; last = run.last; legal = run.legal; outcome = run.outcome ∙ ap Some outcome; entries = run.entries ∙ entries; within = run.within; tells = told }, refl))
+    where
+      told : TellsOf limits bodies capacities run.history ended'.waiting.items ended'.lately.items
+      told =
+          subst (λ (ws : List Waiting). TellsOf limits bodies capacities run.history ws ended'.lately.items) waiting
+          (subst (λ (gs : List GNo). TellsOf limits bodies capacities run.history ended.waiting.items gs) lately run.tells)
 
   pub played_again : {T : Type 0} (resumed : T → Woke → Ask → T → Type 0) (called : T → ℕ → T → Type 0) (is_fair : Bool) (bodies : List T) (history : List Entry) (Keeps : Type 0)
       → ((p : IsPlayedOut resumed called is_fair limits capacities bodies ended) × (Keeps → history ≡ p.last.core.system.book.history))

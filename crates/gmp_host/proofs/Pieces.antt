@@ -14,7 +14,7 @@ use Rattle.gmp_run.specs.declared.ending.Report.{Report}
 use Rattle.gmp_run.specs.Desks.{IsLeftSo, TakesAll, joined, with_left}
 use Rattle.gmp_run.specs.Reports.{IsPiecesReport, IsRunReport, SaysPieces}
 use Rattle.gmp_host.specs.declared.ending.Ended.{Ended}
-use Rattle.gmp_host.specs.Ends.{IsOfLegalRun, IsOfPieces, IsSaidInPieces, IsSaidToStop, StopsPieces, TakesLeft}
+use Rattle.gmp_host.specs.Ends.{IsOfLegalRun, IsOfPieces, IsSaidInPieces, IsSaidToStop, StopsPieces, TakesLeft, TellsNobody, TellsOf}
 
 module _ {T S : Type 0} (takes refuses : S → List Entry → S → Type 0) (limits : Limits) (capacities : List ℕ) (bodies : ℕ) (began : S) (r : Report T) (mid : S)
     (p : IsPiecesReport takes refuses limits capacities bodies began r mid) where
@@ -35,9 +35,9 @@ module _ {T S : Type 0} (takes refuses : S → List Entry → S → Type 0) (lim
       subst (TakesAll takes began p.pieces) (sym same) p.taken
 
   -- with what was left behind them
-  with_last : (sink : S) (ended : Ended) → TakesLeft takes mid r.history.list sink → Some ended.outcome ≡ r.outcome → ended.entries ≡ all_calls r.logs.items
+  with_last : (sink : S) (ended : Ended) → TakesLeft takes mid r.history.list sink → Some ended.outcome ≡ r.outcome → ended.entries ≡ all_calls r.logs.items → TellsNobody ended
       → (q : IsOfPieces takes limits capacities bodies began ended sink) × (q.pieces ≡ with_left p.pieces r.history.list)
-  with_last sink ended took outcome entries =
+  with_last sink ended took outcome entries nobody =
       let all = joined_with_left p.pieces r.history.list in (
         record {
           pieces = with_left p.pieces r.history.list;
@@ -48,6 +48,7 @@ module _ {T S : Type 0} (takes refuses : S → List Entry → S → Type 0) (lim
           outcome = p.report.outcome ∙ sym outcome;
           entries = ap (λ (h : List Entry). length h) all ∙ (p.report.calls ∙ sym entries);
           within = p.report.within;
+          nobody = nobody;
         },
         refl,
       ) where
@@ -55,16 +56,16 @@ module _ {T S : Type 0} (takes refuses : S → List Entry → S → Type 0) (lim
         takes_rest pieces [] taken none = subst (TakesAll takes began pieces) (sym none) taken
         takes_rest pieces (e ∷ left) taken took = takes_one_more takes began mid sink pieces (e ∷ left) taken took
 
-  pub in_pieces : (sink : S) (ended : Ended) → TakesLeft takes mid r.history.list sink → Some ended.outcome ≡ r.outcome → ended.entries ≡ all_calls r.logs.items
+  pub in_pieces : (sink : S) (ended : Ended) → TakesLeft takes mid r.history.list sink → Some ended.outcome ≡ r.outcome → ended.entries ≡ all_calls r.logs.items → TellsNobody ended
       → IsOfPieces takes limits capacities bodies began ended sink
-  in_pieces sink ended took outcome entries = (with_last sink ended took outcome entries).0
+  in_pieces sink ended took outcome entries nobody = (with_last sink ended took outcome entries nobody).0
 
   -- what was said along them, and in what was left
-  pub said_along : (resumes : Resumes T) (blocks : Blocks T) (given : List T) (sink : S) (ended : Ended) → TakesLeft takes mid r.history.list sink → Some ended.outcome ≡ r.outcome → ended.entries ≡ all_calls r.logs.items
+  pub said_along : (resumes : Resumes T) (blocks : Blocks T) (given : List T) (sink : S) (ended : Ended) → TakesLeft takes mid r.history.list sink → Some ended.outcome ≡ r.outcome → ended.entries ≡ all_calls r.logs.items → TellsNobody ended
       → AreSaid resumes blocks limits capacities given (joined p.pieces ++ r.history.list) r.bodies.items
       → (q : IsOfPieces takes limits capacities bodies began ended sink) × (back : List T) × AreSaid resumes blocks limits capacities given (joined q.pieces) back
-  said_along resumes blocks given sink ended took outcome entries said =
-      let last = with_last sink ended took outcome entries in
+  said_along resumes blocks given sink ended took outcome entries nobody said =
+      let last = with_last sink ended took outcome entries nobody in
       (last.0, r.bodies.items, subst (λ (h : List Entry). AreSaid resumes blocks limits capacities given h r.bodies.items) (sym (ap joined last.1 ∙ joined_with_left p.pieces r.history.list)) said)
 
   -- the sink refused what is left
@@ -110,8 +111,8 @@ of_ok P ran r is so = subst (λ (x : Result _ _). IfOk x P) is so
 
 -- a run whose history was kept whole
 pub whole_run : {T : Type 0} (limits : Limits) (capacities : List ℕ) (bodies : ℕ) (r : Report T) (ended : Ended) → IsRunReport limits capacities bodies [] r → r.outcome ≡ Some ended.outcome → length r.history.list ≡ ended.entries
-    → (run : IsOfLegalRun limits capacities bodies ended) × (run.history ≡ r.history.list)
-whole_run limits capacities bodies r ended p outcome entries = (record { history = r.history.list; last = p.last; legal = p.legal; outcome = p.outcome ∙ outcome; entries = entries; within = p.within }, refl)
+    → TellsOf limits bodies capacities r.history.list ended.waiting.items ended.lately.items → (run : IsOfLegalRun limits capacities bodies ended) × (run.history ≡ r.history.list)
+whole_run limits capacities bodies r ended p outcome entries tells = (record { history = r.history.list; last = p.last; legal = p.legal; outcome = p.outcome ∙ outcome; entries = entries; within = p.within; tells = tells }, refl)
 
 -- what was said, under the same limits and capacities
 pub said_same : {T : Type 0} {resumes : Resumes T} {blocks : Blocks T} (limits limits' : Limits) (capacities capacities' : List ℕ) (given : List T) (h : List Entry) (back : List T) → limits ≡ limits' → capacities ≡ capacities'
@@ -121,9 +122,9 @@ said_same {resumes = resumes} {blocks = blocks} limits limits' capacities capaci
 
 -- one whose history went out in pieces
 pub said_pieces : {T S : Type 0} {resumes : Resumes T} {blocks : Blocks T} (takes refuses : S → List Entry → S → Type 0) (limits limits' : Limits) (capacities capacities' : List ℕ) (given : List T) (began : S) (r : Report T) (mid sink : S) (ended : Ended) (run : ℕ) (is_fair : Bool)
-    → limits ≡ limits' → capacities ≡ capacities' → SaysPieces run is_fair resumes blocks takes refuses limits capacities given began r mid → TakesLeft takes mid r.history.list sink → Some ended.outcome ≡ r.outcome → ended.entries ≡ all_calls r.logs.items
+    → limits ≡ limits' → capacities ≡ capacities' → SaysPieces run is_fair resumes blocks takes refuses limits capacities given began r mid → TakesLeft takes mid r.history.list sink → Some ended.outcome ≡ r.outcome → ended.entries ≡ all_calls r.logs.items → TellsNobody ended
     → IsSaidInPieces resumes blocks takes limits' capacities' given began ended sink
-said_pieces {resumes = resumes} {blocks = blocks} takes refuses limits limits' capacities capacities' given began r mid sink ended run is_fair same_limits same_capacities says took outcome entries =
+said_pieces {resumes = resumes} {blocks = blocks} takes refuses limits limits' capacities capacities' given began r mid sink ended run is_fair same_limits same_capacities says took outcome entries nobody =
     subst (λ (l : Limits). IsSaidInPieces resumes blocks takes l capacities' given began ended sink) same_limits
     (subst (λ (cs : List ℕ). IsSaidInPieces resumes blocks takes limits cs given began ended sink) same_capacities
-    (said_along takes refuses limits capacities (length given) began r mid says.0.0 resumes blocks given sink ended took outcome entries says.1))
+    (said_along takes refuses limits capacities (length given) began r mid says.0.0 resumes blocks given sink ended took outcome entries nobody says.1))

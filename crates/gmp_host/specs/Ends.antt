@@ -1,5 +1,6 @@
 -- What is told of a run.
-use Rattle.std.specs.Prelude.{◌≡◌, ◌≢◌, ◌≤◌, ℕ, All, List, [], ◌∷◌, ◌++◌, length, None, Some, ⊤}
+use Rattle.std.specs.Prelude.{◌≡◌, ◌≢◌, ◌⊎◌, ◌≤◌, ℕ, All, List, [], ◌∷◌, ◌++◌, length, None, Some, ⊤}
+use Rattle.gmp_base.specs.declared.number.GNo.{GNo}
 use Rattle.gmp_seq.specs.declared.call.Entry.{Entry}
 use Rattle.gmp_seq.specs.declared.call.Limits.{Limits}
 use Rattle.gmp_seq.specs.Fits.{AreLimits}
@@ -7,13 +8,21 @@ use Rattle.gmp_seq.specs.Run.{IsLegal}
 use Rattle.gmp_seq.specs.State.{State}
 use Rattle.gmp_said.specs.Said.{AreSaid, Blocks, Resumes}
 use Rattle.gmp_run.specs.Desks.{IsCut, IsFull, TakesAll, joined}
+use Rattle.gmp_waits.specs.declared.ending.Waiting.{Waiting}
+use Rattle.gmp_waits.specs.Lately.{IsLately}
+use Rattle.gmp_waits.specs.Waits.{AreWaiting}
 use Rattle.gmp_host.specs.declared.ending.Ended.{Ended}
 use Rattle.gmp_host.specs.declared.ending.Short.{Short}
 use Rattle.gmp_host.specs.declared.saving.SaveError.{SaveError}
 use Rattle.gmp_host.specs.declared.saving.SaveError.TheVariants as save_error
 
+-- What is told of goroutines where this history ends: nothing, or all that began and are not done, each with what it does, and who ran lately.
+abbrev pub TellsOf : Limits → ℕ → List ℕ → List Entry → List Waiting → List GNo → Type 0
+TellsOf limits bodies capacities history waiting lately =
+    ((waiting ≡ []) × (lately ≡ [])) ⊎ (AreWaiting limits bodies capacities history waiting × IsLately limits bodies capacities history lately)
+
 -- There is a legal run, from the opening under these limits, which are in range, with these capacities and so many bodies, that has this
--- outcome and as many entries.
+-- outcome and as many entries, and of whose end this is told.
 pub record IsOfLegalRun (limits : Limits) (capacities : List ℕ) (bodies : ℕ) (ended : Ended) : Type 0 where
   pub history : List Entry
   pub last : State
@@ -21,10 +30,15 @@ pub record IsOfLegalRun (limits : Limits) (capacities : List ℕ) (bodies : ℕ)
   pub outcome : last.outcome ≡ Some ended.outcome
   pub entries : length history ≡ ended.entries
   pub within : AreLimits limits bodies capacities
+  pub tells : TellsOf limits bodies capacities history ended.waiting.items ended.lately.items
 
 -- Such a run that is what these bodies said: each of a goroutine's calls is what its body asked, told what the history gives it.
 abbrev pub IsSaidRun : {T : Type 0} → Resumes T → Blocks T → Limits → List ℕ → List T → Ended → Type 0
 IsSaidRun {T} resumes blocks limits capacities given ended = (r : IsOfLegalRun limits capacities (length given) ended) × (back : List T) × AreSaid resumes blocks limits capacities given r.history back
+
+-- nobody is told of
+abbrev pub TellsNobody : Ended → Type 0
+TellsNobody ended = (ended.waiting.items ≡ []) × (ended.lately.items ≡ [])
 
 -- The sink took these pieces, cut where there was no room for another entry, and nothing more. In order they are a legal run, from the opening
 -- under these limits, with these capacities and so many bodies, that has this outcome and as many entries.
@@ -37,6 +51,7 @@ pub record IsOfPieces {S : Type 0} (takes : S → List Entry → S → Type 0) (
   pub outcome : last.outcome ≡ Some ended.outcome
   pub entries : length (joined pieces) ≡ ended.entries
   pub within : AreLimits limits bodies capacities
+  pub nobody : TellsNobody ended
 
 -- Such pieces that are, in order, what these bodies said.
 abbrev pub IsSaidInPieces : {T S : Type 0} → Resumes T → Blocks T → (S → List Entry → S → Type 0) → Limits → List ℕ → List T → S → Ended → S → Type 0

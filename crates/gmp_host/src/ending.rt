@@ -76,7 +76,7 @@ impl fmt::Display for Ended {
 pub enum Short {
     #[error("out of memory")]
     OutOfMemory,
-    #[error("out of range: 1 to 32 procs, procs to 64 machines, at most 1024 channels of at most 4096 values, 1 to 4096 goroutines, entries and room from 16")]
+    #[error("out of range: 1 to 32 procs, procs to 64 machines, at most 1024 channels of at most 4096 values, 1 to 4096 goroutines, entries from 16, room from 16 to 1000000, slots and outputs from 1")]
     BadLimits,
     #[error("entries above room: use run_into")]
     AboveRoom,

@@ -1,6 +1,7 @@
 //! What a run by a core, in one thread, is told of: how it ended, and its history, where that is to be kept.
 ghost use Rattle.std.specs.Prelude.{◌≡◌, ◌≢◌, IfErr, IfOk, None, OnOk, Some, length, true};
 ghost use Rattle.gmp_seq.specs.Fits.{AreLimits};
+ghost use Rattle.gmp_host.specs.Ends.{TellsOf};
 
 use crate::ending::{Ended, Short};
 use crate::waits::told_at_end;
@@ -37,6 +38,7 @@ pub(crate) fn ended(
 ) -> Result<Ended, Short>
     ensures outcome { IfOk result (λ e. outcome ≡ Some e.outcome) }
     ensures entries { IfOk result (λ e. length history.now.list ≡ e.entries) }
+    ensures tells { IfOk result (λ e. TellsOf limits bodies capacities.now history.now.list e.waiting.items e.lately.items) }
     ensures none { IfErr result (λ e. (e ≡ Short.NoEnd) × (outcome ≡ None)) }
 {
     let Some(outcome) = outcome else {

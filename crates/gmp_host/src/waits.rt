@@ -1,4 +1,5 @@
 //! Who is not done at the end of a run, and who ran lately.
+ghost use Rattle.gmp_host.specs.Ends.{TellsOf};
 
 use gmp_history::History;
 use gmp_seq::{Limits, Outcome};
@@ -13,7 +14,9 @@ pub(crate) fn told_at_end(
     capacities: &[u32],
     outcome: Outcome,
     history: &History,
-) -> AtEnd {
+) -> AtEnd
+    ensures { TellsOf limits bodies capacities.now history.now.list result.waiting.items result.lately.items }
+{
     if outcome != Outcome::MainEnded
         && let Ok(bodies) = u16::try_from(bodies)
         && let Some(told) = at_end(alloc, limits, bodies, capacities, history)

@@ -4,6 +4,7 @@
 
 mod busy;
 mod drawn;
+mod ends;
 mod handed;
 mod loaded;
 mod parcels;
@@ -13,6 +14,7 @@ mod ways;
 
 use crate::busy::{Waits, run_busy};
 use crate::drawn::{Bug, Draws, run_bug};
+use crate::ends::show_ends;
 use crate::handed::{Found, run_handed};
 use crate::loaded::{Tally, run_loaded};
 use crate::parcels::{run_parcels, try_places};
@@ -430,6 +432,7 @@ fn main(rt: HostRuntime) -> Result<()> {
     show_text(&rt, alloc)?;
     show_poller(&rt, alloc)?;
     show_left(&rt, alloc)?;
+    show_ends(&rt, alloc)?;
     show_refused(&rt, alloc)?;
     show_drawn(&rt, alloc, "two locks", Bug::Locks)?;
     show_drawn(&rt, alloc, "a wake-up", Bug::WakeUp)?;

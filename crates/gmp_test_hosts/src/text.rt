@@ -1,6 +1,5 @@
 //! A run whose trace is handed out, by a core and by a thread: its text, and the file that has it.
 
-use crate::ways::Runner;
 use anyhow::Result;
 use gmp_host::{
     Ask, Channel, Goroutine, Handle, Host, Nonsense, Note, Settings, Short, Time, Traced, Woke,
@@ -27,12 +26,21 @@ impl Goroutine for Sender {
     }
 }
 
-/// Its run by one machine.
-fn run<R: Threads + Wait + Clock + Sync>(
+/// What runs it, and where its trace goes.
+#[derive(Clone, Copy, Drop)]
+enum Way {
+    Core,
+    Thread,
+    /// A thread, and to the file of this name.
+    Saved(&'static str),
+}
+
+/// Its run by one machine, but where its trace went to a file.
+fn run<R: Threads + Wait + Clock + Files + Sync>(
     rt: &R,
     alloc: Global,
-    runner: Runner,
-) -> Result<Traced, Short> {
+    way: Way,
+) -> Result<Option<Traced>> {
     let settings = Settings {
         procs: 1,
         machines: 1,
@@ -44,16 +52,22 @@ fn run<R: Threads + Wait + Clock + Sync>(
     let channel = host.channel(1)?;
     let sender = host.boxed(Sender(channel))?;
     host.push(sender)?;
-    match runner {
-        Runner::Core => host.step_traced(),
-        Runner::Threads => host.run_traced(rt),
+    match way {
+        Way::Core => Ok(Some(host.step_traced()?)),
+        Way::Thread => Ok(Some(host.run_traced(rt)?)),
+        Way::Saved(name) => {
+            host.run_saved(rt, name)?;
+            Ok(None)
+        }
     }
 }
 
-/// The text of its trace.
-fn text(alloc: Global, run: &Traced) -> Result<Vec<u8>, WriteError> {
+/// The text of its trace, if it was handed out.
+fn text(alloc: Global, run: &Option<Traced>) -> Result<Vec<u8>, WriteError> {
     let mut text = Vec::new(alloc);
-    run.write(&mut text)?;
+    if let Some(run) = run {
+        run.write(&mut text)?;
+    }
     Ok(text)
 }
 
@@ -130,22 +144,28 @@ pub fn show_left<R: Print>(rt: &R, alloc: Global) -> Result<()> {
     Ok(())
 }
 
-/// How its run by a core ended, the text of that, whether a thread's run has the same, and whether a file has.
+/// How its run by a core ended, the text of that, whether a thread's run has the same, and whether files have.
 pub fn show_text<R: Threads + Wait + Clock + Files + Alloc + Print + Sync>(
     rt: &R,
     alloc: Global,
 ) -> Result<()> {
-    let by_core = run(rt, alloc, Runner::Core)?;
-    let by_thread = run(rt, alloc, Runner::Threads)?;
+    let by_core = run(rt, alloc, Way::Core)?;
+    let by_thread = run(rt, alloc, Way::Thread)?;
     let (one, other) = (text(alloc, &by_core)?, text(alloc, &by_thread)?);
-    by_core.save(rt, "run.trace")?;
-    let saved = fs::read(rt, "run.trace")?;
+    let Some(by_core) = by_core else {
+        return Ok(());
+    };
+    by_core.save(rt, "core.trace")?;
+    run(rt, alloc, Way::Saved("thread.trace"))?;
+    let saved = fs::read(rt, "core.trace")?;
+    let saved_at_once = fs::read(rt, "thread.trace")?;
     print!(rt; "{}", str::from_utf8(&one)?)?;
     println!(rt;
-        "its end: {}; the same by a thread: {}, in a file: {}",
+        "its end: {}; the same by a thread: {}, in a file: {}, in one call: {}",
         by_core.ended,
         one.as_slice() == other.as_slice(),
-        one.as_slice() == saved.as_slice()
+        one.as_slice() == saved.as_slice(),
+        one.as_slice() == saved_at_once.as_slice()
     )?;
     Ok(())
 }

@@ -1,5 +1,7 @@
-use Rattle.std.proofs.Common.{◌≡◌, ◌∙◌, IfErr, ap, length, rules, sym, tests}
+use Rattle.std.proofs.Common.{◌≡◌, ◌∙◌, ℕ, IfErr, List, ap, length, rules, subst, sym, tests, vec_len}
+use Rattle.gmp_seq.specs.declared.call.Entry.{Entry}
 use Rattle.gmp_host.specs.declared.ending.Short.TheVariants as short
+use Rattle.gmp_host.specs.Ends.{TellsOf}
 use Rattle.gmp_host.specs.Played.{HasNoDrawnEnd}
 use Rattle.gmp_host.proofs.Again.{err_of, legal_told}
 use Rattle.gmp_host.proofs.drawing.draw_all.Goals as goal
@@ -23,8 +25,13 @@ pub returns-clause-ended : goal.returns-clause-ended
 returns-clause-ended g c =
     let book = c.in_ok-run.run'.core.system.book in
     let entries = ap (λ h. length h) (sym c.history.ensures.entries) ∙ c.in_ok-ended.ensures.entries in
+    let size : vec_len c.args.bodies ≡ length c.args.bodies.items = search rules in
+    let count =
+    subst (λ (n : ℕ). TellsOf c.args.limits n c.args.capacities.now c.history.result.now.list c.in_ok-ended.field-0.waiting.items c.in_ok-ended.field-0.lately.items) (c.len-count.ensures ∙ size) c.in_ok-ended.ensures.tells in
+    let tells =
+    subst (λ (h : List Entry). TellsOf c.args.limits (length c.args.bodies.items) c.args.capacities.now h c.in_ok-ended.field-0.waiting.items c.in_ok-ended.field-0.lately.items) c.history.ensures.entries count in
     let told = legal_told c.args.limits c.args.capacities.now (length c.args.bodies.items) book c.in_ok-ended.field-0 c.in_ok-run.ensures.opened c.history.ensures.headline.legal c.history.ensures.within
-    (sym c.outcome.ensures ∙ c.in_ok-ended.ensures.outcome) entries in
+    (sym c.outcome.ensures ∙ c.in_ok-ended.ensures.outcome) entries tells in
     (told.0, λ keeps. c.in_ok-history.ensures keeps ∙ (c.history-2.ensures.entries ∙ sym told.1))
 
 pub returns-clause-drawn : goal.returns-clause-drawn

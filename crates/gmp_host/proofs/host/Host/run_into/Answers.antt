@@ -4,7 +4,7 @@ use Rattle.gmp_run.specs.Counts.{all_calls}
 use Rattle.gmp_run.specs.Reports.{IsPiecesReport}
 use Rattle.gmp_history.specs.declared.auditing.PassLog.{PassLog}
 use Rattle.gmp_host.specs.declared.ending.Ended.{Ended}
-use Rattle.gmp_host.specs.Ends.{IsOfPieces, StopsPieces, TakesLeft}
+use Rattle.gmp_host.specs.Ends.{IsOfPieces, StopsPieces, TakesLeft, TellsNobody}
 use Rattle.gmp_host.proofs.Pieces.{few_calls, in_pieces, of_ok, said_pieces, said_to_stop, stopped_at_last, stopped_on_the_way}
 use Rattle.gmp_host.proofs.host.Host.run_into.Goals as goal
 
@@ -33,7 +33,8 @@ returns-clause-ended g c =
     let made : c.made.result ≡ all_calls c.in-Ok.report.logs.items = c.made.ensures ∙ ap all_calls c.deref.ensures.value in
     let took : TakesLeft takes mid c.in-Ok.report.history.list sink = search (rules, tests) in
     let ended : Ended = record { outcome = c.in-Some.outcome; entries = c.made.result; lost = c.first.result; waiting = c.new.result; lately = c.new-2.result } in
-    let all = in_pieces takes refuses c.limits.result c.as_slice.result.now bodies c.args.sink c.in-Ok.report mid ran sink ended took (sym c.in-Some.is) made in
+    let nobody : TellsNobody ended = search (rules, tests) in
+    let all = in_pieces takes refuses c.limits.result c.as_slice.result.now bodies c.args.sink c.in-Ok.report mid ran sink ended took (sym c.in-Some.is) made nobody in
     subst (λ (limits : Limits). IsOfPieces takes limits c.args.self.capacities.items bodies c.args.sink ended sink) c.limits.ensures
     (subst (λ (capacities : List ℕ). IsOfPieces takes c.limits.result capacities bodies c.args.sink ended sink) c.as_slice.ensures.value all)
 
@@ -48,8 +49,9 @@ returns-clause-said g c =
     let made : c.made.result ≡ all_calls c.in-Ok.report.logs.items = c.made.ensures ∙ ap all_calls c.deref.ensures.value in
     let took : TakesLeft takes mid c.in-Ok.report.history.list sink = search (rules, tests) in
     let ended : Ended = record { outcome = c.in-Some.outcome; entries = c.made.result; lost = c.first.result; waiting = c.new.result; lately = c.new-2.result } in
+    let nobody : TellsNobody ended = search (rules, tests) in
     said_pieces takes refuses c.limits.result _ c.as_slice.result.now c.args.self.capacities.items given c.args.sink c.in-Ok.report mid sink ended 0 c.args.self.settings.fair c.limits.ensures c.as_slice.ensures.value
-    (of_ok _ c.run_into_fair-ran.result.0 c.in-Ok.report c.in-Ok.is c.run_into_fair-ran.ensures.says) took (sym c.in-Some.is) made
+    (of_ok _ c.run_into_fair-ran.result.0 c.in-Ok.report c.in-Ok.is c.run_into_fair-ran.ensures.says) took (sym c.in-Some.is) made nobody
 
 -- a piece was left
 pub returns-in_default-outcome-clause-stopped : goal.returns-in_default-outcome-clause-stopped
