@@ -1,13 +1,14 @@
 -- The machines that are awake.
-use Rattle.std.proofs.Common.{◌≡◌, ◌<◌, ◌≤◌, ◌+◌, ◌%◌, ℕ, zero, suc, Bool, true, false, [], ◌∷◌, All, length, if◌then◌else◌, get_or, inl, inr, refl, sym, subst, ap, ◌∙◌, arith}
+use Rattle.std.proofs.Common.{◌≡◌, ◌<◌, ◌≤◌, ◌+◌, ◌%◌, ℕ, zero, suc, Bool, true, false, [], ◌∷◌, All, List, length, map, if◌then◌else◌, get_or, inl, inr, refl, sym, subst, ap, ◌∙◌, arith}
 use Rattle.std.proofs.lemmas.Bool.{cases_lt}
-use Rattle.std.proofs.lemmas.List.{length-append}
+use Rattle.std.proofs.lemmas.List.{length-append, length-map}
 use Rattle.std.proofs.lemmas.List.Elements.{All-append, All-cons, All-get_or, All-nil, All-weaker}
 use Rattle.std.proofs.Math.Nat.{mod-eq_of_lt}
 use Rattle.gmp_base.specs.declared.number.MNo.{MNo}
 use Rattle.gmp_acts.specs.System.{System}
 use Rattle.gmp_core.specs.Stage.{HasTurn, machines_of, parked}
-use Rattle.gmp_chance.specs.Drawn.{awake_below}
+use Rattle.gmp_chance.specs.declared.dealer.Next.{Next}
+use Rattle.gmp_chance.specs.Drawn.{awake, awake_below, next_of, nexts}
 
 -- a machine that is there and not parked
 abbrev pub IsAwake : System → ℕ → ℕ → Type 0
@@ -38,6 +39,17 @@ few_awake k (suc n) =
       last : (b : Bool) → length (if b then [] else (n ∷ [])) ≤ 1
       last true = omega arith
       last false = omega arith
+
+-- what each of them does next, by another name of the core
+pub listed_as : (k k' : System) (awake_list : List ℕ) (made shown : List Next) → k' ≡ k → awake_list ≡ awake k → made ≡ map (next_of k') awake_list → shown ≡ made → shown ≡ nexts k
+listed_as k k' awake_list made shown same seen are is =
+    is ∙ are ∙ ap (λ (s : System). map (next_of s) awake_list) same ∙ ap (λ (l : List ℕ). map (next_of k) l) seen
+
+-- it is as long as the list of those
+pub below_listed : (k : System) (place : ℕ) (shown : List Next) → shown ≡ nexts k → place < length shown → place < length (awake k)
+below_listed k place shown is there =
+    let same : length shown ≡ length (awake k) = ap (λ (l : List Next). length l) is ∙ length-map (awake k) (next_of k) in
+    omega (arith, same, there)
 
 -- where nobody is awake all are parked
 pub none_awake : (k : System) (n : ℕ) → length (awake_below k n) ≡ 0 → (m : ℕ) → m < n → parked k m ≡ true

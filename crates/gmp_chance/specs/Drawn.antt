@@ -1,12 +1,21 @@
 -- A run whose machines and words are drawn: a dealer picks each act's machine, among those that are not parked, and its word.
-use Rattle.std.specs.Prelude.{◌≡◌, ◌≢◌, ◌⊎◌, ℕ, zero, suc, ◌+◌, ◌≤◌, Bool, true, false, List, [], ◌∷◌, ◌++◌, if◌then◌else◌, Option, None, Some, slice_get}
+use Rattle.std.specs.Prelude.{◌≡◌, ◌≢◌, ◌⊎◌, ℕ, zero, suc, ◌+◌, ◌≤◌, Bool, true, false, List, [], ◌∷◌, ◌++◌, map, if◌then◌else◌, Option, None, Some, slice_get}
 use Rattle.gmp_base.specs.declared.ask.Ask.{Ask}
 use Rattle.gmp_base.specs.declared.ask.Woke.{Woke}
+use Rattle.gmp_base.specs.declared.number.GNo.{GNo}
 use Rattle.gmp_seq.specs.declared.call.Limits.{Limits}
-use Rattle.gmp_acts.specs.System.{System}
+use Rattle.gmp_driver.specs.Bodies.{speaker_at}
+use Rattle.gmp_driver.specs.Table.{next_act}
+use Rattle.gmp_acts.specs.Hands.{PlainMachine}
+use Rattle.gmp_acts.specs.System.{System, machine_at}
 use Rattle.gmp_core.specs.Plays.{PlaysOne}
 use Rattle.gmp_core.specs.Stage.{AreParked, Stage, machines_of, opening_stage, parked}
-use Rattle.gmp_core.specs.Whole.{Whole}
+use Rattle.gmp_core.specs.Whole.{Whole, wanted_by}
+use Rattle.gmp_core.specs.declared.want.Want.{Want}
+use Rattle.gmp_core.specs.declared.want.Want.TheVariants as want
+use Rattle.gmp_chance.specs.declared.dealer.Next.{Next}
+use Rattle.gmp_chance.specs.declared.dealer.Whose.{Whose}
+use Rattle.gmp_chance.specs.declared.dealer.Whose.TheVariants as whose
 
 -- all machines together with the goroutines' bodies, what is outside, and the dealer
 pub record Table (T O D : Type 0) : Type 0 where
@@ -35,15 +44,33 @@ awake_below k (suc m) = awake_below k m ++ (if parked k m then [] else (m ∷ []
 abbrev pub awake : System → List ℕ
 awake k = awake_below k (machines_of k)
 
+-- whose act comes next: a goroutine's step, else time's where a deadline is waited for, else the machine's own
+abbrev pub whose_of : Option GNo → Want → Whose
+whose_of (Some g) wanted = whose.Goroutine g
+whose_of None (want.Moment (Some deadline)) = whose.Clock
+whose_of None wanted = whose.Machine
+
+-- whose act this machine makes next
+abbrev pub whose_next : PlainMachine → Whose
+whose_next x = whose_of (speaker_at x.place x.hand) (wanted_by (next_act x))
+
+-- what machine m does next
+abbrev pub next_of : System → ℕ → Next
+next_of k m = record { machine = record { 0 = m }; whose = whose_next (machine_at k (record { 0 = m })) }
+
+-- what may come next
+abbrev pub nexts : System → List Next
+nexts k = map (next_of k) (awake k)
+
 -- By what bodies ask, what their blocking calls answer, what the clock shows, and what the dealer deals.
 module _ {T O D : Type 0} (asks : O → T → Woke → Ask → O → T → Type 0) (answers : O → T → ℕ → O → T → Type 0) (shows : O → Option ℕ → ℕ → O → Type 0)
-    (deals : D → List ℕ → ℕ → ℕ → D → Type 0) where
+    (deals : D → List Next → ℕ → ℕ → D → Type 0) where
   -- one act, of the machine and by the word that the dealer deals
   pub record DrawsOne (t t' : Table T O D) : Type 0 where
     pub place : ℕ
     pub word : ℕ
     pub m : ℕ
-    pub dealt : deals t.dealer (awake t.core.system) place word t'.dealer
+    pub dealt : deals t.dealer (nexts t.core.system) place word t'.dealer
     pub picked : slice_get (awake t.core.system) place ≡ Some m
     pub plays : PlaysOne asks answers shows word (at_turn m t) (at_turn (m + 1) t')
 

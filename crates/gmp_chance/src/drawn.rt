@@ -1,19 +1,19 @@
 //! A run over a core whose machines and words are dealt.
-ghost use Rattle.std.specs.Prelude.{◌≡◌, ◌<◌, ◌+◌, ◌⊎◌, All, IfErr, IfOk, None, OnOk, false, length};
+ghost use Rattle.std.specs.Prelude.{◌≡◌, ◌<◌, ◌≤◌, ◌+◌, ◌⊎◌, All, IfErr, IfOk, None, OnOk, false, length, map};
 ghost use Rattle.gmp_base.specs.declared.refusal.Refusal.TheVariants.{BadLimits, OutOfMemory};
 ghost use Rattle.gmp_seq.specs.Fits.{AreLimits, Fits};
 ghost use Rattle.gmp_acts.specs.Headline.{Headline, SameOpening};
 ghost use Rattle.gmp_core.specs.Whole.{IsKept};
 ghost use Rattle.gmp_core.specs.Plays.{PlaysOne};
 ghost use Rattle.gmp_core.specs.Stage.{machines_of, parked};
-ghost use Rattle.gmp_chance.specs.Drawn.{IsDrawn, TriesDraw, at_turn, awake, opening_table};
+ghost use Rattle.gmp_chance.specs.Drawn.{IsDrawn, TriesDraw, at_turn, awake, next_of, opening_table, whose_of};
 
 use crate::choosing::choose;
-use crate::dealer::Dealer;
+use crate::dealer::{Dealer, Next, Whose};
 use arrayvec::ArrayVec;
 use gmp_acts::Choice;
-use gmp_base::{MNo, Refusal, Refused};
-use gmp_core::{Core, Outside};
+use gmp_base::{GNo, MNo, Refusal, Refused};
+use gmp_core::{Core, Outside, Want};
 use gmp_history::History;
 use gmp_seq::{Limits, Outcome};
 use std::alloc::Global;
@@ -48,6 +48,17 @@ impl<T, O, D> Model for Drawn<T, O, D> {
     ghost view = { λ p. record { core = p.core; outside = p.outside; dealer = p.dealer } };
 
     ghost invariant = { λ p. IsManned p.machines p.core.system × (p.machines ≤ 64) };
+}
+
+/// Whose act comes next of a machine: a goroutine's step, else time's where a deadline is waited for, else its own.
+fn whose_of(speaker: Option<GNo>, wanted: Want) -> Whose
+    ensures { result ≡ whose_of speaker wanted }
+{
+    match (speaker, wanted) {
+        (Some(g), _) => Whose::Goroutine(g),
+        (None, Want::Moment(Some(_))) => Whose::Clock,
+        (None, _) => Whose::Machine,
+    }
 }
 
 impl<T: Drop, O: Outside<T> + Drop, D: Dealer + Drop> Drawn<T, O, D> {
@@ -105,7 +116,8 @@ impl<T: Drop, O: Outside<T> + Drop, D: Dealer + Drop> Drawn<T, O, D> {
         if awake.is_empty() {
             return false;
         }
-        let (place, word) = self.dealer.deal(&awake);
+        let nexts = self.nexts(&awake);
+        let (place, word) = self.dealer.deal(&nexts);
         self.advance(MNo(awake[place]), word);
         true
     }
@@ -122,6 +134,26 @@ impl<T: Drop, O: Outside<T> + Drop, D: Dealer + Drop> Drawn<T, O, D> {
             }
         }
         awake
+    }
+
+    /// What each of these machines does next.
+    fn nexts(&self, awake: &[u8]) -> ArrayVec<Next, MOST_MACHINES>
+        requires few { length awake.now ≤ 64 }
+        ensures { result.items ≡ map (next_of self.now.core.system) awake.now }
+    {
+        let mut nexts = ArrayVec::new();
+        for m in awake {
+            nexts.push(self.next(MNo(*m)));
+        }
+        nexts
+    }
+
+    /// What the machine does next.
+    fn next(&self, m: MNo) -> Next
+        ensures { result ≡ next_of self.now.core.system m.0 }
+    {
+        let whose = whose_of(self.core.speaker(m), self.core.wants(m));
+        Next { machine: m, whose }
     }
 
     /// The machine, whose turn it is, makes its act.

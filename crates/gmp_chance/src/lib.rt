@@ -3,8 +3,8 @@
 //!
 //! A `Drawn` runs a core as `Player` of gmp_core does, which goes round by number. What bodies ask and the clock shows comes from an
 //! `Outside`. Its run is the one that the definitions name (`IsDrawn`): each act is one of `Player`'s, of the machine whose turn was dealt.
-//! A `Dealer` says by a relation of its own what it deals. `Even` draws each machine as often as
-//! another; `Ranked` draws ranks, and now and then lets one fall behind.
+//! A `Dealer` says by a relation of its own what it deals. `Even` draws each machine as often as another; `Ranked` draws a rank for each
+//! goroutine and the clock, and now and then lets one fall behind.
 #![tactic(auto)]
 
 mod choosing;
@@ -12,6 +12,6 @@ mod dealer;
 mod drawn;
 mod ranked;
 
-pub use dealer::{Dealer, Even};
+pub use dealer::{Dealer, Even, Next, Whose};
 pub use drawn::Drawn;
 pub use ranked::Ranked;

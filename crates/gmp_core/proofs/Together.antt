@@ -28,13 +28,16 @@ use Rattle.gmp_driver.specs.declared.act.Value.{Value}
 use Rattle.gmp_driver.specs.declared.load.Load.{Load}
 use Rattle.gmp_driver.specs.declared.place.Place.{Place}
 use Rattle.gmp_driver.specs.declared.place.Place.TheVariants as place
+use Rattle.gmp_driver.specs.declared.registers.CalledParts.{CalledParts}
 use Rattle.gmp_driver.specs.declared.registers.HeldParts.{HeldParts}
+use Rattle.gmp_driver.specs.declared.registers.Registers.{Registers}
+use Rattle.gmp_driver.specs.Bodies.{speaker_at}
 use Rattle.gmp_driver.specs.Machine.{Machine, held_at}
 use Rattle.gmp_driver.specs.Seen.{own_processor}
 use Rattle.gmp_driver.specs.Table.{next_act}
 use Rattle.gmp_acts.specs.declared.choice.Choice.{Choice}
 use Rattle.gmp_acts.specs.Acts.{Acts, HasFewCases}
-use Rattle.gmp_acts.specs.Hands.{PlainMachine, plain_held, plain_machine}
+use Rattle.gmp_acts.specs.Hands.{PlainMachine, plain, plain_called, plain_held, plain_machine}
 use Rattle.gmp_acts.specs.Headline.{NoClaimIsRefused, SameOpening}
 use Rattle.gmp_acts.specs.Lookouts.{IsWatchful, NoWorkIsAsleep}
 use Rattle.gmp_acts.specs.Sound.{Agrees, IsSound}
@@ -272,6 +275,27 @@ held_plain here h = refl
 pub held_at_is : {T : Type 0} (c : Parts T) (m : MNo) (x : Machine T Unit) → slice_get c.machines m.0 ≡ Some x
     → held_at x.place x.hand.held ≡ held_at (machine_at (system_of c) m).place (machine_at (system_of c) m).hand.held
 held_at_is c m x is = sym (ap (λ (p : PlainMachine). held_at p.place p.hand.held) (machine_is c m x is) ∙ held_plain x.place x.hand.held)
+
+-- who steps next, by what is left of the values in plain parts
+speaker_plain : {T : Type 0} (here : Place) (hand : Registers T Unit) → speaker_at here (plain hand) ≡ speaker_at here hand
+speaker_plain {T = T} here hand = at here where
+  held : (h : Option (HeldParts T)) → option_map (λ (x : HeldParts Unit). x.g) (option_map plain_held h) ≡ option_map (λ (x : HeldParts T). x.g) h
+  held None = refl
+  held (Some x) = refl
+
+  called : (c : Option (CalledParts T)) → option_map (λ (x : CalledParts Unit). x.g) (option_map plain_called c) ≡ option_map (λ (x : CalledParts T). x.g) c
+  called None = refl
+  called (Some x) = refl
+
+  at : (p : Place) → speaker_at p (plain hand) ≡ speaker_at p hand
+  at place.Run = held hand.held
+  at (place.Do asked) = held hand.held
+  at place.Block = called hand.called
+  at other = refl
+
+pub speaker_is : {T : Type 0} (c : Parts T) (m : MNo) (x : Machine T Unit) → slice_get c.machines m.0 ≡ Some x
+    → speaker_at x.place x.hand ≡ speaker_at (machine_at (system_of c) m).place (machine_at (system_of c) m).hand
+speaker_is c m x is = sym (ap (λ (p : PlainMachine). speaker_at p.place p.hand) (machine_is c m x is) ∙ speaker_plain x.place x.hand)
 
 pub next_is : {T : Type 0} (c : Parts T) (m : MNo) (x : Machine T Unit) → slice_get c.machines m.0 ≡ Some x → next_act (machine_at (system_of c) m) ≡ next_act x
 next_is c m x is = ap next_act (machine_is c m x is) ∙ next_plain x

@@ -20,7 +20,7 @@ use crate::opening::{let_go, starting};
 use crate::queues::Queues;
 use crate::want::Want;
 use gmp_acts::Choice;
-use gmp_base::{MNo, Refusal, Refused, Woke};
+use gmp_base::{GNo, MNo, Refusal, Refused, Woke};
 use gmp_book::{Book, Unopened};
 use gmp_driver::{Act, Driver, Frequent};
 use gmp_history::History;
@@ -97,6 +97,7 @@ impl<T> Core<T> {
     ghost use Rattle.gmp_acts.specs.Headline.{NoClaimIsRefused, SameOpening, opening_system};
     ghost use Rattle.gmp_acts.specs.Lookouts.{NoWorkIsAsleep};
     ghost use Rattle.gmp_acts.specs.System.{machine_at};
+    ghost use Rattle.gmp_driver.specs.Bodies.{speaker_at};
     ghost use Rattle.gmp_driver.specs.Machine.{held_at, is_done};
     ghost use Rattle.gmp_fair.specs.Fair.{AllSteady};
     ghost use Rattle.gmp_core.specs.Lending.{lends_body};
@@ -283,6 +284,14 @@ impl<T> Core<T> {
         ensures { result ≡ held_at (machine_at self.now.system m).place (machine_at self.now.system m).hand.held }
     {
         self.drivers.get(m.0 as usize)?.woke()
+    }
+
+    /// The goroutine whose step the machine makes next: it is resumed, or its call or its blocking call is made. None where the machine acts
+    /// of itself.
+    pub fn speaker(&self, m: MNo) -> Option<GNo>
+        ensures { result ≡ speaker_at (machine_at self.now.system m).place (machine_at self.now.system m).hand }
+    {
+        self.drivers.get(m.0 as usize)?.speaker()
     }
 
     /// Lends the body in the machine's hand, exactly where `held` is some. Whatever is left behind the loan, the state stays, and the

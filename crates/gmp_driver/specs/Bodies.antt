@@ -2,6 +2,7 @@
 use Rattle.std.specs.Prelude.{Option, None}
 use Rattle.std.specs.Option.{option_map}
 use Rattle.std.specs.Borrow.{Fml, LendsIf, MutBor, RattleType}
+use Rattle.gmp_base.specs.declared.number.GNo.{GNo}
 use Rattle.gmp_driver.specs.declared.place.Place.{Place}
 use Rattle.gmp_driver.specs.declared.place.Place.TheVariants as place
 use Rattle.gmp_driver.specs.declared.registers.CalledParts.{CalledParts}
@@ -16,6 +17,13 @@ abbrev pub body_at : {T Q : Type 0} → Place → Registers T Q → Option T
 body_at place.Run hand = option_map (λ (h : HeldParts _). h.body) hand.held
 body_at place.Block hand = option_map (λ (c : CalledParts _). c.body) hand.called
 body_at here hand = None
+
+-- the goroutine whose step comes next: the one that runs, which is resumed, or whose call is made; or the one in its blocking call
+abbrev pub speaker_at : {T Q : Type 0} → Place → Registers T Q → Option GNo
+speaker_at place.Run hand = option_map (λ (h : HeldParts _). h.g) hand.held
+speaker_at (place.Do asked) hand = option_map (λ (h : HeldParts _). h.g) hand.held
+speaker_at place.Block hand = option_map (λ (c : CalledParts _). c.g) hand.called
+speaker_at here hand = None
 
 -- what is in hand with another body in its place
 abbrev pub with_body_at : {T Q : Type 0} → Place → Registers T Q → T → Registers T Q

@@ -18,7 +18,7 @@ use crate::spot::{Spot, ask_on};
 use crate::table::{
     act_at, frequent_at, fresh_by, go_on, go_on_by, is_ask, next_fresh, next_turns, turns_by,
 };
-use gmp_base::{Ask, PNo, Pass, Refusal, Woke};
+use gmp_base::{Ask, GNo, PNo, Pass, Refusal, Woke};
 use gmp_seq::Reply;
 use std::marker::Model;
 
@@ -61,7 +61,7 @@ impl<T, Q> Model for Driver<T, Q> {
 impl<T, Q> Driver<T, Q> {
     ghost use Rattle.gmp_driver.specs.declared.act.Told.TheVariants as Told;
     ghost use Rattle.gmp_driver.specs.declared.place.Place.TheVariants as Place;
-    ghost use Rattle.gmp_driver.specs.Bodies.{body_at, lends_body};
+    ghost use Rattle.gmp_driver.specs.Bodies.{body_at, lends_body, speaker_at};
     ghost use Rattle.gmp_driver.specs.Fits.{SuitsPlace, IsDriver};
     ghost use Rattle.gmp_driver.specs.Frequent.{act_of, frequent_of};
     ghost use Rattle.gmp_driver.specs.Hunt.{begun, victim_of};
@@ -154,6 +154,19 @@ impl<T, Q> Driver<T, Q> {
         match (self.spot, &self.hand.held) {
             (Spot::Run, Some(parts)) => Some(parts.woke),
             (Spot::Block, _) => Some(Woke::Done),
+            _ => None,
+        }
+    }
+
+    /// The goroutine whose step comes next: it is resumed, or its call or its blocking call is made. None where the machine acts of itself.
+    pub fn speaker(&self) -> Option<GNo>
+        ensures { result ≡ speaker_at self.now.place self.now.hand }
+    {
+        match self.spot {
+            Spot::Run | Spot::Yield | Spot::Send(_, _) | Spot::Recv(_) | Spot::Do => {
+                self.hand.running()
+            }
+            Spot::Block => self.hand.calling(),
             _ => None,
         }
     }

@@ -2,7 +2,7 @@
 //! such values without their run. The run is the driver's and stands once; who hands a value out makes it anew.
 ghost use Rattle.std.specs.Prelude.{◌≡◌, ◌⊎◌, IsNone, Some};
 ghost use Rattle.std.specs.Borrow.{sem};
-ghost use Rattle.std.specs.Option.{option_copied_mut};
+ghost use Rattle.std.specs.Option.{option_copied_mut, option_map};
 ghost use Rattle.gmp_driver.specs.Registers.{first_of, first_value, nothing, one_used};
 
 use crate::act::{Act, Value};
@@ -74,6 +74,8 @@ impl<T, Q> Registers<T, Q> {
     ghost use Rattle.gmp_driver.specs.Bodies.{body_at, lends_at};
     ghost use Rattle.gmp_driver.specs.Own.{lends_owner_held, owner_held, with_found};
     ghost use Rattle.gmp_driver.specs.Spot.{place_of};
+    ghost use Rattle.gmp_driver.specs.declared.registers.CalledParts.{CalledParts};
+    ghost use Rattle.gmp_driver.specs.declared.registers.HeldParts.{HeldParts};
 
     /// What a machine holds at its start.
     pub(crate) fn empty() -> Self
@@ -85,6 +87,26 @@ impl<T, Q> Registers<T, Q> {
             called: None,
             to_claim: None,
             to_store: None,
+        }
+    }
+
+    /// The goroutine that runs.
+    pub(crate) fn running(&self) -> Option<GNo>
+        ensures { result ≡ option_map (λ (h : HeldParts T). h.g) self.now.held }
+    {
+        match &self.held {
+            Some(held) => Some(held.g),
+            None => None,
+        }
+    }
+
+    /// The goroutine in its blocking call.
+    pub(crate) fn calling(&self) -> Option<GNo>
+        ensures { result ≡ option_map (λ (c : CalledParts T). c.g) self.now.called }
+    {
+        match &self.called {
+            Some(called) => Some(called.g),
+            None => None,
         }
     }
 

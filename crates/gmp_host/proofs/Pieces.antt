@@ -14,6 +14,9 @@ use Rattle.gmp_run.specs.declared.ending.Report.{Report}
 use Rattle.gmp_run.specs.Desks.{IsLeftSo, TakesAll, joined, with_left}
 use Rattle.gmp_run.specs.Reports.{IsPiecesReport, IsRunReport, SaysPieces}
 use Rattle.gmp_host.specs.declared.ending.Ended.{Ended}
+use Rattle.gmp_host.specs.declared.traced.Traced.{Traced}
+use Rattle.gmp_host.specs.Traced.{IsTraced}
+use Rattle.gmp_host.proofs.Again.{run_again, traced_of}
 use Rattle.gmp_host.specs.Ends.{IsOfLegalRun, IsOfPieces, IsSaidInPieces, IsSaidToStop, StopsPieces, TakesLeft, TellsNobody, TellsOf}
 
 module _ {T S : Type 0} (takes refuses : S → List Entry → S → Type 0) (limits : Limits) (capacities : List ℕ) (bodies : ℕ) (began : S) (r : Report T) (mid : S)
@@ -111,7 +114,7 @@ of_ok P ran r is so = subst (λ (x : Result _ _). IfOk x P) is so
 
 -- a run whose history was kept whole
 pub whole_run : {T : Type 0} (limits : Limits) (capacities : List ℕ) (bodies : ℕ) (r : Report T) (ended : Ended) → IsRunReport limits capacities bodies [] r → r.outcome ≡ Some ended.outcome → length r.history.list ≡ ended.entries
-    → TellsOf limits bodies capacities r.history.list ended.waiting.items ended.lately.items → (run : IsOfLegalRun limits capacities bodies ended) × (run.history ≡ r.history.list)
+    → TellsOf limits bodies capacities r.history.list ended.outcome ended.waiting.items ended.lately.items → (run : IsOfLegalRun limits capacities bodies ended) × (run.history ≡ r.history.list)
 whole_run limits capacities bodies r ended p outcome entries tells = (record { history = r.history.list; last = p.last; legal = p.legal; outcome = p.outcome ∙ outcome; entries = entries; within = p.within; tells = tells }, refl)
 
 -- what was said, under the same limits and capacities
@@ -128,3 +131,14 @@ said_pieces {resumes = resumes} {blocks = blocks} takes refuses limits limits' c
     subst (λ (l : Limits). IsSaidInPieces resumes blocks takes l capacities' given began ended sink) same_limits
     (subst (λ (cs : List ℕ). IsSaidInPieces resumes blocks takes limits cs given began ended sink) same_capacities
     (said_along takes refuses limits capacities (length given) began r mid says.0.0 resumes blocks given sink ended took outcome entries nobody says.1))
+
+-- and its trace, under the same limits and capacities
+pub traced_whole : {T : Type 0} (limits limits' : Limits) (capacities capacities' : List ℕ) (bodies : ℕ) (r : Report T) (t : Traced) → limits ≡ limits' → capacities ≡ capacities' → IsRunReport limits capacities bodies [] r
+    → r.outcome ≡ Some t.ended.outcome → length r.history.list ≡ t.ended.entries → TellsOf limits bodies capacities r.history.list t.ended.outcome t.ended.waiting.items t.ended.lately.items
+    → t.history.list ≡ r.history.list → t.limits ≡ limits' → t.capacities.items ≡ capacities' → t.bodies ≡ bodies → IsTraced limits' capacities' bodies t
+traced_whole limits limits' capacities capacities' bodies r t limits_are capacities_are p outcome entries tells history of_limits of_capacities of_bodies =
+    by (whole_run limits capacities bodies r t.ended p outcome entries tells) where
+      by : ((run : IsOfLegalRun limits capacities bodies t.ended) × (run.history ≡ r.history.list)) → IsTraced limits' capacities' bodies t
+      by (run, is) = again (run_again limits limits' capacities capacities' limits_are capacities_are t.ended t.ended refl refl refl refl bodies run) where
+        again : ((other : IsOfLegalRun limits' capacities' bodies t.ended) × (other.history ≡ run.history)) → IsTraced limits' capacities' bodies t
+        again (other, same) = traced_of limits' capacities' bodies t other (history ∙ sym is ∙ sym same) of_limits of_capacities of_bodies

@@ -3,6 +3,8 @@ use Rattle.std.specs.Prelude.{◌≡◌, ◌≢◌, ◌⊎◌, ◌≤◌, ℕ, A
 use Rattle.gmp_base.specs.declared.number.GNo.{GNo}
 use Rattle.gmp_seq.specs.declared.call.Entry.{Entry}
 use Rattle.gmp_seq.specs.declared.call.Limits.{Limits}
+use Rattle.gmp_seq.specs.declared.call.Outcome.{Outcome}
+use Rattle.gmp_seq.specs.declared.call.Outcome.TheVariants as outcome
 use Rattle.gmp_seq.specs.Fits.{AreLimits}
 use Rattle.gmp_seq.specs.Run.{IsLegal}
 use Rattle.gmp_seq.specs.State.{State}
@@ -16,10 +18,11 @@ use Rattle.gmp_host.specs.declared.ending.Short.{Short}
 use Rattle.gmp_host.specs.declared.saving.SaveError.{SaveError}
 use Rattle.gmp_host.specs.declared.saving.SaveError.TheVariants as save_error
 
--- What is told of goroutines where this history ends: nothing, or all that began and are not done, each with what it does, and who ran lately.
-abbrev pub TellsOf : Limits → ℕ → List ℕ → List Entry → List Waiting → List GNo → Type 0
-TellsOf limits bodies capacities history waiting lately =
-    ((waiting ≡ []) × (lately ≡ [])) ⊎ (AreWaiting limits bodies capacities history waiting × IsLately limits bodies capacities history lately)
+-- What is told of goroutines where this history ends with this outcome: all that began and are not done, each with what it does, and who ran
+-- lately; nothing where main ended.
+abbrev pub TellsOf : Limits → ℕ → List ℕ → List Entry → Outcome → List Waiting → List GNo → Type 0
+TellsOf limits bodies capacities history outcome.MainEnded waiting lately = (waiting ≡ []) × (lately ≡ [])
+TellsOf limits bodies capacities history other waiting lately = AreWaiting limits bodies capacities history waiting × IsLately limits bodies capacities history lately
 
 -- There is a legal run, from the opening under these limits, which are in range, with these capacities and so many bodies, that has this
 -- outcome and as many entries, and of whose end this is told.
@@ -30,7 +33,7 @@ pub record IsOfLegalRun (limits : Limits) (capacities : List ℕ) (bodies : ℕ)
   pub outcome : last.outcome ≡ Some ended.outcome
   pub entries : length history ≡ ended.entries
   pub within : AreLimits limits bodies capacities
-  pub tells : TellsOf limits bodies capacities history ended.waiting.items ended.lately.items
+  pub tells : TellsOf limits bodies capacities history ended.outcome ended.waiting.items ended.lately.items
 
 -- Such a run that is what these bodies said: each of a goroutine's calls is what its body asked, told what the history gives it.
 abbrev pub IsSaidRun : {T : Type 0} → Resumes T → Blocks T → Limits → List ℕ → List T → Ended → Type 0

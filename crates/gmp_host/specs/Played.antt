@@ -8,8 +8,10 @@ use Rattle.gmp_seq.specs.declared.call.Limits.{Limits}
 use Rattle.gmp_acts.specs.System.{BookRun}
 use Rattle.gmp_core.specs.Plays.{IsPlayed}
 use Rattle.gmp_core.specs.Stage.{Stage, opening_stage}
+use Rattle.gmp_chance.specs.declared.dealer.Next.{Next}
 use Rattle.gmp_chance.specs.Drawn.{IsDrawn, Table, opening_table}
 use Rattle.gmp_host.specs.declared.ending.Ended.{Ended}
+use Rattle.gmp_host.specs.Ends.{TellsOf}
 
 -- the clock shows the moment that it showed, or the deadline that is minded, whichever is later
 abbrev pub ShowsSo : ℕ → Option ℕ → ℕ → ℕ → Type 0
@@ -19,10 +21,11 @@ ShowsSo shown minded moment shown' = (moment ≡ max shown (unwrap_or minded 0))
 abbrev pub most_acts : Limits → ℕ
 most_acts limits = 1000000 * limits.machines
 
--- the run has this outcome, and as many entries
-pub record EndsSo (book : BookRun) (ended : Ended) : Type 0 where
+-- the run from this opening has this outcome, and as many entries, and this is told of goroutines where it ends
+pub record EndsSo (limits : Limits) (capacities : List ℕ) (bodies : ℕ) (book : BookRun) (ended : Ended) : Type 0 where
   pub outcome : book.state.outcome ≡ Some ended.outcome
   pub entries : length book.history ≡ ended.entries
+  pub tells : TellsOf limits bodies capacities book.history ended.outcome ended.waiting.items ended.lately.items
 
 -- a body asks as it does when it is resumed, and the clock stands
 abbrev pub AsksSo : {T : Type 0} → (T → Woke → Ask → T → Type 0) → ℕ → T → Woke → Ask → ℕ → T → Type 0
@@ -50,7 +53,7 @@ module _ {T : Type 0} (resumed : T → Woke → Ask → T → Type 0) (called : 
   pub record IsPlayedOut (is_fair : Bool) (limits : Limits) (capacities : List ℕ) (bodies : List T) (ended : Ended) : Type 0 where
     pub last : Stage T ℕ
     pub played : IsPlayedTo is_fair limits capacities bodies last
-    pub ends : EndsSo last.core.system.book ended
+    pub ends : EndsSo limits capacities (length bodies) last.core.system.book ended
 
   -- the bodies were played, and the run came to no outcome
   pub record HasNoEnd (is_fair : Bool) (limits : Limits) (capacities : List ℕ) (bodies : List T) : Type 0 where
@@ -59,7 +62,7 @@ module _ {T : Type 0} (resumed : T → Woke → Ask → T → Type 0) (called : 
     pub none : last.core.system.book.state.outcome ≡ None
 
 -- By what a dealer deals, too.
-module _ {T D : Type 0} (resumed : T → Woke → Ask → T → Type 0) (called : T → ℕ → T → Type 0) (deals : D → List ℕ → ℕ → ℕ → D → Type 0) where
+module _ {T D : Type 0} (resumed : T → Woke → Ask → T → Type 0) (called : T → ℕ → T → Type 0) (deals : D → List Next → ℕ → ℕ → D → Type 0) where
   -- the bodies were played so far, each machine and each word as they are dealt, by this dealer at first
   abbrev pub IsDrawnTo : D → Bool → Limits → List ℕ → List T → Table T ℕ D → Type 0
   IsDrawnTo dealer is_fair limits capacities bodies last =
@@ -69,7 +72,7 @@ module _ {T D : Type 0} (resumed : T → Woke → Ask → T → Type 0) (called 
   pub record IsDrawnOut (dealer : D) (is_fair : Bool) (limits : Limits) (capacities : List ℕ) (bodies : List T) (ended : Ended) : Type 0 where
     pub last : Table T ℕ D
     pub drawn : IsDrawnTo dealer is_fair limits capacities bodies last
-    pub ends : EndsSo last.core.system.book ended
+    pub ends : EndsSo limits capacities (length bodies) last.core.system.book ended
 
   -- the bodies were played as they are dealt, and the run came to no outcome
   pub record HasNoDrawnEnd (dealer : D) (is_fair : Bool) (limits : Limits) (capacities : List ℕ) (bodies : List T) : Type 0 where

@@ -21,7 +21,7 @@ pub struct Ended {
     /// The goroutine that was the first to get an answer that made no sense to it.
     pub lost: Option<Lost>,
     /// The goroutines that began and are not done, by number, and what each waits for or does. It is empty where main ended, of which
-    /// `Traced::at_end` tells, where a sink took the history, and where memory was refused.
+    /// `Traced::at_end` tells, and where a sink took the history.
     pub waiting: Vec<Waiting>,
     /// Whose the last hundred entries are, in order: those goroutines ran lately. It is empty where `waiting` is.
     pub lately: Vec<GNo>,

@@ -315,7 +315,7 @@ impl Host {
         let outcome = report.outcome.unwrap();
         let history = report.history;
         let capacities = self.capacities;
-        let told = told_at_end(alloc, limits, count, &capacities, outcome, &history);
+        let told = told_at_end(alloc, limits, count, &capacities, outcome, &history)?;
         let ended = Ended {
             outcome,
             entries: history.len() as u64,

@@ -41,7 +41,7 @@ mod waits;
 pub use channel::Channel;
 pub use ending::{Ended, Lost, Short};
 pub use gmp_base::{Ask, CNo, Case, Cases, Fault, GNo, MNo, Woke};
-pub use gmp_chance::{Dealer, Ranked};
+pub use gmp_chance::{Dealer, Next, Ranked, Whose};
 pub use gmp_driver::Act;
 pub use gmp_history::History;
 pub use gmp_run::{Clock, Gate, MOST_REST, Open, Since, Sink, Stop};

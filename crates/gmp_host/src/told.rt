@@ -1,5 +1,5 @@
 //! What a run by a core, in one thread, is told of: how it ended, and its history, where that is to be kept.
-ghost use Rattle.std.specs.Prelude.{◌≡◌, ◌≢◌, IfErr, IfOk, None, OnOk, Some, length, true};
+ghost use Rattle.std.specs.Prelude.{◌≡◌, ◌≢◌, ◌⊎◌, ◌<◌, ◌^◌, IfErr, IfOk, None, OnOk, Some, length, true};
 ghost use Rattle.gmp_seq.specs.Fits.{AreLimits};
 ghost use Rattle.gmp_host.specs.Ends.{TellsOf};
 
@@ -36,17 +36,19 @@ pub(crate) fn ended(
     outcome: Option<Outcome>,
     history: &History,
 ) -> Result<Ended, Short>
+    requires few { bodies < 2 ^ 16 }
     ensures outcome { IfOk result (λ e. outcome ≡ Some e.outcome) }
     ensures entries { IfOk result (λ e. length history.now.list ≡ e.entries) }
-    ensures tells { IfOk result (λ e. TellsOf limits bodies capacities.now history.now.list e.waiting.items e.lately.items) }
-    ensures none { IfErr result (λ e. (e ≡ Short.NoEnd) × (outcome ≡ None)) }
+    ensures tells { IfOk result (λ e. TellsOf limits bodies capacities.now history.now.list e.outcome e.waiting.items e.lately.items) }
+    ensures none { IfErr result (λ e. e ≡ Short.NoEnd → outcome ≡ None) }
+    ensures kinds { IfErr result (λ e. (e ≡ Short.NoEnd) ⊎ (e ≡ Short.OutOfMemory)) }
 {
     let Some(outcome) = outcome else {
         return Err(Short::NoEnd);
     };
     let AtEnd { waiting, lately } = told_at_end(
         alloc, limits, bodies, capacities, outcome, history,
-    );
+    )?;
     Ok(Ended {
         outcome,
         entries: history.len() as u64,

@@ -1,12 +1,15 @@
 //! Who is not done at the end of a run, and who ran lately.
+ghost use Rattle.std.specs.Prelude.{◌≡◌, ◌<◌, ◌^◌, IfErr, IfOk};
 ghost use Rattle.gmp_host.specs.Ends.{TellsOf};
 
+use crate::ending::Short;
 use gmp_history::History;
 use gmp_seq::{Limits, Outcome};
 use gmp_waits::{AtEnd, at_end};
 use std::alloc::Global;
 
-/// Of a run that main didn't end: the goroutines that began and are not done, and those that ran lately, if there is memory to find them.
+/// The goroutines that began and are not done, and those that ran lately; of a run that main ended none. Where memory is refused it falls
+/// short.
 pub(crate) fn told_at_end(
     alloc: Global,
     limits: Limits,
@@ -14,17 +17,17 @@ pub(crate) fn told_at_end(
     capacities: &[u32],
     outcome: Outcome,
     history: &History,
-) -> AtEnd
-    ensures { TellsOf limits bodies capacities.now history.now.list result.waiting.items result.lately.items }
+) -> Result<AtEnd, Short>
+    requires few { bodies < 2 ^ 16 }
+    ensures tells { IfOk result (λ end. TellsOf limits bodies capacities.now history.now.list outcome end.waiting.items end.lately.items) }
+    ensures memory { IfErr result (λ e. e ≡ Short.OutOfMemory) }
 {
-    if outcome != Outcome::MainEnded
-        && let Ok(bodies) = u16::try_from(bodies)
-        && let Some(told) = at_end(alloc, limits, bodies, capacities, history)
-    {
-        return told;
+    if let Outcome::MainEnded = outcome {
+        return Ok(AtEnd {
+            waiting: Vec::new(alloc),
+            lately: Vec::new(alloc),
+        });
     }
-    AtEnd {
-        waiting: Vec::new(alloc),
-        lately: Vec::new(alloc),
-    }
+    let told = at_end(alloc, limits, bodies as u16, capacities, history);
+    told.ok_or(Short::OutOfMemory)
 }

@@ -4,7 +4,7 @@ use gmp_host::{
     Ask, Channel, Ended, Fault, GNo, Goroutine, History, Host, Nonsense, Note, Ranked, Settings,
     Short, Woke,
 };
-use std::alloc::Global;
+use std::alloc::{AllocError, Global};
 
 /// What is wrong.
 #[derive(Clone, Copy, Drop)]
@@ -17,7 +17,7 @@ pub enum Bug {
     Closed,
 }
 
-/// How machines are drawn.
+/// How a schedule is drawn.
 #[derive(Clone, Copy, Drop)]
 pub enum Draws {
     Even,
@@ -36,17 +36,17 @@ pub enum Way {
 
 impl Way {
     /// How it ends, and its history, where it is replayed.
-    fn run(self, host: Host) -> Result<(Ended, Option<History>), Short> {
+    fn run(self, alloc: Global, host: Host) -> Result<(Ended, Option<History>), Short> {
         match self {
             Way::InTurn => Ok((host.step()?, None)),
             Way::Drawn(draws, seed) => match draws {
                 Draws::Even => Ok((host.step_by(seed)?, None)),
-                Draws::Ranked => Ok((host.step_dealt(ranked(seed))?, None)),
+                Draws::Ranked => Ok((host.step_dealt(ranked(alloc, seed)?)?, None)),
             },
             Way::Replayed(draws, seed) => {
                 let run = match draws {
                     Draws::Even => host.replay(seed),
-                    Draws::Ranked => host.replay_dealt(ranked(seed)),
+                    Draws::Ranked => host.replay_dealt(ranked(alloc, seed)?),
                 }?;
                 Ok((run.ended, Some(run.history)))
             }
@@ -54,14 +54,14 @@ impl Way {
     }
 }
 
-/// How often a machine falls behind, where they have ranks, and among how many acts.
-const FALLS: u8 = 3;
+/// How often one falls behind, where goroutines have ranks, and among how many steps.
+const FALLS: u8 = 1;
 
-const ACTS: u32 = 100;
+const STEPS: u32 = 40;
 
-/// Ranks that are drawn from this seed.
-fn ranked(seed: u64) -> Ranked {
-    Ranked::new(seed, FALLS, ACTS)
+/// Ranks for three goroutines that are drawn from this seed.
+fn ranked(alloc: Global, seed: u64) -> Result<Ranked, AllocError> {
+    Ranked::new(alloc, seed, 3, FALLS, STEPS)
 }
 
 /// Main: it starts goroutines 1 and 2, and receives so often.
@@ -208,7 +208,7 @@ fn locks(alloc: Global, way: Way) -> Result<(Ended, Option<History>), Short> {
         })?;
         host.push(locker)?;
     }
-    way.run(host)
+    way.run(alloc, host)
 }
 
 /// Main, who waits, and who wakes it, run so.
@@ -225,7 +225,7 @@ fn wake_up(alloc: Global, way: Way) -> Result<(Ended, Option<History>), Short> {
     host.push(waiter)?;
     let waker = host.boxed(Waker { flag })?;
     host.push(waker)?;
-    way.run(host)
+    way.run(alloc, host)
 }
 
 /// Main and the two senders, run so.
@@ -242,7 +242,7 @@ fn closed(alloc: Global, way: Way) -> Result<(Ended, Option<History>), Short> {
         })?;
         host.push(sender)?;
     }
-    way.run(host)
+    way.run(alloc, host)
 }
 
 /// Main and two goroutines that go wrong so, run so.

@@ -308,7 +308,7 @@ fn are_same(alloc: Global, one: Option<History>, other: Option<History>) -> Resu
     Ok(one.len() == other.len())
 }
 
-/// What searches through 1000 seeds of such a program find, machines drawn so: the first seed whose run does not end well, whether it makes that
+/// What searches through 1000 seeds of such a program find, its schedule drawn so: the first seed whose run does not end well, whether it makes that
 /// run again, twice, the shortest such run, and how many there are.
 fn show_found<R: Print>(rt: &R, alloc: Global, words: &str, bug: Bug, draws: Draws) -> Result<()> {
     let ill = Note::new(alloc)?;

@@ -1,24 +1,32 @@
 use Rattle.std.proofs.Common.{◌≡◌, ◌∙◌, ℕ, IfErr, List, ap, length, rules, subst, sym, tests, vec_len}
 use Rattle.gmp_seq.specs.declared.call.Entry.{Entry}
+use Rattle.gmp_turn.specs.Whole.{IsWholeRun}
 use Rattle.gmp_host.specs.declared.ending.Short.TheVariants as short
 use Rattle.gmp_host.specs.Ends.{TellsOf}
 use Rattle.gmp_host.specs.Played.{HasNoDrawnEnd}
-use Rattle.gmp_host.proofs.Again.{err_of, legal_told}
+use Rattle.gmp_host.proofs.Again.{err_of, legal_told, no_bad_limits, within_opening}
 use Rattle.gmp_host.proofs.drawing.draw_all.Goals as goal
 
 -- the run came to no outcome
 pub returns-in_err-ended-clause-endless : goal.returns-in_err-ended-clause-endless
 returns-in_err-ended-clause-endless g c =
-    let none = c.in_err-ended.ensures.none in
     let same : IfErr c.from_residual-in_err-ended.result (λ e. e ≡ c.in_err-ended.field-0.0) = search (rules, tests) in
-    let end : HasNoDrawnEnd g.T.InHand.resumed g.T.InHand.called g.D.Dealer.deals c.args.dealer c.args.is_fair c.args.limits c.args.capacities.now c.args.bodies.items = record { last = c.in_ok-run.run'; drawn = c.in_ok-run.ensures.played; none = sym c.outcome.ensures ∙ none.1 } in
-    err_of (λ e. e ≡ short.NoEnd → HasNoDrawnEnd g.T.InHand.resumed g.T.InHand.called g.D.Dealer.deals c.args.dealer c.args.is_fair c.args.limits c.args.capacities.now c.args.bodies.items) c.in_err-ended.field-0.0 c.from_residual-in_err-ended.result same (λ _. end)
+    err_of (λ e. e ≡ short.NoEnd → HasNoDrawnEnd g.T.InHand.resumed g.T.InHand.called g.D.Dealer.deals c.args.dealer c.args.is_fair c.args.limits c.args.capacities.now c.args.bodies.items) c.in_err-ended.field-0.0 c.from_residual-in_err-ended.result same
+    (λ is. record { last = c.in_ok-run.run'; drawn = c.in_ok-run.ensures.played; none = sym c.outcome.ensures ∙ c.in_err-ended.ensures.none is })
 
 pub returns-in_err-ended-clause-limits : goal.returns-in_err-ended-clause-limits
 returns-in_err-ended-clause-limits g c =
-    let none = c.in_err-ended.ensures.none.0 in
+    let kinds = c.in_err-ended.ensures.kinds in
     let same : IfErr c.from_residual-in_err-ended.result (λ e. e ≡ c.in_err-ended.field-0.0) = search (rules, tests) in
-    err_of (λ e. e ≡ short.BadLimits → _ → ⊥) c.in_err-ended.field-0.0 c.from_residual-in_err-ended.result same (λ bad. cc)
+    err_of (λ e. e ≡ short.BadLimits → _ → ⊥) c.in_err-ended.field-0.0 c.from_residual-in_err-ended.result same (λ bad _. no_bad_limits c.in_err-ended.field-0.0 kinds bad)
+
+-- memory was refused once the run was made
+pub returns-in_err-ended-clause-memory : goal.returns-in_err-ended-clause-memory
+returns-in_err-ended-clause-memory g c =
+    let book = c.in_ok-run.run'.core.system.book in
+    let same : IfErr c.from_residual-in_err-ended.result (λ e. e ≡ c.in_err-ended.field-0.0) = search (rules, tests) in
+    let within = within_opening c.args.limits c.args.capacities.now (length c.args.bodies.items) book c.in_ok-run.ensures.opened c.history.ensures.within in
+    err_of (λ e. e ≡ short.OutOfMemory → IsWholeRun c.args.limits (length c.args.bodies.items) c.args.capacities.now) c.in_err-ended.field-0.0 c.from_residual-in_err-ended.result same (λ is. (within, c.in_ok-run.ensures.whole))
 
 -- it is legal, and its history is kept
 pub returns-clause-ended : goal.returns-clause-ended
@@ -27,19 +35,24 @@ returns-clause-ended g c =
     let entries = ap (λ h. length h) (sym c.history.ensures.entries) ∙ c.in_ok-ended.ensures.entries in
     let size : vec_len c.args.bodies ≡ length c.args.bodies.items = search rules in
     let count =
-    subst (λ (n : ℕ). TellsOf c.args.limits n c.args.capacities.now c.history.result.now.list c.in_ok-ended.field-0.waiting.items c.in_ok-ended.field-0.lately.items) (c.len-count.ensures ∙ size) c.in_ok-ended.ensures.tells in
+    subst (λ (n : ℕ). TellsOf c.args.limits n c.args.capacities.now c.history.result.now.list c.in_ok-ended.field-0.outcome c.in_ok-ended.field-0.waiting.items c.in_ok-ended.field-0.lately.items) (c.len-count.ensures ∙ size) c.in_ok-ended.ensures.tells in
     let tells =
-    subst (λ (h : List Entry). TellsOf c.args.limits (length c.args.bodies.items) c.args.capacities.now h c.in_ok-ended.field-0.waiting.items c.in_ok-ended.field-0.lately.items) c.history.ensures.entries count in
+    subst (λ (h : List Entry). TellsOf c.args.limits (length c.args.bodies.items) c.args.capacities.now h c.in_ok-ended.field-0.outcome c.in_ok-ended.field-0.waiting.items c.in_ok-ended.field-0.lately.items) c.history.ensures.entries count in
     let told = legal_told c.args.limits c.args.capacities.now (length c.args.bodies.items) book c.in_ok-ended.field-0 c.in_ok-run.ensures.opened c.history.ensures.headline.legal c.history.ensures.within
     (sym c.outcome.ensures ∙ c.in_ok-ended.ensures.outcome) entries tells in
     (told.0, λ keeps. c.in_ok-history.ensures keeps ∙ (c.history-2.ensures.entries ∙ sym told.1))
 
 pub returns-clause-drawn : goal.returns-clause-drawn
-returns-clause-drawn g c = (
-  record {
-    last = c.in_ok-run.run';
-    drawn = c.in_ok-run.ensures.played;
-    ends = record { outcome = sym c.outcome.ensures ∙ c.in_ok-ended.ensures.outcome; entries = ap (λ h. length h) (sym c.history.ensures.entries) ∙ c.in_ok-ended.ensures.entries };
-  },
-  λ keeps. c.in_ok-history.ensures keeps ∙ c.history-2.ensures.entries,
-)
+returns-clause-drawn g c =
+    let size : vec_len c.args.bodies ≡ length c.args.bodies.items = search rules in
+    let count =
+    subst (λ (n : ℕ). TellsOf c.args.limits n c.args.capacities.now c.history.result.now.list c.in_ok-ended.field-0.outcome c.in_ok-ended.field-0.waiting.items c.in_ok-ended.field-0.lately.items) (c.len-count.ensures ∙ size) c.in_ok-ended.ensures.tells in
+    let tells =
+    subst (λ (h : List Entry). TellsOf c.args.limits (length c.args.bodies.items) c.args.capacities.now h c.in_ok-ended.field-0.outcome c.in_ok-ended.field-0.waiting.items c.in_ok-ended.field-0.lately.items) c.history.ensures.entries count in (
+      record {
+        last = c.in_ok-run.run';
+        drawn = c.in_ok-run.ensures.played;
+        ends = record { outcome = sym c.outcome.ensures ∙ c.in_ok-ended.ensures.outcome; entries = ap (λ h. length h) (sym c.history.ensures.entries) ∙ c.in_ok-ended.ensures.entries; tells = tells };
+      },
+      λ keeps. c.in_ok-history.ensures keeps ∙ c.history-2.ensures.entries,
+    )

@@ -1,16 +1,18 @@
-use Rattle.std.proofs.Common.{◌≡◌, ◌<◌, ◌≤◌, ℕ, All, length, max}
+use Rattle.std.proofs.Common.{◌≡◌, ◌%◌, length, max}
+use Rattle.gmp_chance.specs.Ranked.{drawn, ranks_drawn, seeded_55}
 use Rattle.gmp_chance.proofs.ranked.Ranked.new.Given as goal
 
 -- so many ranks were drawn
 abbrev pub invariant-loop : goal.invariant-loop
 invariant-loop l = record {
-  drawn : length l.ranks.items ≡ l.counter;
-  high : All (λ (rank : ℕ). 8 ≤ rank) l.ranks.items;
+  ranks : l.ranks.items ≡ (drawn (λ n. max n 8) l.counter (seeded_55 l.fn.seed)).0;
+  generator : l.generator ≡ (drawn (λ n. max n 8) l.counter (seeded_55 l.fn.seed)).1;
 }
 
 -- and so many falls
 abbrev pub invariant-loop-2 : goal.invariant-loop-2
 invariant-loop-2 l = record {
-  drawn : length l.at.items ≡ l.counter;
-  among : All (λ (act : ℕ). act < max l.fn.acts 1) l.at.items;
+  falls : l.at.items ≡ (drawn (λ n. n % max l.fn.steps 1) l.counter (ranks_drawn l.fn.seed l.fn.goroutines).1).0;
+  generator : l.generator ≡ (drawn (λ n. n % max l.fn.steps 1) l.counter (ranks_drawn l.fn.seed l.fn.goroutines).1).1;
+  few : length l.at.items ≡ l.counter;
 }
