@@ -1,0 +1,219 @@
+//! The scheduler for C: a handle, numbers, and the functions of native/c/gmp.h. Each is one call of gmp_stand, whose clauses stand here over
+//! what the handle's box holds.
+//!
+//! What C passes is trusted to be what the header says: a handle that `gmp_open` made and `gmp_close` did not take, pointers that are valid,
+//! and counts that are right. What the numbers say is judged here: no number is refused but limits.
+#![tactic(auto)]
+
+ghost use Rattle.std.specs.Prelude.{◌≡◌, ◌≢◌, ◌⊎◌, ◌<◌, ◌↔◌, ℕ, length, true};
+ghost use Rattle.std.specs.Int.{bit_at};
+ghost use Rattle.gmp_seq.specs.Fits.{AreLimits};
+ghost use Rattle.gmp_acts.specs.Headline.{SameOpening};
+ghost use Rattle.gmp_acts.specs.Lookouts.{NoWorkIsAsleep};
+ghost use Rattle.gmp_fair.specs.Fair.{AllSteady};
+ghost use Rattle.gmp_core.specs.Stage.{parked};
+ghost use Rattle.gmp_core.specs.Whole.{HeadlineOf, emptied};
+ghost use Rattle.gmp_stand.specs.Replayed.{doing_at};
+ghost use Rattle.gmp_trace.specs.Text.{text};
+ghost use Rattle.gmp_stand.specs.Told.{trace_of};
+ghost use Rattle.gmp_c.specs.Checking.{IsBadText, IsRightText};
+ghost use Rattle.gmp_c.specs.Words.{IsOpening, IsWritten, Turned, doing_number, handed_of, limits_of, outcome_number};
+
+mod checking;
+mod copying;
+mod handle;
+mod loose;
+mod words;
+
+use crate::checking::first_bad;
+use crate::copying::copied;
+use crate::handle::{Handle, Opaque, loosened, put};
+use crate::words::{
+    AskWords, CaseWords, EventWords, LimitWords, handed, number_of, number_of_doing, words_of,
+};
+use gmp_base::{GNo, MNo};
+use gmp_stand::{Stand, TextError};
+use gmp_trace::{Bad, Why};
+use std::alloc::Global;
+
+/// The number of the header's functions.
+const VERSION: u32 = 1;
+
+/// Want of memory, as a refusal's number.
+const OUT_OF_MEMORY: u32 = 28;
+
+/// That a history is not kept whole.
+const NOT_WHOLE: u32 = 32;
+
+/// That a text is no right trace's.
+const WRONG: u32 = 1;
+
+/// That C may pass the handle to another thread.
+fn crosses<T: Send>(_value: &T) {}
+
+/// Opens a run of so many goroutines and channels of these capacities, and writes the handle's word. Answers 0, or the number of the
+/// refusal.
+#[unsafe(no_mangle)]
+pub extern "C" fn gmp_open(
+    alloc: Global,
+    limits: &LimitWords,
+    goroutines: u16,
+    capacities: &[u32],
+    fair: bool,
+    out: &mut *mut Opaque,
+) -> u32
+    ensures { IsOpening (AreLimits (limits_of limits.now) goroutines capacities.now) result }
+{
+    match Stand::open(alloc, limits.limits(), goroutines, capacities, fair) {
+        Ok(stand) => {
+            crosses(&stand);
+            match Box::new(alloc, stand) {
+                Ok(stand) => {
+                    *out = put(stand);
+                    0
+                }
+                Err(_) => OUT_OF_MEMORY,
+            }
+        }
+        Err(why) => u32::from(why.number()),
+    }
+}
+
+/// Lets the run go.
+#[unsafe(no_mangle)]
+pub extern "C" fn gmp_close(alloc: Global, h: Handle) {
+    let _ = loosened(h, alloc).into_box();
+}
+
+/// The number of the header's functions.
+#[unsafe(no_mangle)]
+pub extern "C" fn gmp_version() -> u32
+    ensures { result ≡ 1 }
+{
+    VERSION
+}
+
+/// Machine m acts until it needs something from outside, and writes what that is.
+#[unsafe(no_mangle)]
+pub extern "C" fn gmp_turn(
+    h: &mut Handle,
+    m: u8,
+    ask: &AskWords,
+    cases: &[CaseWords],
+    moment: u64,
+    word: u64,
+    event: &mut EventWords,
+)
+    ensures turn { Turned m (handed_of ask.now cases.now moment word) h.old.value.core h.new.value.core event.new }
+    ensures steady { AllSteady h.old.value.core.system → AllSteady h.new.value.core.system }
+    ensures headline { HeadlineOf h.new.value.core.system }
+    ensures awake { NoWorkIsAsleep h.new.value.core.system }
+    ensures opened { SameOpening h.old.value.core.system.book h.new.value.core.system.book }
+    ensures piece { h.new.value.piece ≡ h.old.value.piece }
+{
+    let handed = handed(ask, cases, moment, word);
+    *event = words_of(h.get().turn(MNo(m), handed));
+}
+
+/// Which machines are parked: bit m is machine m's.
+#[unsafe(no_mangle)]
+pub extern "C" fn gmp_parked(h: &mut Handle) -> u64
+    ensures set { (m : ℕ) → m < 64 → (bit_at result m ≡ 1) ↔ (parked h.old.value.core.system m ≡ true) }
+    ensures same { h.new.value ≡ h.old.value }
+{
+    h.get().parked_set()
+}
+
+/// How the run ended: 0, if it did not; 1, main ended; 2, all are asleep; 3, there are as many entries as there may be.
+#[unsafe(no_mangle)]
+pub extern "C" fn gmp_outcome(h: &mut Handle) -> u32
+    ensures outcome { result ≡ outcome_number h.old.value.core.system.book.state.outcome }
+    ensures same { h.new.value ≡ h.old.value }
+{
+    number_of(h.get().outcome())
+}
+
+/// How many entries the history has since the last hand-out.
+#[unsafe(no_mangle)]
+pub extern "C" fn gmp_entries(h: &mut Handle) -> u64
+    ensures entries { result ≡ length h.old.value.core.system.book.history }
+    ensures same { h.new.value ≡ h.old.value }
+{
+    h.get().history().len() as u64
+}
+
+/// What goroutine g does, by its number; 7 where that is unknown.
+#[unsafe(no_mangle)]
+pub extern "C" fn gmp_status(h: &mut Handle, g: u16) -> u32
+    ensures status { (result ≡ 7) ⊎ (result ≡ doing_number (doing_at h.old.value.core.system.book.state.table.goroutines (record { 0 = g }))) }
+    ensures same { h.new.value ≡ h.old.value }
+{
+    number_of_doing(h.get().doing(GNo(g)))
+}
+
+/// Hands out the entries since the last time, as a piece, so that the history has room again. Answers 0, or 28 for want of memory.
+#[unsafe(no_mangle)]
+pub extern "C" fn gmp_hand_out(h: &mut Handle) -> u32
+    ensures out { result ≡ 0
+        → h.new.value ≡ record { core = record h.old.value.core { system = emptied h.old.value.core.system }; piece = h.old.value.core.system.book.history } }
+    ensures refused { result ≢ 0 → (result ≡ 28) × (h.new.value ≡ h.old.value) }
+{
+    match h.get().hand_out() {
+        Ok(()) => 0,
+        Err(_) => OUT_OF_MEMORY,
+    }
+}
+
+/// How many entries the piece has that was handed out last.
+#[unsafe(no_mangle)]
+pub extern "C" fn gmp_piece_len(h: &mut Handle) -> u64
+    ensures length { result ≡ length h.old.value.piece }
+    ensures same { h.new.value ≡ h.old.value }
+{
+    match h.get().piece() {
+        Some(piece) => piece.len() as u64,
+        None => 0,
+    }
+}
+
+/// Writes the text of the run's trace into the buffer, as much as there is room for, and how long it is. Answers 0, or 28 for want of memory,
+/// or 32 where the history is not kept whole: then nothing is written.
+#[unsafe(no_mangle)]
+pub extern "C" fn gmp_text(h: &mut Handle, buffer: &mut [u8], len: &mut u64) -> u32
+    ensures text { result ≡ 0 → IsWritten (text (trace_of h.old.value.core.system)) buffer.old buffer.new len.new }
+    ensures refused { result ≢ 0 → ((result ≡ 28) ⊎ (result ≡ 32)) × (buffer.new ≡ buffer.old) × (len.new ≡ len.old) }
+    ensures same { h.new.value ≡ h.old.value }
+{
+    match h.get().text() {
+        Ok(text) => {
+            *len = copied(&text, buffer) as u64;
+            0
+        }
+        Err(TextError::OutOfMemory) => OUT_OF_MEMORY,
+        Err(TextError::NotWhole) => NOT_WHOLE,
+    }
+}
+
+/// Whether this is the text of a right trace, of whichever scheduler: 0, if it is; 1, if it is not, and the line is the first bad one; 28 for
+/// want of memory.
+#[unsafe(no_mangle)]
+pub extern "C" fn gmp_check_text(alloc: Global, text: &[u8], line: &mut u64) -> u32
+    ensures right { result ≡ 0 → IsRightText text.now }
+    ensures wrong { result ≡ 1 → IsBadText text.now line.new }
+    ensures exact { IsRightText text.now → result ≢ 1 }
+    ensures kinds { (result ≡ 0) ⊎ (result ≡ 1) ⊎ (result ≡ 28) }
+{
+    match first_bad(alloc, text) {
+        None => 0,
+        Some(
+            Bad {
+                why: Why::OutOfMemory,
+                ..
+            },
+        ) => OUT_OF_MEMORY,
+        Some(bad) => {
+            *line = bad.line;
+            WRONG
+        }
+    }
+}

@@ -1,0 +1,219 @@
+/* Kuvendyra for C: the proved goroutine scheduler, by numbers, behind one handle.
+ *
+ * The library keeps the scheduler's state: goroutines by their numbers, machines, processors, channels, and the history of every call. It
+ * knows no bodies, threads, values or clocks. The host keeps those. It calls gmp_turn for a machine, does what the event says, and calls
+ * again. A machine is a worker of the host: a thread of its own, or one of several that one thread serves.
+ *
+ * One call at a time on a handle. It may go from thread to thread, so a host with several threads keeps it behind a mutex of its own, and
+ * runs bodies and blocking calls outside of that.
+ *
+ * Each pointer is to be valid, and an array to have as many elements as its count says; where the count is 0 the pointer may be any. An
+ * enum below lists the values of a uint32_t. C11. Link with libgmp_c.a and the C part of the library, or with malloc's stand-in of a host.
+ */
+#ifndef GMP_H
+#define GMP_H
+
+#include <stdbool.h>
+#include <stddef.h>
+#include <stdint.h>
+
+#ifdef __cplusplus
+extern "C" {
+#endif
+
+/* The version of this file's functions: gmp_version() answers the same number. */
+#define GMP_VERSION 1u
+
+/* Limits, of which gmp_open refuses any that are greater. */
+#define GMP_MAX_PROCS 32u          /* processors */
+#define GMP_MAX_MACHINES 64u       /* machines; no fewer than processors */
+#define GMP_MAX_GOROUTINES 4096u   /* goroutines; at least one, which is main, number 0 */
+#define GMP_MAX_CHANNELS 1024u     /* channels that are there at the opening or are made later */
+#define GMP_MAX_CAPACITY 4096u     /* values that one channel has room for */
+#define GMP_MIN_ROOM 16u           /* entries that the history holds at a time, at least */
+#define GMP_MAX_ROOM 1000000u      /* and at most; no more than all entries of the run, of which there are fewer than 2^63 */
+#define GMP_MAX_CASES 8u           /* cases of one select */
+
+/* In place of a channel's number: nil, on which a send or receive waits for good. Another number that no channel has is a fault. */
+#define GMP_NIL UINT32_MAX
+
+/* In place of a deadline: there is none. */
+#define GMP_NEVER UINT64_MAX
+
+/* The handle: one word. gmp_open makes it, and gmp_close takes it back; no copy of it is used afterwards. */
+typedef struct { void *at; } gmp;
+
+/* How large a run may be. */
+typedef struct {
+    uint8_t procs;       /* processors, which are all active at first */
+    uint8_t machines;    /* machines, numbered from 0 */
+    uint16_t channels;   /* channels */
+    uint32_t room;       /* entries that the history holds at a time */
+    uint64_t entries;    /* entries of the whole run, after which it ends */
+} gmp_limits;
+
+/* What the goroutine that was resumed asks, or what its blocking call answered. Fields that a kind doesn't name aren't read. */
+typedef struct {
+    uint32_t kind;
+    uint32_t channel;
+    uint64_t value;
+} gmp_ask;
+
+/* gmp_ask.kind */
+enum {
+    GMP_NONE = 0,    /* nothing: no body was resumed since the last turn of this machine. Kinds that aren't listed are the same */
+    GMP_YIELD = 1,   /* gives the machine up, and waits its turn */
+    GMP_GO = 2,      /* starts goroutine `value`, which was not started before */
+    GMP_SPAWN = 3,   /* starts whichever goroutine is free: its first event names it */
+    GMP_MAKE = 4,    /* makes a channel with room for `value` values */
+    GMP_SEND = 5,    /* sends `value` on `channel` */
+    GMP_RECV = 6,    /* receives from `channel` */
+    GMP_CLOSE = 7,   /* closes `channel` */
+    GMP_LEN = 8,     /* how many values `channel` holds */
+    GMP_CAP = 9,     /* how many it has room for */
+    GMP_SELECT = 10, /* the cases; with a default if `channel` is 1; it waits until the moment `value`, or for good where that is GMP_NEVER */
+    GMP_SLEEP = 11,  /* until the moment `value` */
+    GMP_PROCS = 12,  /* lets `value` processors be active */
+    GMP_PARK = 13,   /* waits until another readies it */
+    GMP_READY = 14,  /* readies goroutine `value`, which is parked */
+    GMP_BLOCK = 15,  /* makes a blocking call: the event GMP_CALL says when */
+    GMP_EXIT = 16,   /* ends the goroutine; main's exit ends the run */
+    GMP_ANSWER = 17  /* the blocking call that GMP_CALL named is over, and answered `value` */
+};
+
+/* One case of a select: it sends `value` on `channel`, or receives from it. */
+typedef struct {
+    bool sends;
+    uint32_t channel;
+    uint64_t value;
+} gmp_case;
+
+/* What a machine came to. Fields that a kind doesn't name are 0. */
+typedef struct {
+    uint32_t kind;
+    uint32_t goroutine;
+    uint32_t woke;
+    bool ok;
+    uint64_t value;
+} gmp_event;
+
+/* gmp_event.kind */
+enum {
+    GMP_MORE = 0,   /* it made as many acts as one turn may: call gmp_turn again */
+    GMP_PARKED = 1, /* it has nothing to do until another machine wakes it: until its bit of gmp_parked is clear */
+    GMP_DONE = 2,   /* the run is over, and the machine gave all back; or there is no machine of this number */
+    GMP_RESUME = 3, /* `goroutine` goes on, told `woke`: run its body until it asks, and hand that in with the next turn of this machine */
+    GMP_CALL = 4,   /* `goroutine` makes its blocking call: hand its answer in as GMP_ANSWER. Other machines may have turns meanwhile */
+    GMP_WAIT = 5,   /* nothing to do before the moment `value`, unless another machine has a turn. A turn before it looks round once more */
+    GMP_FULL = 6    /* the history has no room: gmp_hand_out makes some. Call gmp_turn again with the same ask */
+};
+
+/* gmp_event.woke, of GMP_RESUME */
+enum {
+    GMP_FIRST = 1,       /* it begins */
+    GMP_OK = 2,          /* what it asked is done */
+    GMP_GOT = 3,         /* received `value`; `ok` is false where the channel is closed and empty, and `value` 0 */
+    GMP_DEFAULT = 4,     /* the select took its default */
+    GMP_LATE = 5,        /* the select's moment came first */
+    GMP_NUMBER = 6,      /* `value` is the length, the capacity, the number of processors before, or the blocking call's answer */
+    GMP_MADE = 7,        /* `value` is the number of the new channel */
+    GMP_FAULT = 8,       /* a run-time panic: `value` is its number, of those below */
+    GMP_NO_MEMORY = 9,   /* there was no memory for a channel */
+    GMP_CHOSE_SENT = 16, /* 16 + i: case i of the select sent, counted from 0 */
+    GMP_CHOSE_GOT = 512  /* 512 + i: case i of the select received `value`, with `ok` as of GMP_GOT */
+};
+
+/* gmp_event.value, of GMP_FAULT */
+enum {
+    GMP_NO_SUCH_BODY = 1,
+    GMP_ALREADY_STARTED = 2,
+    GMP_NO_SUCH_CHANNEL = 3,
+    GMP_SEND_ON_CLOSED = 4,
+    GMP_CLOSE_OF_CLOSED = 5,
+    GMP_CLOSE_OF_NIL = 6,
+    GMP_NOT_PARKED = 7,
+    GMP_BAD_CAPACITY = 8,
+    GMP_TOO_MANY_CHANNELS = 9,
+    GMP_BAD_PROCS = 10
+};
+
+/* Why a function refused; 0 is no refusal. */
+enum {
+    GMP_WRONG = 1,          /* of gmp_check_text: the text is no right trace's */
+    GMP_OUT_OF_MEMORY = 28,
+    GMP_BAD_LIMITS = 29,    /* of gmp_open */
+    GMP_NOT_WHOLE = 32      /* of gmp_text: the history is not kept whole */
+};
+
+/* gmp_outcome */
+enum {
+    GMP_RUNS = 0,       /* the run lasts */
+    GMP_MAIN_ENDED = 1, /* main exited */
+    GMP_ALL_ASLEEP = 2, /* nobody can ever go on */
+    GMP_BOOK_FULL = 3   /* there are as many entries as the limits allow */
+};
+
+/* gmp_status */
+enum {
+    GMP_DORMANT = 0, /* not started */
+    GMP_IS_READY = 1,
+    GMP_RUNNING = 2, /* a machine runs it */
+    GMP_CALLING = 3, /* it is in its blocking call */
+    GMP_WAITING = 4, /* for a channel, a moment, or another goroutine */
+    GMP_DEAD = 5,    /* it ended */
+    GMP_NOBODY = 6,  /* there is no goroutine of this number */
+    GMP_UNKNOWN = 7  /* memory was refused, or entries were handed out: the answer is read from the whole history */
+};
+
+/* Opens a run of so many goroutines, with channels of these n capacities, numbered from 0. Machines that are fair look at each queue from
+ * time to time, so that no ready goroutine waits for ever. Answers 0 and writes the handle's word, or answers why not, and writes nothing:
+ *     gmp h; uint32_t why = gmp_open(&limits, goroutines, capacities, n, true, &h.at); */
+uint32_t gmp_open(const gmp_limits *limits, uint16_t goroutines, const uint32_t *capacities, size_t n, bool fair, void **out);
+
+/* Lets all go. What the host has of goroutines is its own. */
+void gmp_close(gmp h);
+
+/* GMP_VERSION of the library. */
+uint32_t gmp_version(void);
+
+/* Machine m acts until it needs something from outside, and *event says what. The ask is that of the goroutine that the last event of this
+ * machine resumed, or its call's answer; else its kind is GMP_NONE. A select's n cases lie beside it; with more than GMP_MAX_CASES it is
+ * no ask. An ask that the machine doesn't wait for, or that is none, is passed over: a goroutine to be resumed is named once more.
+ * `now` is what the clock shows, in nanoseconds; a moment before an earlier one is taken as that. `word` is any number: selects and steals
+ * draw by it. With the same limits, asks, moments and words in the same order the run is the same. */
+void gmp_turn(gmp *h, uint8_t m, const gmp_ask *ask, const gmp_case *cases, size_t n, uint64_t now, uint64_t word, gmp_event *event);
+
+/* The set of machines that are parked: bit m is machine m's. A host that sleeps in a machine's thread wakes it when its bit is clear. */
+uint64_t gmp_parked(gmp *h);
+
+/* How the run ended, if it did. */
+uint32_t gmp_outcome(gmp *h);
+
+/* How many entries the history holds since the last hand-out. */
+uint64_t gmp_entries(gmp *h);
+
+/* What goroutine g does. It reads the history from its beginning, so it is for the end, or for a person who asks. */
+uint32_t gmp_status(gmp *h, uint16_t g);
+
+/* Takes the entries since the last hand-out out of the history, so that it has room again. Answers 0, or GMP_OUT_OF_MEMORY, and then
+ * nothing changed; it takes memory the first time alone. They are one piece of the run: what was handed out, in order, and what is left are
+ * one history. */
+uint32_t gmp_hand_out(gmp *h);
+
+/* How many entries the piece has that was handed out last; 0 before the first. */
+uint64_t gmp_piece_len(gmp *h);
+
+/* The text of the run so far as a trace, which gmp_check_text and the commands read: as many of its bytes as there is room for, and in *len
+ * how many it has. Answers 0; or GMP_NOT_WHOLE, where limits.room is less than limits.entries or a piece was handed out, or
+ * GMP_OUT_OF_MEMORY, and then writes nothing. */
+uint32_t gmp_text(gmp *h, uint8_t *buffer, size_t room, uint64_t *len);
+
+/* Whether these n bytes are the text of a right trace, of whichever scheduler: 0, if they are; GMP_WRONG, and in *line the first bad line,
+ * counted from 1; or GMP_OUT_OF_MEMORY, which says nothing of the text. It needs no handle. */
+uint32_t gmp_check_text(const uint8_t *text, size_t n, uint64_t *line);
+
+#ifdef __cplusplus
+}
+#endif
+
+#endif
