@@ -1,0 +1,256 @@
+//! How a run ended.
+use crate::fault::Fault;
+use crate::run::{Place, Waits};
+use crate::time::Moment;
+use crate::words::NIL;
+use std::fmt;
+
+/// What ended a run.
+///
+/// ```
+/// use kuvendyra::{Outcome, Runtime};
+///
+/// assert_eq!(Runtime::builder().block_on(async {}).outcome, Outcome::MainEnded);
+/// ```
+#[derive(Clone, Copy, Debug, PartialEq, Eq)]
+pub enum Outcome {
+    /// Main ended. Who had not ended by then was dropped.
+    MainEnded,
+    /// Nobody can ever go on.
+    Deadlock,
+    /// It made as many entries as it may, or there was no memory for more.
+    Full,
+    /// It did not begin: the limits are out of range, or there was no memory.
+    Refused,
+}
+
+/// A goroutine that ended by a panic.
+///
+/// ```
+/// use kuvendyra::{go, Runtime};
+///
+/// let ended = Runtime::builder().block_on(async {
+///     let _ = go(async { panic!("no") }).await;
+/// });
+/// assert_eq!((ended.panics[0].goroutine, ended.panics[0].message.as_str()), (1, "no"));
+/// ```
+#[derive(Clone, Debug, PartialEq, Eq)]
+pub struct Panicked {
+    /// Its number; main's is 0.
+    pub goroutine: u32,
+    /// What the panic said.
+    pub message: String,
+}
+
+/// A fault that a goroutine was told.
+///
+/// ```
+/// use kuvendyra::{channel, Fault, Runtime};
+///
+/// let ended = Runtime::builder().block_on(async {
+///     let _ = channel::<u8>(5000);
+/// });
+/// assert_eq!((ended.faults[0].goroutine, ended.faults[0].fault), (0, Fault::BadCapacity));
+/// ```
+#[derive(Clone, Debug, PartialEq, Eq)]
+pub struct Told {
+    /// Its number; main's is 0.
+    pub goroutine: u32,
+    /// What it was told.
+    pub fault: Fault,
+}
+
+/// A goroutine that had not ended when the run did.
+///
+/// ```
+/// use kuvendyra::{channel, sim};
+///
+/// let ended = sim::run(0, || async {
+///     let (_tx, rx) = channel::<u8>(0).unwrap();
+///     rx.recv().await;
+/// });
+/// assert_eq!(ended.left[0].waits, "to receive from channel 0");
+/// assert!(ended.left[0].is_stuck);
+/// ```
+#[derive(Clone, Debug, PartialEq, Eq)]
+pub struct Left {
+    /// Its number; main's is 0.
+    pub goroutine: u32,
+    /// Where it was started, if it isn't main.
+    pub started: Option<String>,
+    /// What it waits for, as in `to send on channel 3`.
+    pub waits: String,
+    /// Where it waits.
+    pub place: String,
+    /// Whether it waits for good: of a deadlock all do; where main ended, who waits with no deadline. Of a run whose
+    /// history was handed out, as one of more than 65,536 entries may be, the second isn't known, and this is false.
+    pub is_stuck: bool,
+}
+
+/// How a run ended. It prints as a report.
+///
+/// ```
+/// use kuvendyra::{channel, sim};
+///
+/// let ended = sim::run(3, || async {
+///     let (_tx, rx) = channel::<u8>(0).unwrap();
+///     rx.recv().await;
+/// });
+/// assert!(ended.to_string().starts_with("all goroutines are asleep"));
+/// assert!(!ended.is_clean());
+/// ```
+#[derive(Clone, Debug, PartialEq, Eq)]
+#[non_exhaustive]
+#[must_use = "it tells of panics, faults and deadlocks"]
+pub struct Ended {
+    /// What ended the run.
+    pub outcome: Outcome,
+    /// The seed of its choices.
+    pub seed: u64,
+    /// What main answered, if that was an `Err`.
+    pub error: Option<String>,
+    /// Who ended by a panic.
+    pub panics: Vec<Panicked>,
+    /// Which faults were told: those where Go panics.
+    pub faults: Vec<Told>,
+    /// Who had not ended, and what for.
+    pub left: Vec<Left>,
+    /// How many entries the history of the run has.
+    pub entries: u64,
+    /// What the run's clock showed at the end.
+    pub at: Moment,
+    /// The text of its trace, for the commands `gmp check`, `explain` and `draw`: of a run that was
+    /// [`traced`](crate::Builder::traced) or found by a search, if its history is whole.
+    pub trace: Option<String>,
+}
+
+impl Ended {
+    pub(crate) fn refused(seed: u64, number: u32) -> Ended {
+        let why = if number == 28 { "no memory" } else { "limits are out of range" };
+        Ended {
+            outcome: Outcome::Refused,
+            seed,
+            error: Some(why.into()),
+            panics: vec![],
+            faults: vec![],
+            left: vec![],
+            entries: 0,
+            at: Moment::default(),
+            trace: None,
+        }
+    }
+
+    /// Who was left waiting for good when main ended.
+    ///
+    /// ```
+    /// use kuvendyra::{channel, go, sim, yield_now};
+    ///
+    /// let ended = sim::run(0, || async {
+    ///     let (tx, rx) = channel::<u8>(0).unwrap();
+    ///     go(async move { rx.recv().await });
+    ///     yield_now().await;
+    ///     std::mem::forget(tx);
+    /// });
+    /// assert!(ended.leaks().count() <= 1);
+    /// ```
+    pub fn leaks(&self) -> impl Iterator<Item = &Left> {
+        let main_ended = self.outcome == Outcome::MainEnded;
+        self.left.iter().filter(move |left| main_ended && left.is_stuck)
+    }
+
+    /// Whether main ended and answered no error, nobody panicked or was told a fault, and nobody was left waiting for good.
+    ///
+    /// ```
+    /// use kuvendyra::Runtime;
+    ///
+    /// assert!(Runtime::builder().block_on(async {}).is_clean());
+    /// ```
+    pub fn is_clean(&self) -> bool {
+        self.outcome == Outcome::MainEnded
+            && self.error.is_none()
+            && self.panics.is_empty()
+            && self.faults.is_empty()
+            && self.leaks().next().is_none()
+    }
+}
+
+impl fmt::Display for Ended {
+    fn fmt(&self, f: &mut fmt::Formatter<'_>) -> fmt::Result {
+        let outcome = match self.outcome {
+            Outcome::MainEnded => "main ended",
+            Outcome::Deadlock => "all goroutines are asleep",
+            Outcome::Full => "the history is full",
+            Outcome::Refused => "refused",
+        };
+        write!(f, "{outcome}, after {} entries, at {}", self.entries, self.at)?;
+        if let Some(error) = &self.error {
+            write!(f, "\nmain: {error}")?;
+        }
+        for Panicked { goroutine, message } in &self.panics {
+            write!(f, "\ngoroutine {goroutine}: panicked: {message}")?;
+        }
+        for Told { goroutine, fault } in &self.faults {
+            write!(f, "\ngoroutine {goroutine}: fault: {fault}")?;
+        }
+        self.left.iter().try_for_each(|left| write!(f, "\n{left}"))
+    }
+}
+
+impl fmt::Display for Left {
+    fn fmt(&self, f: &mut fmt::Formatter<'_>) -> fmt::Result {
+        let Left { goroutine, waits, place, .. } = self;
+        match &self.started {
+            Some(started) => write!(f, "goroutine {goroutine}, started at {started}")?,
+            None => write!(f, "main")?,
+        }
+        let rest = if self.is_stuck { "" } else { ", and may go on" };
+        write!(f, ": waits {waits}, at {place}{rest}")
+    }
+}
+
+/// The text of a place.
+pub(crate) fn text_of(place: Place) -> String {
+    format!("{}:{}", place.file(), place.line())
+}
+
+fn channel(number: u32) -> String {
+    match number {
+        NIL => "a nil channel".into(),
+        n => format!("channel {n}"),
+    }
+}
+
+impl Waits {
+    /// Whether a deadline ends it.
+    pub fn has_deadline(&self) -> bool {
+        matches!(self, Waits::Sleep(_) | Waits::Select(_, Some(_)))
+    }
+
+    pub fn text(&self) -> String {
+        match self {
+            Waits::Send(c) => format!("to send on {}", channel(*c)),
+            Waits::Receive(c) => format!("to receive from {}", channel(*c)),
+            Waits::Select(cases, until) => select_text(cases, *until),
+            Waits::Sleep(until) => format!("until {until}"),
+            Waits::Turn => "for its turn".into(),
+            Waits::End(g) => format!("for goroutine {g} to end"),
+            Waits::Call => "for a blocking call".into(),
+            Waits::Other => "for a future that is none of this crate".into(),
+        }
+    }
+}
+
+fn select_text(cases: &[(bool, u32)], until: Option<Moment>) -> String {
+    let named = cases.iter().map(|(sends, c)| match sends {
+        true => format!("to send on {}", channel(*c)),
+        false => format!("to receive from {}", channel(*c)),
+    });
+    let mut named: Vec<String> = named.collect();
+    if let Some(until) = until {
+        named.push(format!("until {until}"));
+    }
+    match named.is_empty() {
+        true => "in a select without cases".into(),
+        false => format!("in a select, {}", named.join(", or ")),
+    }
+}

@@ -1,0 +1,346 @@
+//! Several channel operations of which one proceeds.
+use crate::ends::{Receiver, Sender};
+use crate::fault::{Fault, SendError};
+use crate::run::{Asking, Offer, Part, Place, Run, Waits};
+use crate::time::Moment;
+use crate::words::{ask, woke, Ask, Case, Event, MAX_CASES, NEVER, NIL};
+use std::future::Future;
+use std::panic::Location;
+
+/// What comes of a case.
+enum Comes<'e> {
+    Chosen(&'e Event),
+    /// It is a send that nobody can receive any more.
+    Refused,
+    Left,
+}
+
+/// A case, with what is done where it is chosen.
+trait Arm<R> {
+    /// What the scheduler is offered.
+    fn begin(&mut self) -> (Case, Part);
+    /// Which close of the run was that of the channel, if it is a send.
+    fn closed_as(&self) -> Option<u64>;
+    /// Whether it is a send whose receivers are gone.
+    fn is_refused(&self) -> bool;
+    fn end(self: Box<Self>, comes: Comes<'_>) -> Option<R>;
+}
+
+struct RecvArm<'a, T, F> {
+    rx: &'a Receiver<T>,
+    then: F,
+}
+
+impl<R, T: 'static, F: FnOnce(Option<T>) -> R> Arm<R> for RecvArm<'_, T, F> {
+    fn begin(&mut self) -> (Case, Part) {
+        self.rx.0.case(None)
+    }
+
+    fn closed_as(&self) -> Option<u64> {
+        None
+    }
+
+    fn is_refused(&self) -> bool {
+        false
+    }
+
+    fn end(self: Box<Self>, comes: Comes<'_>) -> Option<R> {
+        match comes {
+            Comes::Chosen(event) => Some((self.then)(self.rx.0.received(event))),
+            _ => None,
+        }
+    }
+}
+
+/// Where the value of a send comes from, and goes back to.
+enum Source<'a, T> {
+    Owned(Option<T>),
+    Lent(&'a mut Option<T>),
+}
+
+impl<T> Source<'_, T> {
+    fn place(&mut self) -> &mut Option<T> {
+        match self {
+            Source::Owned(value) => value,
+            Source::Lent(value) => value,
+        }
+    }
+}
+
+struct SendArm<'a, T, F> {
+    tx: &'a Sender<T>,
+    value: Source<'a, T>,
+    key: Option<u64>,
+    then: F,
+}
+
+impl<R, T: 'static, F: FnOnce(Result<(), SendError<T>>) -> R> Arm<R> for SendArm<'_, T, F> {
+    fn begin(&mut self) -> (Case, Part) {
+        let (mut case, part) = self.tx.0.case(self.value.place().take());
+        self.key = part.key;
+        if self.key.is_none() {
+            case = Case { sends: true, channel: NIL, value: 0 };
+        }
+        (case, part)
+    }
+
+    fn closed_as(&self) -> Option<u64> {
+        self.key.and(self.tx.0.closed_as())
+    }
+
+    fn is_refused(&self) -> bool {
+        self.tx.0.has_no_receiver()
+    }
+
+    fn end(mut self: Box<Self>, comes: Comes<'_>) -> Option<R> {
+        match (comes, self.key) {
+            (Comes::Chosen(event), Some(key)) => Some((self.then)(self.tx.0.sent(key, event))),
+            (Comes::Left, Some(key)) => {
+                *self.value.place() = self.tx.0.take(key);
+                None
+            }
+            (Comes::Refused, None) => {
+                let value = self.value.place().take()?;
+                Some((self.then)(Err(SendError { value, fault: Fault::NoReceiver })))
+            }
+            _ => None,
+        }
+    }
+}
+
+type Then<'a, R> = Box<dyn FnOnce() -> R + 'a>;
+
+/// Several channel operations of which one proceeds; each has a closure for what comes of it, and the select answers
+/// what that answers. It is for 8 cases at most, and it may have a default, or a deadline.
+///
+/// Of the cases that can proceed, the scheduler takes one by a word that the run draws.
+///
+/// ```
+/// use kuvendyra::{channel, go, Runtime, Select};
+///
+/// let ended = Runtime::builder().block_on(async {
+///     let (numbers, from_numbers) = channel::<u32>(0).unwrap();
+///     let (words, from_words) = channel::<&str>(0).unwrap();
+///     go(async move { numbers.send(7).await });
+///     let text = Select::new()
+///         .recv(&from_numbers, |got| format!("a number: {got:?}"))
+///         .recv(&from_words, |got| format!("a word: {got:?}"))
+///         .wait()
+///         .await;
+///     assert_eq!(text, "a number: Some(7)");
+///     drop(words);
+/// });
+/// assert!(ended.panics.is_empty(), "{ended}");
+/// ```
+pub struct Select<'a, R> {
+    arms: Vec<Box<dyn Arm<R> + 'a>>,
+    default: Option<Then<'a, R>>,
+    until: Option<(Moment, Then<'a, R>)>,
+}
+
+impl<'a, R: 'a> Select<'a, R> {
+    /// A select with no case. With nothing more it waits for good.
+    ///
+    /// ```
+    /// use kuvendyra::{sim, Outcome, Select};
+    ///
+    /// let ended = sim::run(0, || async { Select::<()>::new().wait().await });
+    /// assert_eq!(ended.outcome, Outcome::Deadlock);
+    /// ```
+    #[allow(clippy::new_without_default)]
+    pub fn new() -> Self {
+        Select { arms: vec![], default: None, until: None }
+    }
+
+    #[track_caller]
+    fn with(mut self, arm: impl Arm<R> + 'a) -> Self {
+        assert!(self.arms.len() < MAX_CASES, "a select has 8 cases at most");
+        self.arms.push(Box::new(arm));
+        self
+    }
+
+    /// One more case: to receive. The closure gets `None` where the channel is closed and empty.
+    ///
+    /// # Panics
+    ///
+    /// If it is the ninth case.
+    ///
+    /// ```
+    /// use kuvendyra::{channel, Runtime, Select};
+    ///
+    /// let ended = Runtime::builder().block_on(async {
+    ///     let (tx, rx) = channel::<u8>(1).unwrap();
+    ///     drop(tx);
+    ///     assert_eq!(Select::new().recv(&rx, |got| got).wait().await, None);
+    /// });
+    /// assert!(ended.panics.is_empty(), "{ended}");
+    /// ```
+    #[track_caller]
+    pub fn recv<T: 'static>(self, rx: &'a Receiver<T>, then: impl FnOnce(Option<T>) -> R + 'a) -> Self {
+        self.with(RecvArm { rx, then })
+    }
+
+    /// One more case: to send the value. If another case is chosen, the value is dropped; [`Select::send_from`] keeps it.
+    /// A send whose receivers are gone is chosen at once.
+    ///
+    /// # Panics
+    ///
+    /// If it is the ninth case.
+    ///
+    /// ```
+    /// use kuvendyra::{channel, Runtime, Select};
+    ///
+    /// let ended = Runtime::builder().block_on(async {
+    ///     let (tx, rx) = channel(1).unwrap();
+    ///     assert!(Select::new().send(&tx, 5, |sent| sent.is_ok()).wait().await);
+    ///     assert_eq!(rx.recv().await, Some(5));
+    /// });
+    /// assert!(ended.panics.is_empty(), "{ended}");
+    /// ```
+    #[track_caller]
+    pub fn send<T: 'static>(
+        self,
+        tx: &'a Sender<T>,
+        value: T,
+        then: impl FnOnce(Result<(), SendError<T>>) -> R + 'a,
+    ) -> Self {
+        let value = Source::Owned(Some(value));
+        self.with(SendArm { tx, value, key: None, then })
+    }
+
+    /// One more case: to send the value that is there. It is there again if another case is chosen. Where there is none
+    /// the case never proceeds.
+    ///
+    /// # Panics
+    ///
+    /// If it is the ninth case.
+    ///
+    /// ```
+    /// use kuvendyra::{channel, Runtime, Select};
+    ///
+    /// let ended = Runtime::builder().block_on(async {
+    ///     let (tx, _rx) = channel(0).unwrap();
+    ///     let mut value = Some(5);
+    ///     let sent = Select::new().send_from(&tx, &mut value, |_| true).or_default(|| false).wait().await;
+    ///     assert_eq!((sent, value), (false, Some(5)));
+    /// });
+    /// assert!(ended.panics.is_empty(), "{ended}");
+    /// ```
+    #[track_caller]
+    pub fn send_from<T: 'static>(
+        self,
+        tx: &'a Sender<T>,
+        value: &'a mut Option<T>,
+        then: impl FnOnce(Result<(), SendError<T>>) -> R + 'a,
+    ) -> Self {
+        let value = Source::Lent(value);
+        self.with(SendArm { tx, value, key: None, then })
+    }
+
+    /// What is done where no case can proceed now. It never waits then, and a deadline has no effect.
+    ///
+    /// ```
+    /// use kuvendyra::{channel, Runtime, Select};
+    ///
+    /// let ended = Runtime::builder().block_on(async {
+    ///     let (_tx, rx) = channel::<u8>(0).unwrap();
+    ///     assert_eq!(Select::new().recv(&rx, |_| 1).or_default(|| 2).wait().await, 2);
+    /// });
+    /// assert!(ended.panics.is_empty(), "{ended}");
+    /// ```
+    pub fn or_default(mut self, then: impl FnOnce() -> R + 'a) -> Self {
+        self.default = Some(Box::new(then));
+        self
+    }
+
+    /// What is done where no case has proceeded until the moment.
+    ///
+    /// ```
+    /// use kuvendyra::{channel, now, sim, Select};
+    /// use std::time::Duration;
+    ///
+    /// let ended = sim::run(0, || async {
+    ///     let (_tx, rx) = channel::<u8>(0).unwrap();
+    ///     let late = now() + Duration::from_secs(5);
+    ///     assert_eq!(Select::new().recv(&rx, |_| 1).until(late, || 2).wait().await, 2);
+    ///     assert_eq!(now(), late);
+    /// });
+    /// assert!(ended.panics.is_empty(), "{ended}");
+    /// ```
+    pub fn until(mut self, moment: Moment, then: impl FnOnce() -> R + 'a) -> Self {
+        self.until = Some((moment, Box::new(then)));
+        self
+    }
+
+    /// Waits until one of the cases proceeds, and answers what its closure answers.
+    ///
+    /// ```
+    /// use kuvendyra::{channel, Runtime, Select};
+    ///
+    /// let ended = Runtime::builder().block_on(async {
+    ///     let (tx, rx) = channel(1).unwrap();
+    ///     tx.send(3).await.unwrap();
+    ///     assert_eq!(Select::new().recv(&rx, |got| got).wait().await, Some(3));
+    /// });
+    /// assert!(ended.panics.is_empty(), "{ended}");
+    /// ```
+    #[track_caller]
+    pub fn wait(self) -> impl Future<Output = R> + 'a {
+        let place = Location::caller();
+        async move {
+            match self.refused() {
+                Ok(answer) => answer,
+                Err(select) => select.asked(place).await,
+            }
+        }
+    }
+
+    /// What a send answers whose receivers are gone; else the select again.
+    fn refused(mut self) -> Result<R, Self> {
+        match self.arms.iter().position(|arm| arm.is_refused()) {
+            None => Err(self),
+            Some(at) => match self.arms.remove(at).end(Comes::Refused) {
+                Some(answer) => Ok(answer),
+                None => self.refused(),
+            },
+        }
+    }
+
+    async fn asked(mut self, place: Place) -> R {
+        let (cases, parts): (Vec<_>, Vec<_>) = self.arms.iter_mut().map(|arm| arm.begin()).unzip();
+        let until = self.until.as_ref().map(|(moment, _)| *moment);
+        let named = cases.iter().map(|case| (case.sends, case.channel)).collect();
+        let ask = Ask::on(ask::SELECT, self.default.is_some().into(), until.map_or(NEVER, |m| m.0));
+        let waits = Waits::Select(named, until);
+        let event = Asking::new(Offer { id: 0, ask, cases, waits, place, parts, job: None }).await;
+        self.answer(&event)
+    }
+
+    /// The send whose channel was closed first: the fault is of that one.
+    fn first_closed(&self) -> Option<usize> {
+        let closed = self.arms.iter().enumerate().filter_map(|(i, arm)| Some((arm.closed_as()?, i)));
+        closed.min().map(|(_, i)| i)
+    }
+
+    /// What the chosen case answers; the values of the others go back.
+    fn answer(self, event: &Event) -> R {
+        let at = match event.woke {
+            woke::FAULT => self.first_closed(),
+            _ => event.chosen().map(|(case, _)| case),
+        };
+        let mut answer = None;
+        for (i, arm) in self.arms.into_iter().enumerate() {
+            let comes = if Some(i) == at { Comes::Chosen(event) } else { Comes::Left };
+            answer = arm.end(comes).or(answer);
+        }
+        let other = || match event.woke {
+            woke::DEFAULT => self.default.map(|then| then()),
+            woke::LATE => self.until.map(|(_, then)| then()),
+            _ => None,
+        };
+        match answer.or_else(other) {
+            Some(answer) => answer,
+            None => panic!("fault {}", Run::current().note(Fault::of(event.value))),
+        }
+    }
+}
