@@ -8,7 +8,26 @@
  * runs bodies and blocking calls outside of that.
  *
  * Each pointer is to be valid, and an array to have as many elements as its count says; where the count is 0 the pointer may be any. An
- * enum below lists the values of a uint32_t. C11. Link with libgmp_c.a and the C part of the library, or with malloc's stand-in of a host.
+ * enum below lists the values of a uint32_t. C11.
+ *
+ * A host with one machine goes round so:
+ *
+ *     gmp_ask ask = {GMP_NONE, 0, 0};
+ *     while (gmp_outcome(&h) == GMP_RUNS) {
+ *         gmp_event event;
+ *         gmp_turn(&h, 0, &ask, NULL, 0, now(), draw(), &event);
+ *         ask = (gmp_ask){GMP_NONE, 0, 0};
+ *         if (event.kind == GMP_RESUME) ask = body(event.goroutine, &event);
+ *         if (event.kind == GMP_WAIT) sleep_until(event.value);
+ *     }
+ *
+ * The examples beside this file: pingpong.c resumes bodies by function pointers, locks.c searches seeds for a deadlock, judge.c checks a
+ * log. `./gmp lib DIR` at the top of the repository proves and builds the library; libgmp_c.a takes memory by three functions, which are in
+ * liblibc_c.a beside it. In DIR/c, in this order:
+ *
+ *     gcc -std=c11 -I . pingpong.c ../lib/libgmp_c.a ../lib/liblibc_c.a -o pingpong
+ *
+ * This is not the gmp.h of GNU MP: give the folder by -I, and include only one of the two in a file.
  */
 #ifndef GMP_H
 #define GMP_H
@@ -170,7 +189,7 @@ enum {
  *     gmp h; uint32_t why = gmp_open(&limits, goroutines, capacities, n, true, &h.at); */
 uint32_t gmp_open(const gmp_limits *limits, uint16_t goroutines, const uint32_t *capacities, size_t n, bool fair, void **out);
 
-/* Lets all go. What the host has of goroutines is its own. */
+/* Lets all go, also while the run lasts. What the host has of goroutines is its own. */
 void gmp_close(gmp h);
 
 /* GMP_VERSION of the library. */
@@ -178,8 +197,8 @@ uint32_t gmp_version(void);
 
 /* Machine m acts until it needs something from outside, and *event says what. The ask is that of the goroutine that the last event of this
  * machine resumed, or its call's answer; else its kind is GMP_NONE. A select's n cases lie beside it; with more than GMP_MAX_CASES it is
- * no ask. An ask that the machine doesn't wait for, or that is none, is passed over: a goroutine to be resumed is named once more.
- * `now` is what the clock shows, in nanoseconds; a moment before an earlier one is taken as that. `word` is any number: selects and steals
+ * no ask. An ask that the machine doesn't wait for, or that is none, is passed over: the same GMP_RESUME comes again.
+ * `now` is what the clock shows, in nanoseconds; one below an earlier one counts as the earlier one. `word` is any number: selects and steals
  * draw by it. With the same limits, asks, moments and words in the same order the run is the same. */
 void gmp_turn(gmp *h, uint8_t m, const gmp_ask *ask, const gmp_case *cases, size_t n, uint64_t now, uint64_t word, gmp_event *event);
 
@@ -204,8 +223,8 @@ uint32_t gmp_hand_out(gmp *h);
 uint64_t gmp_piece_len(gmp *h);
 
 /* The text of the run so far as a trace, which gmp_check_text and the commands read: as many of its bytes as there is room for, and in *len
- * how many it has. Answers 0; or GMP_NOT_WHOLE, where limits.room is less than limits.entries or a piece was handed out, or
- * GMP_OUT_OF_MEMORY, and then writes nothing. */
+ * how many it has; with room 0 only that. No byte 0 ends it. Answers 0; or GMP_NOT_WHOLE, where limits.room is less than limits.entries or
+ * a piece was handed out, or GMP_OUT_OF_MEMORY, and then writes nothing. */
 uint32_t gmp_text(gmp *h, uint8_t *buffer, size_t room, uint64_t *len);
 
 /* Whether these n bytes are the text of a right trace, of whichever scheduler: 0, if they are; GMP_WRONG, and in *line the first bad line,
