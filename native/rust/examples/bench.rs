@@ -5,7 +5,7 @@ use std::time::Instant;
 
 const ROUNDS: u32 = 200_000;
 
-fn timed<F: Future<Output = ()> + 'static>(what: &str, main: F) {
+fn timed<F: Future<Output = ()> + Send + 'static>(what: &str, main: F) {
     let begun = Instant::now();
     let ended: Ended = Runtime::builder().machines(1).block_on(main);
     let each = begun.elapsed() / ROUNDS;

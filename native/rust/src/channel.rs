@@ -1,59 +1,54 @@
 //! Channels. The scheduler sees the numbers of values; the values are here.
 use crate::ends::{Receiver, Sender};
 use crate::fault::{Fault, SendError};
-use crate::run::{Held, Offer, Part, Place, Run, Waits};
+use crate::hand::Hand;
+use crate::run::{locked, Held, Offer, Part, Place, Run, Waits};
 use crate::slab::Slab;
 use crate::words::{ask, woke, Ask, Case, Event, MAX_CAPACITY, NIL};
-use std::cell::{Cell, RefCell};
-use std::rc::{Rc, Weak};
+use std::rc::Rc;
+use std::sync::atomic::{AtomicBool, AtomicU64, AtomicUsize, Ordering::SeqCst};
+use std::sync::{Arc, Mutex, Weak};
 
 /// What both ends share.
 pub(crate) struct Inner<T> {
     run: Weak<Run>,
     pub(crate) number: u32,
     pub(crate) capacity: u32,
-    slab: RefCell<Slab<T>>,
-    senders: Cell<usize>,
-    receivers: Cell<usize>,
+    values: Mutex<Slab<T>>,
+    senders: AtomicUsize,
+    receivers: AtomicUsize,
     /// Closed for those who send; the scheduler may not know.
-    closed: Cell<bool>,
-    /// How many closes of the run came before, if the scheduler was told that it is closed.
-    closed_in_core: Cell<Option<u64>>,
+    closed: AtomicBool,
+    /// Which close of the run, counted from 1, told the scheduler that it is closed; 0, if none did.
+    mark: Arc<AtomicU64>,
 }
 
-impl<T: 'static> Held for Inner<T> {
+impl<T: Send> Held for Inner<T> {
     fn discard(&self, key: u64) {
-        let value = self.slab.borrow_mut().take(key);
-        drop(value);
+        drop(self.take(key));
     }
 }
 
 impl<T> Inner<T> {
-    fn put(&self, value: T) -> u64 {
-        self.slab.borrow_mut().put(value)
-    }
-
     pub(crate) fn take(&self, key: u64) -> Option<T> {
-        self.slab.borrow_mut().take(key)
+        locked(&self.values).take(key)
     }
 
     fn is_nil(&self) -> bool {
         self.number == NIL
     }
 
-    /// The run, which has to be the one under way.
-    pub(crate) fn run(&self) -> Rc<Run> {
-        let run = Run::current();
-        let mine = self.is_nil() || self.run.as_ptr() == Rc::as_ptr(&run);
+    /// The thread's hand. Its run has to be the channel's.
+    pub(crate) fn hand(&self) -> Rc<Hand> {
+        let hand = Hand::current();
+        let mine = self.is_nil() || self.run.as_ptr() == Arc::as_ptr(&hand.run);
         assert!(mine, "a channel of another run");
-        run
+        hand
     }
 
     fn close_in_core(&self) -> Result<(), Fault> {
         let run = self.run.upgrade().ok_or(Fault::Over)?;
-        run.ask_unnoted(Ask::on(ask::CLOSE, self.number, 0), &[])?;
-        self.closed_in_core.set(Some(run.closes.replace(run.closes.get() + 1)));
-        Ok(())
+        run.close(self.number, &self.mark)
     }
 
     /// Closes the channel. Where nobody could hear of it, the scheduler isn't told.
@@ -61,78 +56,73 @@ impl<T> Inner<T> {
         if self.is_nil() {
             return Err(Fault::CloseOfNil);
         }
-        if self.closed.replace(true) {
+        if self.closed.swap(true, SeqCst) {
             return Err(Fault::CloseOfClosed);
         }
-        match self.has_no_receiver() {
-            true => Ok(()),
-            false => self.close_in_core(),
+        if self.has_no_receiver() {
+            return Ok(());
+        }
+        match self.close_in_core() {
+            // The last receiver went meanwhile, and let the senders go.
+            Err(Fault::CloseOfClosed) => Ok(()),
+            closed => closed,
         }
     }
 
-    /// How many senders there are, now that so many have come or gone.
-    pub(crate) fn senders(&self, change: isize) -> usize {
-        self.senders.set(self.senders.get().wrapping_add_signed(change));
-        self.senders.get()
+    /// One more sender.
+    pub(crate) fn add_sender(&self) {
+        self.senders.fetch_add(1, SeqCst);
     }
 
-    /// How many receivers there are, now that so many have come or gone.
-    pub(crate) fn receivers(&self, change: isize) -> usize {
-        self.receivers.set(self.receivers.get().wrapping_add_signed(change));
-        self.receivers.get()
+    /// One more receiver.
+    pub(crate) fn add_receiver(&self) {
+        self.receivers.fetch_add(1, SeqCst);
     }
 
-    /// Wakes those who wait to send, whom nobody will receive from. There are any only where there are more values than room.
-    pub(crate) fn let_senders_go(&self) {
-        let waits = self.slab.borrow().len() > self.capacity as usize;
-        if waits && !self.is_nil() && self.closed_in_core.get().is_none() {
-            let _ = self.close_in_core();
+    /// A sender goes; the last one closes the channel.
+    pub(crate) fn drop_sender(&self) {
+        if self.senders.fetch_sub(1, SeqCst) == 1 {
+            let _ = self.close();
+        }
+    }
+
+    /// A receiver goes; the last one wakes those who wait to send. There are any only where there are more values than room.
+    pub(crate) fn drop_receiver(&self) {
+        if self.receivers.fetch_sub(1, SeqCst) == 1 {
+            let waits = locked(&self.values).len() > self.capacity as usize;
+            if waits && !self.is_nil() && self.closed_as().is_none() {
+                let _ = self.close_in_core();
+            }
         }
     }
 
     /// What is told of a send that met a closed channel.
-    fn refusal(&self) -> Fault {
+    pub(crate) fn refusal(&self) -> Fault {
         if self.has_no_receiver() {
             Fault::NoReceiver
         } else {
-            self.run().note(Fault::SendOnClosed)
+            self.hand().note(Fault::SendOnClosed)
         }
     }
 
     pub(crate) fn has_no_receiver(&self) -> bool {
-        self.receivers.get() == 0
+        self.receivers.load(SeqCst) == 0
     }
 
     /// Which close of the run was this channel's.
     pub(crate) fn closed_as(&self) -> Option<u64> {
-        self.closed_in_core.get()
-    }
-}
-
-impl<T: 'static> Inner<T> {
-    /// The case of a send or receive, and what the run holds of it.
-    pub(crate) fn case(self: &Rc<Inner<T>>, value: Option<T>) -> (Case, Part) {
-        self.run();
-        let key = value.map(|value| self.put(value));
-        let case = Case { sends: key.is_some(), channel: self.number, value: key.unwrap_or(0) };
-        (case, Part { held: self.clone(), key })
+        Some(self.mark.load(SeqCst)).filter(|close| *close > 0)
     }
 
-    pub(crate) fn offer(self: &Rc<Inner<T>>, value: Option<T>, place: Place) -> Offer {
-        let (case, part) = self.case(value);
-        let (kind, waits) = match case.sends {
-            true => (ask::SEND, Waits::Send(self.number)),
-            false => (ask::RECV, Waits::Receive(self.number)),
-        };
-        Offer {
-            id: 0,
-            ask: Ask::on(kind, case.channel, case.value),
-            cases: vec![],
-            waits,
-            place,
-            parts: vec![part],
-            job: None,
+    /// Lays the value down, and answers its key; or the value, where nobody can receive it. The last receiver that goes looks at
+    /// the values behind that, so it sees each that was laid down.
+    pub(crate) fn put(&self, value: T) -> Result<u64, SendError<T>> {
+        self.hand();
+        let mut values = locked(&self.values);
+        if self.has_no_receiver() {
+            return Err(SendError { value, fault: Fault::NoReceiver });
         }
+        Ok(values.put(value))
     }
 
     /// What the answer to a send says, by the value's key.
@@ -154,25 +144,37 @@ impl<T: 'static> Inner<T> {
             None
         }
     }
+}
 
-    /// The value back, and why it is not sent, where nobody can receive it.
-    pub(crate) fn admitted(&self, value: T) -> Result<T, SendError<T>> {
-        if self.has_no_receiver() {
-            Err(SendError { value, fault: Fault::NoReceiver })
-        } else {
-            Ok(value)
-        }
+impl<T: Send + 'static> Inner<T> {
+    /// The case of a receive, or of a send of the value with this key; and what the run holds of it.
+    pub(crate) fn case(self: &Arc<Inner<T>>, key: Option<u64>) -> (Case, Part) {
+        self.hand();
+        let case = Case { sends: key.is_some(), channel: self.number, value: key.unwrap_or(0) };
+        (case, Part { held: self.clone(), key })
+    }
+
+    pub(crate) fn offer(self: &Arc<Inner<T>>, key: Option<u64>, place: Place) -> Offer {
+        let (case, part) = self.case(key);
+        let (kind, waits) = match case.sends {
+            true => (ask::SEND, Waits::Send(self.number)),
+            false => (ask::RECV, Waits::Receive(self.number)),
+        };
+        let mut offer = Offer::of(Ask::on(kind, case.channel, case.value), waits, place);
+        offer.parts = vec![part];
+        offer
     }
 }
 
 impl<T> Drop for Inner<T> {
     /// A channel that is empty and open can be used again. Nobody waits on it, since who waits holds it.
     fn drop(&mut self) {
-        if self.is_nil() || self.closed_in_core.get().is_some() || !self.slab.get_mut().is_empty() {
+        let is_empty = locked(&self.values).is_empty();
+        if self.is_nil() || self.closed_as().is_some() || !is_empty {
             return;
         }
         if let Some(run) = self.run.upgrade() {
-            run.numbers.borrow_mut().free.entry(self.capacity).or_default().push(self.number);
+            locked(&run.numbers).free.entry(self.capacity).or_default().push(self.number);
         }
     }
 }
@@ -197,10 +199,10 @@ impl<T> Drop for Inner<T> {
 /// });
 /// assert!(ended.panics.is_empty(), "{ended}");
 /// ```
-pub fn channel<T: 'static>(capacity: u32) -> Result<(Sender<T>, Receiver<T>), Fault> {
-    let run = Run::current();
-    let number = number_of(&run, capacity).map_err(|fault| run.note(fault))?;
-    Ok(ends(Rc::downgrade(&run), number, capacity))
+pub fn channel<T: Send + 'static>(capacity: u32) -> Result<(Sender<T>, Receiver<T>), Fault> {
+    let hand = Hand::current();
+    let number = number_of(&hand, capacity).map_err(|fault| hand.note(fault))?;
+    Ok(ends(Arc::downgrade(&hand.run), number, capacity))
 }
 
 /// A channel that is nil: who sends on it or receives from it waits for good, and as a case of a select it never proceeds.
@@ -216,38 +218,43 @@ pub fn channel<T: 'static>(capacity: u32) -> Result<(Sender<T>, Receiver<T>), Fa
 /// assert!(ended.panics.is_empty(), "{ended}");
 /// assert_eq!(ended.outcome, Outcome::Deadlock);
 /// ```
-pub fn nil<T: 'static>() -> (Sender<T>, Receiver<T>) {
+pub fn nil<T: Send + 'static>() -> (Sender<T>, Receiver<T>) {
     ends(Weak::new(), NIL, 0)
 }
 
-fn ends<T: 'static>(run: Weak<Run>, number: u32, capacity: u32) -> (Sender<T>, Receiver<T>) {
-    let inner = Rc::new(Inner {
+fn ends<T>(run: Weak<Run>, number: u32, capacity: u32) -> (Sender<T>, Receiver<T>) {
+    let inner = Arc::new(Inner {
         run,
         number,
         capacity,
-        slab: RefCell::default(),
-        senders: Cell::new(1),
-        receivers: Cell::new(1),
-        closed: Cell::new(false),
-        closed_in_core: Cell::new(None),
+        values: Mutex::default(),
+        senders: AtomicUsize::new(1),
+        receivers: AtomicUsize::new(1),
+        closed: AtomicBool::new(false),
+        mark: Arc::default(),
     });
     (Sender(inner.clone()), Receiver(inner))
 }
 
 /// The number of a channel that is free, else of a new one.
-fn number_of(run: &Run, capacity: u32) -> Result<u32, Fault> {
+fn number_of(hand: &Hand, capacity: u32) -> Result<u32, Fault> {
     if capacity > MAX_CAPACITY {
         return Err(Fault::BadCapacity);
     }
-    let free = run.numbers.borrow_mut().free.get_mut(&capacity).and_then(Vec::pop);
-    if let Some(number) = free {
-        return Ok(number);
+    let most = hand.run.limits.channels;
+    {
+        let mut numbers = locked(&hand.run.numbers);
+        if let Some(number) = numbers.free.get_mut(&capacity).and_then(Vec::pop) {
+            return Ok(number);
+        }
+        if numbers.made == most {
+            return Err(Fault::TooManyChannels(most));
+        }
+        numbers.made += 1;
     }
-    let most = run.limits.channels;
-    if run.numbers.borrow().made == most {
-        return Err(Fault::TooManyChannels(most));
+    let made = hand.ask_unnoted(Ask::with(ask::MAKE, capacity.into()), &[]);
+    if made.is_err() {
+        locked(&hand.run.numbers).made -= 1;
     }
-    let event = run.ask_unnoted(Ask::with(ask::MAKE, capacity.into()), &[])?;
-    run.numbers.borrow_mut().made += 1;
-    Ok(event.value as u32)
+    Ok(made?.value as u32)
 }

@@ -5,6 +5,9 @@ use crate::time::Moment;
 use crate::words::NIL;
 use std::fmt;
 
+/// The number of a refusal that is none of the scheduler's: the system had no thread for a machine.
+pub(crate) const NO_THREAD: u32 = 0;
+
 /// What ended a run.
 ///
 /// ```
@@ -20,7 +23,7 @@ pub enum Outcome {
     Deadlock,
     /// It made as many entries as it may, or there was no memory for more.
     Full,
-    /// It did not begin: the limits are out of range, or there was no memory.
+    /// It did not begin: the limits are out of range, or there was no memory, or too few threads.
     Refused,
 }
 
@@ -126,7 +129,11 @@ pub struct Ended {
 
 impl Ended {
     pub(crate) fn refused(seed: u64, number: u32) -> Ended {
-        let why = if number == 28 { "no memory" } else { "limits are out of range" };
+        let why = match number {
+            28 => "no memory",
+            NO_THREAD => "no thread for a machine",
+            _ => "limits are out of range",
+        };
         Ended {
             outcome: Outcome::Refused,
             seed,

@@ -1,14 +1,15 @@
 //! The two ends of a channel.
 use crate::channel::Inner;
 use crate::fault::{Fault, SendError, TryRecvError, TrySendError};
-use crate::run::Asking;
+use crate::hand::Asking;
 use crate::words::{ask, Ask};
 use std::fmt;
 use std::future::Future;
 use std::panic::Location;
-use std::rc::Rc;
+use std::sync::Arc;
 
-/// The end of a channel that sends. When the last one goes, the channel closes.
+/// The end of a channel that sends. When the last one goes, the channel closes: at once, if a goroutine lets it go; in a blocking
+/// call, or another thread, once the next goroutine goes on.
 ///
 /// ```
 /// use kuvendyra::{channel, go, Runtime};
@@ -26,7 +27,7 @@ use std::rc::Rc;
 /// });
 /// assert!(ended.panics.is_empty(), "{ended}");
 /// ```
-pub struct Sender<T>(pub(crate) Rc<Inner<T>>);
+pub struct Sender<T>(pub(crate) Arc<Inner<T>>);
 
 /// The end of a channel that receives. There may be several; each value goes to one.
 ///
@@ -42,9 +43,9 @@ pub struct Sender<T>(pub(crate) Rc<Inner<T>>);
 /// });
 /// assert!(ended.panics.is_empty(), "{ended}");
 /// ```
-pub struct Receiver<T>(pub(crate) Rc<Inner<T>>);
+pub struct Receiver<T>(pub(crate) Arc<Inner<T>>);
 
-impl<T: 'static> Sender<T> {
+impl<T: Send + 'static> Sender<T> {
     /// Sends the value. It waits until there is room, or somebody receives it. An `Err` has the value again: the channel
     /// is closed, or the last receiver is gone.
     ///
@@ -63,9 +64,8 @@ impl<T: 'static> Sender<T> {
     pub fn send(&self, value: T) -> impl Future<Output = Result<(), SendError<T>>> + '_ {
         let place = Location::caller();
         async move {
-            let offer = self.0.offer(Some(self.0.admitted(value)?), place);
-            let key = offer.ask.value;
-            let event = Asking::new(offer).await;
+            let key = self.0.put(value)?;
+            let event = Asking::new(self.0.offer(Some(key), place)).await;
             self.0.sent(key, &event)
         }
     }
@@ -83,20 +83,22 @@ impl<T: 'static> Sender<T> {
     /// assert!(ended.panics.is_empty(), "{ended}");
     /// ```
     pub fn try_send(&self, value: T) -> Result<(), TrySendError<T>> {
-        let value = self.0.admitted(value).map_err(TrySendError::Fault)?;
-        let run = self.0.run();
-        let (case, _) = self.0.case(Some(value));
-        let answer = run.ask_unnoted(Ask::on(ask::SELECT, 1, u64::MAX), &[case]);
+        let key = self.0.put(value).map_err(TrySendError::Fault)?;
+        let hand = self.0.hand();
+        let (case, _) = self.0.case(Some(key));
+        let answer = hand.ask_unnoted(Ask::on(ask::SELECT, 1, u64::MAX), &[case]);
         if answer.is_ok_and(|event| event.chosen().is_some()) {
             return Ok(());
         }
-        match (self.0.take(case.value), answer) {
-            (None, _) => Ok(()),
-            (Some(value), Ok(_)) => Err(TrySendError::Full(value)),
-            (Some(value), Err(fault)) => {
-                Err(TrySendError::Fault(SendError { value, fault: run.note(fault) }))
-            }
-        }
+        let Some(value) = self.0.take(key) else {
+            return Ok(());
+        };
+        let fault = match answer {
+            Ok(_) => return Err(TrySendError::Full(value)),
+            Err(Fault::SendOnClosed) => self.0.refusal(),
+            Err(fault) => hand.note(fault),
+        };
+        Err(TrySendError::Fault(SendError { value, fault }))
     }
 
     /// Closes the channel. What was sent can still be received.
@@ -113,12 +115,12 @@ impl<T: 'static> Sender<T> {
     /// assert!(ended.panics.is_empty(), "{ended}");
     /// ```
     pub fn close(&self) -> Result<(), Fault> {
-        let run = self.0.run();
-        self.0.close().map_err(|fault| run.note(fault))
+        let hand = self.0.hand();
+        self.0.close().map_err(|fault| hand.note(fault))
     }
 }
 
-impl<T: 'static> Receiver<T> {
+impl<T: Send + 'static> Receiver<T> {
     /// The next value, or `None` once the channel is closed and empty.
     ///
     /// ```
@@ -154,9 +156,8 @@ impl<T: 'static> Receiver<T> {
     /// assert!(ended.panics.is_empty(), "{ended}");
     /// ```
     pub fn try_recv(&self) -> Result<T, TryRecvError> {
-        let run = self.0.run();
         let (case, _) = self.0.case(None);
-        match run.ask_now(Ask::on(ask::SELECT, 1, u64::MAX), &[case]) {
+        match self.0.hand().ask_now(Ask::on(ask::SELECT, 1, u64::MAX), &[case]) {
             Ok(event) if event.chosen().is_some() => self.0.received(&event).ok_or(TryRecvError::Closed),
             _ => Err(TryRecvError::Empty),
         }
@@ -175,7 +176,7 @@ impl<T: 'static> Receiver<T> {
     /// assert!(ended.panics.is_empty(), "{ended}");
     /// ```
     pub fn len(&self) -> usize {
-        let answer = self.0.run().ask_now(Ask::on(ask::LEN, self.0.number, 0), &[]);
+        let answer = self.0.hand().ask_now(Ask::on(ask::LEN, self.0.number, 0), &[]);
         answer.map_or(0, |event| event.value as usize)
     }
 
@@ -212,14 +213,14 @@ impl<T: 'static> Receiver<T> {
 
 impl<T> Clone for Sender<T> {
     fn clone(&self) -> Self {
-        self.0.senders(1);
+        self.0.add_sender();
         Sender(self.0.clone())
     }
 }
 
 impl<T> Clone for Receiver<T> {
     fn clone(&self) -> Self {
-        self.0.receivers(1);
+        self.0.add_receiver();
         Receiver(self.0.clone())
     }
 }
@@ -227,17 +228,13 @@ impl<T> Clone for Receiver<T> {
 impl<T> Drop for Sender<T> {
     /// The last sender closes the channel.
     fn drop(&mut self) {
-        if self.0.senders(-1) == 0 {
-            let _ = self.0.close();
-        }
+        self.0.drop_sender();
     }
 }
 
 impl<T> Drop for Receiver<T> {
     fn drop(&mut self) {
-        if self.0.receivers(-1) == 0 {
-            self.0.let_senders_go();
-        }
+        self.0.drop_receiver();
     }
 }
 

@@ -40,6 +40,10 @@ unsafe extern "C" {
 /// A run of the proved scheduler. It is closed when it is dropped.
 pub struct Core(Handle);
 
+// SAFETY: what is behind the handle is `Send`, which is checked where the library is built; no call here shares it, as each
+// has the only reference to the handle.
+unsafe impl Send for Core {}
+
 impl Core {
     /// Opens a run without channels; else the number of the refusal.
     pub fn open(limits: &Limits, goroutines: u16) -> Result<Core, u32> {

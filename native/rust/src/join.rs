@@ -1,14 +1,13 @@
 //! Goroutines, and how to wait for their ends.
 use crate::fault::Fault;
-use crate::run::{Asking, Ends, Goroutine, Job, Offer, Run, Waits};
+use crate::hand::{Asking, Hand};
+use crate::run::{locked, Ends, Goroutine, Job, Offer, Run, Waits};
 use crate::words::{ask, Ask};
-use std::cell::{Cell, RefCell};
 use std::fmt;
 use std::future::Future;
 use std::panic::{catch_unwind, AssertUnwindSafe, Location};
 use std::pin::Pin;
-use std::rc::{Rc, Weak};
-use std::sync::mpsc;
+use std::sync::{mpsc, Arc, Mutex, OnceLock, Weak};
 use std::task::{Context, Poll};
 
 /// Why there is no result.
@@ -49,26 +48,38 @@ pub(crate) fn message_of(panic: &(dyn std::any::Any + Send)) -> String {
 
 struct Task<T> {
     run: Weak<Run>,
-    number: Cell<Option<u32>>,
-    finished: Cell<bool>,
-    result: RefCell<Option<Result<T, JoinError>>>,
+    number: OnceLock<u32>,
+    end: Mutex<End<T>>,
+}
+
+/// How a goroutine ended, if it did.
+struct End<T> {
+    finished: bool,
+    result: Option<Result<T, JoinError>>,
     /// Who waits for the end, by which ask.
-    joiner: Cell<Option<(u32, u64)>>,
+    joiner: Option<(u32, u64)>,
 }
 
 impl<T> Task<T> {
     fn end(&self, result: Result<T, JoinError>) {
-        self.finished.set(true);
-        self.result.replace(Some(result));
-        if let (Some(joiner), Some(run)) = (self.joiner.take(), self.run.upgrade()) {
+        let mut end = locked(&self.end);
+        end.finished = true;
+        end.result = Some(result);
+        let joiner = end.joiner.take();
+        drop(end);
+        if let (Some(joiner), Some(run)) = (joiner, self.run.upgrade()) {
             run.ready(joiner);
         }
     }
+
+    fn is_finished(&self) -> bool {
+        locked(&self.end).finished
+    }
 }
 
-impl<T> Ends for Task<T> {
+impl<T: Send> Ends for Task<T> {
     fn panicked(&self, message: &str) {
-        if !self.finished.get() {
+        if !self.is_finished() {
             self.end(Err(JoinError::Panicked(message.into())));
         }
     }
@@ -86,7 +97,7 @@ impl<T> Ends for Task<T> {
 /// assert!(ended.panics.is_empty(), "{ended}");
 /// ```
 pub struct JoinHandle<T> {
-    task: Rc<Task<T>>,
+    task: Arc<Task<T>>,
     place: &'static Location<'static>,
     waiting: Option<Asking>,
 }
@@ -104,7 +115,7 @@ impl<T> JoinHandle<T> {
     /// assert!(ended.panics.is_empty(), "{ended}");
     /// ```
     pub fn goroutine(&self) -> Option<u32> {
-        self.task.number.get()
+        self.task.number.get().copied()
     }
 
     /// Whether it has ended.
@@ -121,7 +132,7 @@ impl<T> JoinHandle<T> {
     /// assert!(ended.panics.is_empty(), "{ended}");
     /// ```
     pub fn is_finished(&self) -> bool {
-        self.task.finished.get()
+        self.task.is_finished()
     }
 }
 
@@ -131,20 +142,30 @@ impl<T> Future for JoinHandle<T> {
     type Output = Result<T, JoinError>;
 
     fn poll(mut self: Pin<&mut Self>, context: &mut Context<'_>) -> Poll<Self::Output> {
-        if let Some(result) = self.task.result.take() {
+        let JoinHandle { task, place, waiting } = &mut *self;
+        let mut end = locked(&task.end);
+        if let Some(result) = end.result.take() {
+            drop(end);
             // A wait that is over is told.
-            if let Some(waiting) = &mut self.waiting {
+            if let Some(waiting) = waiting {
                 let _ = Pin::new(waiting).poll(context);
             }
             return Poll::Ready(result);
         }
-        assert!(!self.task.finished.get(), "a result is taken once");
-        let (number, place) = (self.task.number.get().unwrap_or_default(), self.place);
-        let ask = Ask::of(ask::PARK);
-        let waiting = self.waiting.get_or_insert_with(|| Run::asking(ask, Waits::End(number), place));
+        assert!(!end.finished, "a result is taken once");
+        drop(end);
+        let number = task.number.get().copied().unwrap_or_default();
+        let begin = || Asking::of(Ask::of(ask::PARK), Waits::End(number), place);
+        let waiting = waiting.get_or_insert_with(begin);
         let polled = Pin::new(&mut *waiting).poll(context);
-        let waiter = waiting.waiter();
-        self.task.joiner.set(waiter);
+        let mut end = locked(&task.end);
+        end.joiner = waiting.waiter();
+        let ended = end.joiner.filter(|_| end.finished);
+        drop(end);
+        if let (Some(joiner), Some(run)) = (ended, task.run.upgrade()) {
+            // It ended in another thread meanwhile.
+            run.ready(joiner);
+        }
         polled.map(|_| Err(JoinError::NotStarted(Fault::Over)))
     }
 }
@@ -156,6 +177,7 @@ impl<T> fmt::Debug for JoinHandle<T> {
 }
 
 /// Starts a goroutine. It begins once a machine comes to it, and ends with its future; where main ends first it is dropped.
+/// Its future is `Send`, since any thread of the run may poll it.
 ///
 /// # Panics
 ///
@@ -171,27 +193,28 @@ impl<T> fmt::Debug for JoinHandle<T> {
 /// assert!(ended.panics.is_empty(), "{ended}");
 /// ```
 #[track_caller]
-pub fn go<T: 'static>(body: impl Future<Output = T> + 'static) -> JoinHandle<T> {
-    let (run, place) = (Run::current(), Location::caller());
-    let task = Rc::new(Task {
-        run: Rc::downgrade(&run),
-        number: Cell::new(None),
-        finished: Cell::new(false),
-        result: RefCell::new(None),
-        joiner: Cell::new(None),
+pub fn go<T: Send + 'static>(body: impl Future<Output = T> + Send + 'static) -> JoinHandle<T> {
+    let (hand, place) = (Hand::current(), Location::caller());
+    let task = Arc::new(Task {
+        run: Arc::downgrade(&hand.run),
+        number: OnceLock::new(),
+        end: Mutex::new(End { finished: false, result: None, joiner: None }),
     });
     let mine = task.clone();
     let body = Box::pin(async move { mine.end(Ok(body.await)) });
-    let ends: Option<Rc<dyn Ends>> = Some(task.clone());
-    match run.spawn(Goroutine { body: Some(body), place: Some(place), ends, ..Goroutine::default() }) {
-        Ok(g) => task.number.set(Some(g)),
-        Err(fault) => task.end(Err(JoinError::NotStarted(fault))),
-    }
+    let ends: Option<Arc<dyn Ends>> = Some(task.clone());
+    match hand.spawn(Goroutine { body: Some(body), place: Some(place), ends, ..Goroutine::default() }) {
+        Ok(g) => task.number.get_or_init(|| g),
+        Err(fault) => {
+            task.end(Err(JoinError::NotStarted(fault)));
+            &0
+        }
+    };
     JoinHandle { task, place, waiting: None }
 }
 
-/// Runs the job in a thread of its own; other goroutines go on meanwhile. A simulation runs it in its own thread, at a
-/// moment that it draws.
+/// Runs the job in a thread of its own; other goroutines go on meanwhile. A run of [threads](crate::Builder::threads) runs it in
+/// its machine's thread. A simulation runs it in its own thread, at a moment that it draws.
 ///
 /// Each job that is under way keeps a machine: see [`Builder::machines`](crate::Builder::machines).
 ///
@@ -212,16 +235,9 @@ pub fn spawn_blocking<R: Send + 'static>(
     async move {
         let (told, answer) = mpsc::channel();
         let job: Job = Box::new(move || drop(told.send(catch_unwind(AssertUnwindSafe(job)))));
-        Asking::new(Offer {
-            id: 0,
-            ask: Ask::of(ask::BLOCK),
-            cases: vec![],
-            waits: Waits::Call,
-            place,
-            parts: vec![],
-            job: Some(job),
-        })
-        .await;
+        let mut offer = Offer::of(Ask::of(ask::BLOCK), Waits::Call, place);
+        offer.job = Some(job);
+        Asking::new(offer).await;
         match answer.recv() {
             Ok(result) => result.map_err(|panic| JoinError::Panicked(message_of(&*panic))),
             Err(_) => Err(JoinError::NotStarted(Fault::NoThread)),

@@ -1,11 +1,14 @@
 //! Goroutines of async Rust under the proved scheduler of Kuvendyra.
 //!
 //! A proved library decides who runs next, who waits and who is woken, by the rules of Go's scheduler and channels. This
-//! crate polls futures, keeps values, and tells the time. All goroutines run in one thread.
+//! crate polls futures, keeps values, and tells the time. All goroutines run in one thread, unless threads are asked for.
 //!
 //! - [`Runtime::builder`] runs a program by the real clock.
+//! - [`Builder::threads`] runs it by several threads.
 //! - [`sim::run`] runs it by a seed and a virtual clock: the same seed, the same run.
 //! - [`sim::search`] looks for a seed by which it deadlocks, panics, is told a fault, or leaks a goroutine.
+//!
+//! What a goroutine holds, and what goes through a channel, is `Send`: so the same program runs by each of them.
 //!
 //! A goroutine waits for one thing at a time: two futures of this crate must not be polled side by side in one goroutine.
 //! For several channels there is [`Select`], for more work at once [`go`].
@@ -40,16 +43,19 @@ mod ends;
 mod fault;
 #[cfg(not(feature = "mock"))]
 mod ffi;
+mod hand;
 mod join;
 mod machines;
 #[cfg(feature = "mock")]
 mod mock;
+mod polls;
 mod random;
 mod run;
 mod runtime;
 mod select;
 pub mod sim;
 mod slab;
+mod threads;
 mod time;
 mod trace;
 mod words;

@@ -1,14 +1,13 @@
 //! The loop that lets machines act, in one thread.
-use crate::join::message_of;
+use crate::hand::Hand;
+use crate::polls::Polled;
 use crate::random::Random;
-use crate::run::{Body, Job, Offer, Run, Waits};
+use crate::run::{Bell, Called, Job, Run};
 use crate::time::Clock;
-use crate::words::{ask, event, outcome, woke, Ask, Case, Event, NEVER};
-use std::panic::{catch_unwind, AssertUnwindSafe, Location};
+use crate::words::{ask, event, outcome, Ask, Event, NEVER};
 use std::rc::Rc;
 use std::sync::atomic::{AtomicBool, Ordering};
-use std::sync::{mpsc, Arc};
-use std::task::{Context, Poll, Wake, Waker};
+use std::sync::Arc;
 use std::time::Duration;
 
 /// A machine that isn't drawn goes on for so many turns, if others can act too.
@@ -29,77 +28,64 @@ enum Station {
 enum Call {
     /// A simulation does the job at the machine's next turn.
     Job(Job),
-    Out,
-    /// A future of another crate has to wake this goroutine.
-    Woken(u32),
+    /// Another thread says when it is done.
+    Out(Arc<AtomicBool>),
+    /// A future of another crate has to ring.
+    Woken(Arc<Bell>),
     Answered,
 }
 
-/// What comes from other threads.
-enum Signal {
-    Done(u8),
-    Woken(u32),
-}
-
-/// The waker of a goroutine, for futures of other crates.
-struct Bell {
-    goroutine: u32,
-    rung: AtomicBool,
-    signals: mpsc::Sender<Signal>,
-}
-
-impl Wake for Bell {
-    fn wake(self: Arc<Self>) {
-        self.rung.store(true, Ordering::SeqCst);
-        let _ = self.signals.send(Signal::Woken(self.goroutine));
+impl Call {
+    fn is_over(&self) -> bool {
+        match self {
+            Call::Job(_) | Call::Answered => true,
+            Call::Out(done) => done.load(Ordering::SeqCst),
+            Call::Woken(bell) => bell.is_rung(),
+        }
     }
 }
 
 pub(crate) struct Machines {
-    run: Rc<Run>,
+    run: Arc<Run>,
+    hand: Rc<Hand>,
     stations: Vec<Station>,
     /// Machines that wait for a moment and have to look round before it.
     stale: u64,
+    /// Machines that are parked, and the run's outcome, as of the last turn.
+    parked: u64,
+    outcome: u32,
     draw: Option<Random>,
     at: u8,
     turns: u32,
-    bells: Vec<Option<Arc<Bell>>>,
-    signals: (mpsc::Sender<Signal>, mpsc::Receiver<Signal>),
 }
 
 impl Machines {
     /// All machines; those of a simulation are drawn.
-    pub fn new(run: Rc<Run>, draw: Option<Random>, main: Body) -> Machines {
-        let goroutines = run.goroutines.borrow().len();
-        run.goroutines.borrow_mut()[0].body = Some(main);
+    pub fn new(hand: Rc<Hand>, draw: Option<Random>) -> Machines {
+        let run = hand.run.clone();
         Machines {
             stations: (0..run.limits.machines).map(|_| Station::Go).collect(),
+            hand,
             run,
             stale: 0,
+            parked: 0,
+            outcome: outcome::RUNS,
             draw,
             at: 0,
             turns: 0,
-            bells: (0..goroutines).map(|_| None).collect(),
-            signals: mpsc::channel(),
         }
     }
 
     /// Acts until the run is over; answers its outcome by number.
     pub fn run(&mut self) -> u32 {
-        loop {
-            let outcome = self.run.core(crate::Core::outcome);
-            if outcome != outcome::RUNS || self.run.over.get() {
-                return outcome;
-            }
-            while let Ok(signal) = self.signals.1.try_recv() {
-                self.heard(signal);
-            }
+        while self.outcome == outcome::RUNS && !self.run.is_over() {
             match self.next() {
                 Some(m) => self.step(m),
                 None if self.rest() => {}
                 None => return outcome::ALL_ASLEEP,
             }
         }
+        self.run.lock().core.outcome()
     }
 
     /// The machine that acts next, if one can.
@@ -124,15 +110,13 @@ impl Machines {
 
     /// The set of machines that can act.
     fn runnable(&self) -> u64 {
-        let parked = self.run.core(crate::Core::parked);
-        let now = self.run.clock.now();
         let can = |(m, station): (usize, &Station)| {
             let can = match station {
                 Station::Go | Station::Resume(_) => true,
-                Station::Parked => parked >> m & 1 == 0,
-                Station::Waits(until) => *until <= now || self.stale >> m & 1 == 1,
-                Station::Calls(Call::Job(_) | Call::Answered) => true,
-                Station::Calls(_) | Station::Done => false,
+                Station::Parked => self.parked >> m & 1 == 0,
+                Station::Waits(until) => self.stale >> m & 1 == 1 || *until <= self.run.clock.now(),
+                Station::Calls(call) => call.is_over(),
+                Station::Done => false,
             };
             u64::from(can) << m
         };
@@ -143,20 +127,13 @@ impl Machines {
     fn step(&mut self, m: u8) {
         let station = std::mem::replace(&mut self.stations[m as usize], Station::Go);
         let asked = matches!(station, Station::Resume(_) | Station::Calls(_));
-        let (ask, cases) = match station {
-            Station::Resume(event) => self.resume(m, event),
-            Station::Calls(call) => {
-                if let Call::Job(job) = call {
-                    job();
-                }
-                (Ask::of(ask::ANSWER), vec![])
-            }
-            _ => (Ask::NONE, vec![]),
-        };
-        if self.run.over.get() {
-            return;
+        let mut polled = None;
+        match station {
+            Station::Resume(event) => polled = Some(self.hand.resume(m, event)),
+            Station::Calls(Call::Job(job)) => job(),
+            _ => {}
         }
-        let event = self.run.turn(m, &ask, &cases);
+        let Some((event, call)) = self.turn(m, polled, asked) else { return };
         self.stale &= !(1 << m);
         if asked && (self.draw.is_some() || event.kind != event::RESUME || self.turns.is_multiple_of(TURNS)) {
             self.stale = !(1 << m);
@@ -164,180 +141,90 @@ impl Machines {
         self.stations[m as usize] = match event.kind {
             event::MORE => Station::Go,
             event::RESUME => Station::Resume(event),
-            event::CALL => Station::Calls(self.call(m, event.goroutine)),
+            event::CALL => Station::Calls(self.call(call)),
             event::WAIT => Station::Waits(event.value),
             event::PARKED => Station::Parked,
             event::DONE => Station::Done,
             _ => {
-                self.run.over.set(true);
+                self.run.end(&mut self.run.lock());
                 Station::Done
             }
         };
     }
 
-    /// Begins the blocking call of the goroutine.
-    fn call(&mut self, m: u8, g: u32) -> Call {
-        let job = self.run.goroutines.borrow_mut()[g as usize].wait.as_mut().and_then(|wait| wait.job.take());
-        match job {
-            None if self.is_rung(g) => Call::Answered,
-            None => Call::Woken(g),
-            Some(job) if self.draw.is_some() => Call::Job(job),
-            Some(job) => {
-                let signals = self.signals.0.clone();
-                let thread = std::thread::Builder::new().spawn(move || {
-                    job();
-                    let _ = signals.send(Signal::Done(m));
-                });
-                // Without a thread the job is dropped, which its goroutine is told.
-                thread.map_or(Call::Answered, |_| Call::Out)
+    /// Hands in what the machine's goroutine asks; answers the event, and the call, if it is one. None, if the run is over.
+    fn turn(&mut self, m: u8, polled: Option<Polled>, asked: bool) -> Option<(Event, Called)> {
+        let state = &mut *self.run.lock();
+        let (ask, cases) = match polled {
+            Some(polled) => state.settle(polled),
+            None if asked => (Ask::of(ask::ANSWER), vec![]),
+            None => (Ask::NONE, vec![]),
+        };
+        if self.run.is_over() {
+            return None;
+        }
+        let event = self.run.turn(state, m, &ask, &cases);
+        (self.parked, self.outcome) = (state.parked, state.core.outcome());
+        let call = if event.kind == event::CALL { state.called(event.goroutine) } else { (None, None) };
+        Some((event, call))
+    }
+
+    /// Begins the blocking call of a goroutine.
+    fn call(&self, (job, bell): Called) -> Call {
+        let Some(job) = job else {
+            return bell.map_or(Call::Answered, Call::Woken);
+        };
+        if self.draw.is_some() {
+            return Call::Job(job);
+        }
+        let (run, done) = (Arc::downgrade(&self.run), Arc::new(AtomicBool::new(false)));
+        let told = done.clone();
+        let thread = std::thread::Builder::new().spawn(move || {
+            job();
+            told.store(true, Ordering::SeqCst);
+            if let Some(run) = run.upgrade() {
+                run.wake_callers();
             }
-        }
+        });
+        // Without a thread the job is dropped, which its goroutine is told.
+        thread.map_or(Call::Answered, |_| Call::Out(done))
     }
 
-    fn is_rung(&self, g: u32) -> bool {
-        self.bells[g as usize].as_ref().is_some_and(|bell| bell.rung.load(Ordering::SeqCst))
-    }
-
-    fn heard(&mut self, signal: Signal) {
-        let called = |station: &Station| match (station, &signal) {
-            (Station::Calls(Call::Woken(by)), Signal::Woken(g)) => by == g,
-            _ => false,
-        };
-        let m = match signal {
-            Signal::Done(m) => Some(m as usize),
-            Signal::Woken(_) => self.stations.iter().position(called),
-        };
-        if let Some(m) = m {
-            self.stations[m] = Station::Calls(Call::Answered);
-        }
-    }
-
-    /// Rests until the next deadline, or until another thread is done. Answers whether there is anything to rest for.
+    /// Rests until the next deadline, or until a call is over. Answers whether there is anything to rest for.
     fn rest(&mut self) -> bool {
         let waits = self.stations.iter().filter_map(|station| match station {
             Station::Waits(until) => Some(*until),
             _ => None,
         });
         let until = waits.min();
-        let calls = self.stations.iter().any(|station| matches!(station, Station::Calls(_)));
+        let mut calls = self.stations.iter().filter_map(|station| match station {
+            Station::Calls(call) => Some(call),
+            _ => None,
+        });
         match (&self.run.clock, until) {
-            (Clock::Virtual(now), Some(until)) => now.set(until),
+            (Clock::Virtual(now), Some(until)) => now.store(until, Ordering::SeqCst),
             (Clock::Virtual(_), None) => return false,
-            (Clock::Real(_), None) if !calls => return false,
+            (Clock::Real(_), None) if calls.next().is_none() => return false,
             (Clock::Real(_), _) => {
                 let length = until.unwrap_or(NEVER).saturating_sub(self.run.clock.now());
-                let length = Duration::from_nanos(length).min(Duration::from_secs(3600));
-                if let Ok(signal) = self.signals.1.recv_timeout(length) {
-                    self.heard(signal);
-                }
+                self.wait(Duration::from_nanos(length).min(Duration::from_secs(3600)));
             }
         }
         true
     }
 
-    /// Polls the goroutine, told this; answers what it asks then.
-    fn resume(&mut self, m: u8, event: Event) -> (Ask, Vec<Case>) {
-        let (run, g) = (self.run.clone(), event.goroutine as usize);
-        run.hand.set(Some((m, event.goroutine)));
-        let told = self.tell(g, event);
-        let body = run.goroutines.borrow_mut()[g].body.take();
-        let asked = body.and_then(|body| self.poll(g, body));
-        // What nobody took is dropped.
-        let answer = run.goroutines.borrow_mut()[g].answer.take();
-        if let (Some((_, event)), Some(offer)) = (answer, &told) {
-            discard(offer, event);
+    /// Waits so long, or until a call is over.
+    fn wait(&self, length: Duration) {
+        let is_over = |station: &Station| matches!(station, Station::Calls(call) if call.is_over());
+        let mut state = self.run.lock();
+        state.calling = 1;
+        // Who ends a call has the lock behind that, and so comes either before this look or while the thread waits.
+        if !self.stations.iter().any(is_over) {
+            state = match self.run.bells[0].wait_timeout(state, length) {
+                Ok((state, _)) => state,
+                Err(poisoned) => poisoned.into_inner().0,
+            };
         }
-        drop(told);
-        let ask = match asked {
-            Some(mut offer) => {
-                let made = (offer.ask, std::mem::take(&mut offer.cases));
-                run.goroutines.borrow_mut()[g].wait = Some(offer);
-                made
-            }
-            None => {
-                let ended = std::mem::take(&mut run.goroutines.borrow_mut()[g]);
-                drop(ended);
-                self.bells[g] = None;
-                run.free.borrow_mut().insert(event.goroutine);
-                (Ask::of(ask::EXIT), vec![])
-            }
-        };
-        run.hand.set(None);
-        ask
-    }
-
-    /// Lays the answer down for the goroutine, or makes its bell. Answers what it had asked.
-    fn tell(&mut self, g: usize, event: Event) -> Option<Offer> {
-        if event.woke == woke::FIRST {
-            let (goroutine, signals) = (event.goroutine, self.signals.0.clone());
-            self.bells[g] = Some(Arc::new(Bell { goroutine, rung: AtomicBool::new(false), signals }));
-            return None;
-        }
-        let goroutine = &mut self.run.goroutines.borrow_mut()[g];
-        let wait = goroutine.wait.take();
-        goroutine.answer = wait.as_ref().map(|wait| (wait.id, event));
-        wait
-    }
-
-    /// Polls the body; answers what it asks, if it has not ended.
-    fn poll(&mut self, g: usize, mut body: Body) -> Option<Offer> {
-        let bell = self.bells[g].clone()?;
-        bell.rung.store(false, Ordering::SeqCst);
-        let waker = Waker::from(bell);
-        let polled = catch_unwind(AssertUnwindSafe(|| body.as_mut().poll(&mut Context::from_waker(&waker))));
-        match polled {
-            Ok(Poll::Pending) => {
-                self.run.goroutines.borrow_mut()[g].body = Some(body);
-                Some(self.run.taken_offer().unwrap_or_else(|| self.foreign(g)))
-            }
-            Ok(Poll::Ready(())) => {
-                self.drop_body(g, body);
-                None
-            }
-            Err(panic) => {
-                let message = message_of(&*panic);
-                self.run.panicked(g as u32, &message);
-                self.drop_body(g, body);
-                None
-            }
-        }
-    }
-
-    /// Drops what an ended goroutine holds; that may panic too.
-    fn drop_body(&self, g: usize, body: Body) {
-        if let Err(panic) = catch_unwind(AssertUnwindSafe(|| drop(body))) {
-            self.run.panicked(g as u32, &message_of(&*panic));
-        }
-        drop(self.run.taken_offer());
-    }
-
-    /// The goroutine awaits a future of another crate: a blocking call, until its waker is called.
-    fn foreign(&self, g: usize) -> Offer {
-        let kind = if self.is_rung(g as u32) { ask::YIELD } else { ask::BLOCK };
-        Offer {
-            id: 0,
-            ask: Ask::of(kind),
-            cases: vec![],
-            waits: Waits::Other,
-            place: Location::caller(),
-            parts: vec![],
-            job: None,
-        }
-    }
-}
-
-/// Drops the values of an answer that nobody took.
-fn discard(offer: &Offer, event: Event) {
-    let chosen = match event.woke {
-        woke::GOT => Some((0, true)),
-        woke::OK => Some((0, false)),
-        _ => event.chosen(),
-    };
-    for (i, part) in offer.parts.iter().enumerate() {
-        match (chosen.filter(|(at, _)| *at == i), part.key) {
-            (Some((_, true)), None) if event.ok => part.held.discard(event.value),
-            (None, Some(key)) => part.held.discard(key),
-            _ => {}
-        }
+        state.calling = 0;
     }
 }

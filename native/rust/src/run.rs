@@ -1,27 +1,34 @@
-//! The run under way: what a goroutine that is polled and the loop of machines tell each other.
+//! The run under way: the scheduler, and what the host keeps beside it.
 use crate::ended::{Panicked, Told};
 use crate::fault::Fault;
+use crate::hand::Hand;
 use crate::random::Random;
 use crate::time::{Clock, Moment};
 use crate::words::{ask, event, woke, Ask, Case, Event, Limits};
 use crate::Core;
-use std::cell::{Cell, RefCell};
 use std::collections::{BTreeMap, BTreeSet};
 use std::future::Future;
 use std::panic::Location;
 use std::pin::Pin;
-use std::rc::Rc;
-use std::task::{Context, Poll};
+use std::sync::atomic::{AtomicBool, AtomicU64, Ordering};
+use std::sync::{Arc, Condvar, Mutex, MutexGuard, PoisonError, Weak};
+use std::task::{Wake, Waker};
 
-pub(crate) type Body = Pin<Box<dyn Future<Output = ()>>>;
+pub(crate) type Body = Pin<Box<dyn Future<Output = ()> + Send>>;
 pub(crate) type Job = Box<dyn FnOnce() + Send>;
 pub(crate) type Place = &'static Location<'static>;
 
 /// A turn makes so many entries at most.
 const TURN_ENTRIES: u64 = 4096;
 
+/// How many runs there were.
+static RUNS: AtomicU64 = AtomicU64::new(0);
+
+/// The close of a channel that is told to the scheduler later.
+pub(crate) const LATER: u64 = u64::MAX;
+
 /// The end of a channel that the run holds while a goroutine waits at it.
-pub(crate) trait Held {
+pub(crate) trait Held: Send + Sync {
     /// Drops the value of this key, which nobody will receive.
     fn discard(&self, key: u64);
 }
@@ -41,7 +48,7 @@ pub(crate) enum Waits {
 
 /// One part of a wait: the channel, and the key of the value that would be sent.
 pub(crate) struct Part {
-    pub held: Rc<dyn Held>,
+    pub held: Arc<dyn Held>,
     pub key: Option<u64>,
 }
 
@@ -56,9 +63,43 @@ pub(crate) struct Offer {
     pub job: Option<Job>,
 }
 
+impl Offer {
+    /// An ask of nobody's channel.
+    pub fn of(ask: Ask, waits: Waits, place: Place) -> Offer {
+        Offer { id: 0, ask, cases: vec![], waits, place, parts: vec![], job: None }
+    }
+}
+
 /// Who is told that a goroutine ended by a panic.
-pub(crate) trait Ends {
+pub(crate) trait Ends: Send + Sync {
     fn panicked(&self, message: &str);
+}
+
+/// The waker of a goroutine, for futures of other crates.
+pub(crate) struct Bell {
+    run: Weak<Run>,
+    rung: AtomicBool,
+}
+
+impl Bell {
+    pub fn is_rung(&self) -> bool {
+        self.rung.load(Ordering::SeqCst)
+    }
+
+    pub fn silence(&self) {
+        if self.is_rung() {
+            self.rung.store(false, Ordering::SeqCst);
+        }
+    }
+}
+
+impl Wake for Bell {
+    fn wake(self: Arc<Self>) {
+        self.rung.store(true, Ordering::SeqCst);
+        if let Some(run) = self.run.upgrade() {
+            run.wake_callers();
+        }
+    }
 }
 
 /// A goroutine.
@@ -66,11 +107,13 @@ pub(crate) trait Ends {
 pub(crate) struct Goroutine {
     pub body: Option<Body>,
     pub place: Option<Place>,
-    pub ends: Option<Rc<dyn Ends>>,
+    pub ends: Option<Arc<dyn Ends>>,
+    /// Its bell, and the waker that rings it.
+    pub bell: Option<(Arc<Bell>, Waker)>,
     /// What it asked, until it is answered.
-    pub wait: Option<Offer>,
-    /// The answer, until it is taken, with the ask's number.
-    pub answer: Option<(u64, Event)>,
+    pub wait: Option<Box<Offer>>,
+    /// The number of its last ask that was readied before it came to the scheduler.
+    pub readied: u64,
 }
 
 /// The numbers of channels: those made, and of those that can be used again the ones of each capacity.
@@ -80,171 +123,218 @@ pub(crate) struct Numbers {
     pub free: BTreeMap<u32, Vec<u32>>,
 }
 
-pub(crate) struct Run {
-    pub limits: Limits,
-    core: RefCell<Core>,
-    pub clock: Clock,
-    words: RefCell<Random>,
-    /// The machine and the goroutine that is polled.
-    pub hand: Cell<Option<(u8, u32)>>,
-    offer: RefCell<Option<Offer>>,
-    last: Cell<u64>,
-    pub goroutines: RefCell<Vec<Goroutine>>,
+/// What one thread at a time looks at. No value or future of a user is dropped or polled under its lock.
+pub(crate) struct State {
+    pub core: Core,
+    words: Random,
+    pub goroutines: Vec<Goroutine>,
     /// The numbers of goroutines that were not started or have ended. A spawn starts the least of them, as is proved.
-    pub free: RefCell<BTreeSet<u32>>,
-    pub numbers: RefCell<Numbers>,
-    pub faults: RefCell<Vec<Told>>,
-    pub panics: RefCell<Vec<Panicked>>,
+    pub free: BTreeSet<u32>,
     /// How many channels were closed.
-    pub closes: Cell<u64>,
-    handed_out: Cell<u64>,
+    pub closes: u64,
+    /// The closes that the goroutine that is polled next makes: channels whose last sender went outside of one.
+    pub late_closes: Vec<(u32, Arc<AtomicU64>)>,
+    handed_out: u64,
+    /// The machines that are parked.
+    pub parked: u64,
+    /// The machines whose threads wait for a moment.
+    pub waiting: u64,
+    /// The machines whose threads wait for a call to end.
+    pub calling: u64,
+}
+
+pub(crate) struct Run {
+    /// No other run has this number.
+    pub number: u64,
+    pub limits: Limits,
+    pub clock: Clock,
+    state: Mutex<State>,
+    /// For each machine that has a thread what wakes it. The first is that of a run of one thread.
+    pub bells: Vec<Condvar>,
+    pub numbers: Mutex<Numbers>,
+    pub faults: Mutex<Vec<Told>>,
+    pub panics: Mutex<Vec<Panicked>>,
     /// Set once no ask is answered any more.
-    pub over: Cell<bool>,
+    over: AtomicBool,
 }
 
-thread_local! {
-    static RUN: RefCell<Option<Rc<Run>>> = const { RefCell::new(None) };
+/// What a blocking call is: a job, else a wait until the bell is rung.
+pub(crate) type Called = (Option<Job>, Option<Arc<Bell>>);
+
+/// The lock of what one thread at a time looks at. A panic under it leaves nothing half done.
+pub(crate) fn locked<T>(mutex: &Mutex<T>) -> MutexGuard<'_, T> {
+    mutex.lock().unwrap_or_else(PoisonError::into_inner)
 }
 
-/// While it lives the run is the thread's current one.
-pub(crate) struct Entered(Option<Rc<Run>>);
-
-impl Drop for Entered {
-    fn drop(&mut self) {
-        let before = self.0.take();
-        let _ = RUN.try_with(|r| r.replace(before));
-    }
-}
-
-impl Run {
-    pub fn new(core: Core, limits: Limits, goroutines: u16, clock: Clock, words: Random) -> Rc<Run> {
-        Rc::new(Run {
-            limits,
-            core: RefCell::new(core),
-            clock,
-            words: RefCell::new(words),
-            hand: Cell::new(None),
-            offer: RefCell::new(None),
-            last: Cell::new(0),
-            goroutines: RefCell::new((0..goroutines).map(|_| Goroutine::default()).collect()),
-            free: RefCell::new((1..goroutines.into()).collect()),
-            numbers: RefCell::default(),
-            faults: RefCell::default(),
-            panics: RefCell::default(),
-            closes: Cell::new(0),
-            handed_out: Cell::new(0),
-            over: Cell::new(false),
-        })
+impl State {
+    /// Makes room for one turn, where the history isn't kept whole.
+    fn make_room(&mut self, limits: &Limits) {
+        let room = u64::from(limits.room);
+        if limits.entries > room {
+            let entries = self.core.entries();
+            if entries + TURN_ENTRIES > room && self.core.hand_out() {
+                self.handed_out += entries;
+            }
+        }
     }
 
-    pub fn enter(self: &Rc<Run>) -> Entered {
-        Entered(RUN.with(|r| r.replace(Some(self.clone()))))
-    }
-
-    /// The thread's run, if a goroutine of it is polled.
-    pub fn polled() -> Option<Rc<Run>> {
-        let run = RUN.try_with(|r| r.borrow().clone()).ok()??;
-        run.hand.get().is_some().then_some(run)
-    }
-
-    /// The thread's run.
-    #[track_caller]
-    pub fn current() -> Rc<Run> {
-        Run::polled().expect("outside of a run: only a goroutine may call this")
-    }
-
-    pub fn core<R>(&self, f: impl FnOnce(&mut Core) -> R) -> R {
-        f(&mut self.core.borrow_mut())
+    /// The blocking call of the goroutine.
+    pub fn called(&mut self, g: u32) -> Called {
+        let Goroutine { wait, bell, .. } = &mut self.goroutines[g as usize];
+        let job = wait.as_mut().and_then(|wait| wait.job.take());
+        (job, bell.as_ref().map(|(bell, _)| bell.clone()))
     }
 
     /// How many entries the run has.
-    pub fn entries(&self) -> u64 {
-        self.handed_out.get() + self.core(Core::entries)
+    pub fn entries(&mut self) -> u64 {
+        self.handed_out + self.core.entries()
     }
 
     /// Whether the history was handed out, so that the core can't tell any more who does what.
     pub fn is_in_pieces(&self) -> bool {
-        self.handed_out.get() > 0
+        self.handed_out > 0
+    }
+}
+
+impl Run {
+    pub fn new(
+        core: Core,
+        limits: Limits,
+        goroutines: u16,
+        clock: Clock,
+        words: Random,
+        threads: u8,
+    ) -> Arc<Run> {
+        let state = State {
+            core,
+            words,
+            goroutines: (0..goroutines).map(|_| Goroutine::default()).collect(),
+            free: (1..goroutines.into()).collect(),
+            closes: 0,
+            late_closes: vec![],
+            handed_out: 0,
+            parked: 0,
+            waiting: 0,
+            calling: 0,
+        };
+        Arc::new(Run {
+            limits,
+            clock,
+            state: Mutex::new(state),
+            bells: (0..threads).map(|_| Condvar::new()).collect(),
+            number: RUNS.fetch_add(1, Ordering::Relaxed),
+            numbers: Mutex::default(),
+            faults: Mutex::default(),
+            panics: Mutex::default(),
+            over: AtomicBool::new(false),
+        })
     }
 
-    /// One turn of the machine.
-    pub fn turn(&self, m: u8, ask: &Ask, cases: &[Case]) -> Event {
-        let core = &mut *self.core.borrow_mut();
-        let room = u64::from(self.limits.room);
-        if self.limits.entries > room {
-            let entries = core.entries();
-            if entries + TURN_ENTRIES > room && core.hand_out() {
-                self.handed_out.set(self.handed_out.get() + entries);
+    pub fn lock(&self) -> MutexGuard<'_, State> {
+        locked(&self.state)
+    }
+
+    pub fn is_over(&self) -> bool {
+        self.over.load(Ordering::SeqCst)
+    }
+
+    /// No ask is answered from now on, and all machines are woken.
+    pub fn end(&self, _: &mut State) {
+        self.over.store(true, Ordering::SeqCst);
+        self.bells.iter().for_each(Condvar::notify_all);
+    }
+
+    pub fn new_bell(self: &Arc<Run>) -> (Arc<Bell>, Waker) {
+        let bell = Arc::new(Bell { run: Arc::downgrade(self), rung: AtomicBool::new(false) });
+        (bell.clone(), Waker::from(bell))
+    }
+
+    /// Wakes the threads of this set of machines.
+    fn wake(&self, set: u64) {
+        for (m, bell) in self.bells.iter().enumerate() {
+            if set >> m & 1 == 1 {
+                bell.notify_all();
             }
         }
-        let word = self.words.borrow_mut().next();
-        core.turn(m, ask, cases, self.clock.now(), word)
     }
 
-    /// Makes an ask that never waits for the goroutine that is polled. A fault is noted.
-    pub fn ask_now(&self, ask: Ask, cases: &[Case]) -> Result<Event, Fault> {
-        self.ask_unnoted(ask, cases).map_err(|fault| self.note(fault))
+    /// Lets those look round that wait for a call to end.
+    pub fn wake_callers(&self) {
+        let calling = self.lock().calling;
+        self.wake(calling);
     }
 
-    /// The same, but that a fault isn't noted.
-    pub fn ask_unnoted(&self, ask: Ask, cases: &[Case]) -> Result<Event, Fault> {
-        let (m, _) = self.hand.get().ok_or(Fault::Over)?;
+    /// One turn of the machine. The threads of machines that it lets go on are woken.
+    pub fn turn(&self, state: &mut State, m: u8, ask: &Ask, cases: &[Case]) -> Event {
+        state.make_room(&self.limits);
+        let word = state.words.next();
+        let event = state.core.turn(m, ask, cases, self.clock.now(), word);
+        let before = std::mem::replace(&mut state.parked, state.core.parked());
+        let mut woken = before & !state.parked;
+        if ask.kind != ask::NONE || event.kind == event::RESUME {
+            // One that waits for a moment looks round; if it finds something, it wakes the next.
+            let others = state.waiting & !(1 << m);
+            woken |= others & others.wrapping_neg();
+            state.waiting &= !woken;
+        }
+        if woken != 0 && self.bells.len() > 1 {
+            self.wake(woken);
+        }
+        event
+    }
+
+    /// Makes an ask that never waits, for the goroutine that the machine has polled.
+    pub fn asked(&self, state: &mut State, m: u8, ask: Ask, cases: &[Case]) -> Result<Event, Fault> {
         let (mut ask, mut cases) = (ask, cases);
-        while !self.over.get() {
-            let event = self.turn(m, &ask, cases);
+        while !self.is_over() {
+            let event = self.turn(state, m, &ask, cases);
             match event.kind {
                 event::RESUME => return judged(event),
                 event::MORE => (ask, cases) = (Ask::NONE, &[]),
-                _ => self.over.set(true),
+                _ => self.end(state),
             }
         }
         Err(Fault::Over)
     }
 
-    /// Notes that the goroutine that is polled was told this.
-    pub fn note(&self, fault: Fault) -> Fault {
-        let (_, goroutine) = self.hand.get().unwrap_or_default();
-        if fault.is_told() {
-            self.faults.borrow_mut().push(Told { goroutine, fault });
+    /// Closes the channel. Outside of a goroutine it is the one that is polled next that does so.
+    pub fn close(&self, number: u32, mark: &Arc<AtomicU64>) -> Result<(), Fault> {
+        if let Some(hand) = Hand::of(self.number) {
+            return hand.ask_then(Ask::on(ask::CLOSE, number, 0), &[], |state, _| {
+                state.closes += 1;
+                mark.store(state.closes, Ordering::SeqCst);
+            });
         }
-        fault
+        if self.is_over() {
+            return Err(Fault::Over);
+        }
+        mark.store(LATER, Ordering::SeqCst);
+        self.lock().late_closes.push((number, mark.clone()));
+        Ok(())
     }
 
-    /// Starts a goroutine.
-    pub fn spawn(&self, goroutine: Goroutine) -> Result<u32, Fault> {
-        self.ask_now(Ask::of(ask::SPAWN), &[])?;
-        let free = self.free.borrow_mut().pop_first();
-        let g = free.expect("the scheduler started one that was free");
-        self.goroutines.borrow_mut()[g as usize] = goroutine;
-        Ok(g)
-    }
-
-    /// Notes the panic, and tells whoever waits for the goroutine.
-    pub fn panicked(&self, goroutine: u32, message: &str) {
-        let message = message.to_string();
-        let ends = self.goroutines.borrow()[goroutine as usize].ends.clone();
+    /// Notes the panic, and tells whoever waits for the goroutine. What comes behind the end of the run isn't noted.
+    pub fn panicked(&self, goroutine: u32, message: String) {
+        // Main may end as soon as it is told.
+        if !self.is_over() {
+            locked(&self.panics).push(Panicked { goroutine, message: message.clone() });
+        }
+        let ends = self.lock().goroutines[goroutine as usize].ends.clone();
         if let Some(ends) = ends {
             ends.panicked(&message);
         }
-        self.panics.borrow_mut().push(Panicked { goroutine, message });
     }
 
-    /// A future that makes this ask, of nobody's channel, and tells the answer.
-    pub fn asking(ask: Ask, waits: Waits, place: Place) -> Asking {
-        Asking::new(Offer { id: 0, ask, cases: vec![], waits, place, parts: vec![], job: None })
-    }
-
-    /// What the goroutine that was polled asks.
-    pub fn taken_offer(&self) -> Option<Offer> {
-        self.offer.take()
-    }
-
-    /// Readies the goroutine, if it still waits by the ask of this number.
+    /// Readies the goroutine that waits by the ask of this number, or is about to.
     pub fn ready(&self, (g, id): (u32, u64)) {
-        let waits = |wait: &Offer| wait.id == id && wait.ask.kind == ask::PARK;
-        let parked = self.goroutines.borrow()[g as usize].wait.as_ref().is_some_and(waits);
-        if parked {
-            let _ = self.ask_now(Ask::with(ask::READY, g.into()), &[]);
+        let Some((m, _)) = Hand::of(self.number).and_then(|hand| hand.at()) else { return };
+        let state = &mut *self.lock();
+        let goroutine = &mut state.goroutines[g as usize];
+        match &goroutine.wait {
+            Some(wait) if wait.id == id => {
+                let _ = self.asked(state, m, Ask::with(ask::READY, g.into()), &[]);
+            }
+            _ => goroutine.readied = id,
         }
     }
 }
@@ -255,82 +345,5 @@ fn judged(event: Event) -> Result<Event, Fault> {
         woke::FAULT => Err(Fault::of(event.value)),
         woke::NO_MEMORY => Err(Fault::NoMemory),
         _ => Ok(event),
-    }
-}
-
-/// The only leaf future: an ask, and then its answer.
-pub(crate) struct Asking(State);
-
-enum State {
-    New(Box<Offer>),
-    /// The run, the goroutine that waits, and the ask's number.
-    Waits(Rc<Run>, u32, u64),
-    Told,
-}
-
-impl Asking {
-    pub fn new(offer: Offer) -> Asking {
-        Asking(State::New(Box::new(offer)))
-    }
-
-    /// Who waits by which ask, once it does.
-    pub fn waiter(&self) -> Option<(u32, u64)> {
-        match self.0 {
-            State::Waits(_, g, id) => Some((g, id)),
-            _ => None,
-        }
-    }
-
-    fn begin(&mut self, mut offer: Offer) {
-        let run = Run::current();
-        let (_, g) = run.hand.get().unwrap_or_default();
-        run.last.set(run.last.get() + 1);
-        offer.id = run.last.get();
-        self.0 = State::Waits(run.clone(), g, offer.id);
-        let before = run.offer.replace(Some(offer));
-        assert!(before.is_none(), "a goroutine waits for one thing at a time: use Select");
-    }
-}
-
-impl Future for Asking {
-    type Output = Event;
-
-    fn poll(mut self: Pin<&mut Self>, _: &mut Context<'_>) -> Poll<Event> {
-        match std::mem::replace(&mut self.0, State::Told) {
-            State::New(offer) => {
-                self.begin(*offer);
-                Poll::Pending
-            }
-            State::Waits(run, g, id) => {
-                let polled = run.hand.get().map(|(_, g)| g);
-                assert!(
-                    polled == Some(g),
-                    "a future that waits belongs to the goroutine that polled it first"
-                );
-                let answer = run.goroutines.borrow_mut()[g as usize].answer.take_if(|(of, _)| *of == id);
-                match answer {
-                    Some((_, event)) => Poll::Ready(event),
-                    None => {
-                        self.0 = State::Waits(run, g, id);
-                        Poll::Pending
-                    }
-                }
-            }
-            State::Told => panic!("polled again after its end"),
-        }
-    }
-}
-
-impl Drop for Asking {
-    /// What is not yet with the scheduler is taken back.
-    fn drop(&mut self) {
-        if let State::Waits(run, _, id) = &self.0 {
-            let mine = run.offer.borrow_mut().take_if(|offer| offer.id == *id);
-            for Part { held, key } in mine.into_iter().flat_map(|offer| offer.parts) {
-                if let Some(key) = key {
-                    held.discard(key);
-                }
-            }
-        }
     }
 }

@@ -1,16 +1,18 @@
 //! How a run is set up, and made.
-use crate::ended::{text_of, Ended, Left, Outcome};
+use crate::ended::{text_of, Ended, Left, Outcome, NO_THREAD};
+use crate::hand::Hand;
 use crate::machines::Machines;
 use crate::random::Random;
-use crate::run::{Body, Goroutine, Run};
+use crate::run::{locked, Body, Goroutine, Run, State};
+use crate::threads;
 use crate::time::{Clock, Moment};
 use crate::words::{outcome, status, Limits};
 use crate::Core;
-use std::cell::{Cell, RefCell};
 use std::fmt::Display;
 use std::future::Future;
 use std::panic::{catch_unwind, AssertUnwindSafe};
-use std::rc::Rc;
+use std::sync::atomic::AtomicU64;
+use std::sync::{Arc, Mutex};
 use std::time::Instant;
 
 /// Where a run begins: [`Runtime::builder`].
@@ -35,7 +37,7 @@ impl Runtime {
     /// ```
     pub fn builder() -> Builder {
         let limits = Limits { procs: 1, machines: 4, channels: 1024, room: 65_536, entries: (1 << 63) - 1 };
-        Builder { limits, goroutines: 1024, seed: 0, simulated: false, traces: Traces::No }
+        Builder { limits, goroutines: 1024, seed: 0, kind: Kind::Real, traces: Traces::No }
     }
 }
 
@@ -52,8 +54,16 @@ pub struct Builder {
     limits: Limits,
     goroutines: u16,
     seed: u64,
-    simulated: bool,
+    kind: Kind,
     pub(crate) traces: Traces,
+}
+
+/// By which clock a run goes, and in which threads.
+#[derive(Clone, Copy, Debug, PartialEq)]
+enum Kind {
+    Real,
+    Simulated,
+    Threads,
 }
 
 /// Of which runs the text of the trace is wanted.
@@ -105,7 +115,8 @@ impl Builder {
         self
     }
 
-    /// How many processors there are: 1 to 32. More than one makes other orders possible; all run in one thread.
+    /// How many processors there are: 1 to 32. More than one makes other orders possible; for threads there is
+    /// [`threads`](Builder::threads).
     ///
     /// ```
     /// use kuvendyra::Runtime;
@@ -117,8 +128,7 @@ impl Builder {
         self
     }
 
-    /// How many machines there are: at least as many as processors, 64 at most. All act in one thread; each blocking call
-    /// keeps one until it is over.
+    /// How many machines there are: at least as many as processors, 64 at most. Each blocking call keeps one until it is over.
     ///
     /// ```
     /// use kuvendyra::{Outcome, Runtime};
@@ -156,7 +166,7 @@ impl Builder {
     /// assert_eq!(ended.outcome, Outcome::Full);
     /// ```
     pub fn entries(mut self, entries: u64) -> Self {
-        let most = if self.simulated { 1_000_000 } else { 65_536 };
+        let most = if self.kind == Kind::Simulated { 1_000_000 } else { 65_536 };
         self.limits.entries = entries;
         self.limits.room = entries.min(most) as u32;
         self
@@ -174,14 +184,62 @@ impl Builder {
     /// assert!(ended.is_clean());
     /// ```
     pub fn simulated(mut self) -> Self {
-        self.simulated = true;
+        self.kind = Kind::Simulated;
         self.goroutines = 128;
         (self.limits.procs, self.limits.machines) = (4, 6);
         self.entries(100_000)
     }
 
+    /// Makes it a run of threads: so many bodies are polled at once, 1 to 32. There are as many processors, and each machine has
+    /// a thread of its own: three more than processors, if [`machines`](Builder::machines) isn't called behind this. Of this and
+    /// [`simulated`](Builder::simulated) the last that is called counts.
+    ///
+    /// The clock is real, and the order is no longer of the seed alone. When main has ended, the run ends once all threads have:
+    /// each body that is polled comes to an `await`, and each blocking call ends. Till then such a body is told
+    /// [`Fault::Over`](crate::Fault::Over) of what it asks without waiting, and no panic of it is noted.
+    ///
+    /// ```
+    /// use kuvendyra::{channel, go, Runtime};
+    ///
+    /// let ended = Runtime::builder().threads(4).block_on(async {
+    ///     let (tx, rx) = channel(4).unwrap();
+    ///     for part in 0..4 {
+    ///         let tx = tx.clone();
+    ///         go(async move { tx.send((part * 250..(part + 1) * 250).sum::<u32>()).await });
+    ///     }
+    ///     drop(tx);
+    ///     let mut sum = 0;
+    ///     while let Some(part) = rx.recv().await {
+    ///         sum += part;
+    ///     }
+    ///     assert_eq!(sum, 499_500);
+    /// });
+    /// assert!(ended.is_clean(), "{ended}");
+    /// ```
+    ///
+    /// What goes to another thread has to be `Send`, which the compiler sees to:
+    ///
+    /// ```compile_fail
+    /// use kuvendyra::{go, yield_now, Runtime};
+    /// use std::rc::Rc;
+    ///
+    /// let ended = Runtime::builder().threads(4).block_on(async {
+    ///     let count = Rc::new(1);
+    ///     go(async move {
+    ///         yield_now().await;
+    ///         drop(count);
+    ///     });
+    /// });
+    /// ```
+    pub fn threads(mut self, threads: u8) -> Self {
+        self.kind = Kind::Threads;
+        self.limits.procs = threads;
+        self.limits.machines = threads.saturating_add(3);
+        self
+    }
+
     /// Lets the answer have the text of the run's trace, if its history is whole: that of a simulation is, up to 1,000,000
-    /// entries.
+    /// entries; that of another run, if [`entries`](Builder::entries) is 65,536 at most.
     ///
     /// ```
     /// use kuvendyra::{check, Runtime};
@@ -194,7 +252,8 @@ impl Builder {
         self
     }
 
-    /// Runs main and all that it starts, in this thread, until main ends or nobody can go on.
+    /// Runs main and all that it starts until main ends or nobody can go on: in this thread, if [`threads`](Builder::threads)
+    /// isn't called.
     ///
     /// ```
     /// use kuvendyra::{channel, go, Fault, Runtime};
@@ -210,32 +269,47 @@ impl Builder {
     /// ```
     pub fn block_on<F>(self, main: F) -> Ended
     where
-        F: Future + 'static,
+        F: Future + Send + 'static,
         F::Output: Answer,
     {
-        let error = Rc::new(RefCell::new(None));
+        let error = Arc::new(Mutex::new(None));
         let told = error.clone();
         let main: Body = Box::pin(async move {
             let answer = main.await.error();
-            told.replace(answer);
+            *locked(&told) = answer;
         });
         let core = match Core::open(&self.limits, self.goroutines) {
             Ok(core) => core,
             Err(number) => return Ended::refused(self.seed, number),
         };
+        let mut ended = self.run(core, main);
+        ended.error = ended.error.or(locked(&error).take());
+        ended
+    }
+
+    /// The run of main, whose answer isn't told here.
+    fn run(&self, core: Core, main: Body) -> Ended {
         let mut random = Random::new(self.seed);
         let words = Random::new(random.next());
-        let (clock, draw) = match self.simulated {
-            true => (Clock::Virtual(Cell::new(0)), Some(Random::new(random.next()))),
-            false => (Clock::Real(Instant::now()), None),
+        let (clock, threads) = match self.kind {
+            Kind::Real => (Clock::Real(Instant::now()), 1),
+            Kind::Simulated => (Clock::Virtual(AtomicU64::new(0)), 1),
+            Kind::Threads => (Clock::Real(Instant::now()), self.limits.machines),
         };
-        let run = Run::new(core, self.limits, self.goroutines, clock, words);
-        let _entered = run.enter();
-        let number = Machines::new(run.clone(), draw, main).run();
+        let run = Run::new(core, self.limits, self.goroutines, clock, words, threads);
+        run.lock().goroutines[0].body = Some(main);
+        let hand = Hand::enter(&run);
+        let number = match self.kind {
+            Kind::Real => Some(Machines::new(hand.0.clone(), None).run()),
+            Kind::Simulated => Some(Machines::new(hand.0.clone(), Some(Random::new(random.next()))).run()),
+            Kind::Threads => threads::run(&run),
+        };
+        let Some(number) = number else {
+            return Ended::refused(self.seed, NO_THREAD);
+        };
         let mut ended = ended(&run, number, self.seed);
-        ended.error = error.take();
         if self.traces == Traces::All || self.traces == Traces::Unclean && !ended.is_clean() {
-            ended.trace = run.core(Core::text);
+            ended.trace = run.lock().core.text();
         }
         ended
     }
@@ -243,32 +317,37 @@ impl Builder {
 
 /// How the run ended; what is left of it is dropped.
 fn ended(run: &Run, number: u32, seed: u64) -> Ended {
-    run.over.set(true);
     let outcome = match number {
         outcome::MAIN_ENDED => Outcome::MainEnded,
         outcome::ALL_ASLEEP => Outcome::Deadlock,
         _ => Outcome::Full,
     };
-    let (left, entries) = (left_of(run, outcome), run.entries());
+    let (left, entries, goroutines) = {
+        let state = &mut *run.lock();
+        run.end(state);
+        let (left, entries) = (left_of(state, outcome), state.entries());
+        let none = state.goroutines.iter().map(|_| Goroutine::default()).collect();
+        (left, entries, std::mem::replace(&mut state.goroutines, none))
+    };
     let at = Moment(run.clock.now());
-    let goroutines = run.goroutines.take();
-    run.goroutines.borrow_mut().extend(goroutines.iter().map(|_| Goroutine::default()));
     for goroutine in goroutines {
         // A panic of what is dropped only now is told by nobody but the hook.
         let _ = catch_unwind(AssertUnwindSafe(|| drop(goroutine)));
     }
-    let (panics, faults) = (run.panics.take(), run.faults.take());
+    let (panics, faults) =
+        (std::mem::take(&mut *locked(&run.panics)), std::mem::take(&mut *locked(&run.faults)));
     Ended { outcome, seed, error: None, panics, faults, left, entries, at, trace: None }
 }
 
 /// Who has not ended.
-fn left_of(run: &Run, outcome: Outcome) -> Vec<Left> {
+fn left_of(state: &mut State, outcome: Outcome) -> Vec<Left> {
     let mut left = vec![];
-    for (g, goroutine) in run.goroutines.borrow().iter().enumerate() {
+    let is_in_pieces = state.is_in_pieces();
+    for (g, goroutine) in state.goroutines.iter().enumerate() {
         let Some(wait) = &goroutine.wait else { continue };
-        let knows = !run.is_in_pieces() && !wait.waits.has_deadline();
-        let waits = || run.core(|core| core.status(g as u16)) == status::WAITING;
-        let is_stuck = outcome == Outcome::Deadlock || knows && waits();
+        let knows = !is_in_pieces && !wait.waits.has_deadline();
+        let is_stuck =
+            outcome == Outcome::Deadlock || knows && state.core.status(g as u16) == status::WAITING;
         left.push(Left {
             goroutine: g as u32,
             started: goroutine.place.map(text_of),

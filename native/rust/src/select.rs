@@ -1,7 +1,8 @@
 //! Several channel operations of which one proceeds.
 use crate::ends::{Receiver, Sender};
 use crate::fault::{Fault, SendError};
-use crate::run::{Asking, Offer, Part, Place, Run, Waits};
+use crate::hand::{Asking, Hand};
+use crate::run::{Offer, Part, Place, Waits};
 use crate::time::Moment;
 use crate::words::{ask, woke, Ask, Case, Event, MAX_CASES, NEVER, NIL};
 use std::future::Future;
@@ -19,6 +20,8 @@ enum Comes<'e> {
 trait Arm<R> {
     /// What the scheduler is offered.
     fn begin(&mut self) -> (Case, Part);
+    /// Takes back what was offered.
+    fn back(&mut self);
     /// Which close of the run was that of the channel, if it is a send.
     fn closed_as(&self) -> Option<u64>;
     /// Whether it is a send whose receivers are gone.
@@ -31,10 +34,12 @@ struct RecvArm<'a, T, F> {
     then: F,
 }
 
-impl<R, T: 'static, F: FnOnce(Option<T>) -> R> Arm<R> for RecvArm<'_, T, F> {
+impl<R, T: Send + 'static, F: FnOnce(Option<T>) -> R> Arm<R> for RecvArm<'_, T, F> {
     fn begin(&mut self) -> (Case, Part) {
         self.rx.0.case(None)
     }
+
+    fn back(&mut self) {}
 
     fn closed_as(&self) -> Option<u64> {
         None
@@ -74,14 +79,24 @@ struct SendArm<'a, T, F> {
     then: F,
 }
 
-impl<R, T: 'static, F: FnOnce(Result<(), SendError<T>>) -> R> Arm<R> for SendArm<'_, T, F> {
+impl<R, T: Send + 'static, F: FnOnce(Result<(), SendError<T>>) -> R> Arm<R> for SendArm<'_, T, F> {
     fn begin(&mut self) -> (Case, Part) {
-        let (mut case, part) = self.tx.0.case(self.value.place().take());
-        self.key = part.key;
+        match self.value.place().take().map(|value| self.tx.0.put(value)) {
+            Some(Ok(key)) => self.key = Some(key),
+            Some(Err(error)) => *self.value.place() = Some(error.value),
+            None => {}
+        }
+        let (mut case, part) = self.tx.0.case(self.key);
         if self.key.is_none() {
             case = Case { sends: true, channel: NIL, value: 0 };
         }
         (case, part)
+    }
+
+    fn back(&mut self) {
+        if let Some(key) = self.key.take() {
+            *self.value.place() = self.tx.0.take(key);
+        }
     }
 
     fn closed_as(&self) -> Option<u64> {
@@ -95,8 +110,8 @@ impl<R, T: 'static, F: FnOnce(Result<(), SendError<T>>) -> R> Arm<R> for SendArm
     fn end(mut self: Box<Self>, comes: Comes<'_>) -> Option<R> {
         match (comes, self.key) {
             (Comes::Chosen(event), Some(key)) => Some((self.then)(self.tx.0.sent(key, event))),
-            (Comes::Left, Some(key)) => {
-                *self.value.place() = self.tx.0.take(key);
+            (Comes::Left, _) => {
+                self.back();
                 None
             }
             (Comes::Refused, None) => {
@@ -108,7 +123,7 @@ impl<R, T: 'static, F: FnOnce(Result<(), SendError<T>>) -> R> Arm<R> for SendArm
     }
 }
 
-type Then<'a, R> = Box<dyn FnOnce() -> R + 'a>;
+type Then<'a, R> = Box<dyn FnOnce() -> R + Send + 'a>;
 
 /// Several channel operations of which one proceeds; each has a closure for what comes of it, and the select answers
 /// what that answers. It is for 8 cases at most, and it may have a default, or a deadline.
@@ -133,7 +148,7 @@ type Then<'a, R> = Box<dyn FnOnce() -> R + 'a>;
 /// assert!(ended.panics.is_empty(), "{ended}");
 /// ```
 pub struct Select<'a, R> {
-    arms: Vec<Box<dyn Arm<R> + 'a>>,
+    arms: Vec<Box<dyn Arm<R> + Send + 'a>>,
     default: Option<Then<'a, R>>,
     until: Option<(Moment, Then<'a, R>)>,
 }
@@ -153,7 +168,7 @@ impl<'a, R: 'a> Select<'a, R> {
     }
 
     #[track_caller]
-    fn with(mut self, arm: impl Arm<R> + 'a) -> Self {
+    fn with(mut self, arm: impl Arm<R> + Send + 'a) -> Self {
         assert!(self.arms.len() < MAX_CASES, "a select has 8 cases at most");
         self.arms.push(Box::new(arm));
         self
@@ -176,7 +191,11 @@ impl<'a, R: 'a> Select<'a, R> {
     /// assert!(ended.panics.is_empty(), "{ended}");
     /// ```
     #[track_caller]
-    pub fn recv<T: 'static>(self, rx: &'a Receiver<T>, then: impl FnOnce(Option<T>) -> R + 'a) -> Self {
+    pub fn recv<T: Send + 'static>(
+        self,
+        rx: &'a Receiver<T>,
+        then: impl FnOnce(Option<T>) -> R + Send + 'a,
+    ) -> Self {
         self.with(RecvArm { rx, then })
     }
 
@@ -198,11 +217,11 @@ impl<'a, R: 'a> Select<'a, R> {
     /// assert!(ended.panics.is_empty(), "{ended}");
     /// ```
     #[track_caller]
-    pub fn send<T: 'static>(
+    pub fn send<T: Send + 'static>(
         self,
         tx: &'a Sender<T>,
         value: T,
-        then: impl FnOnce(Result<(), SendError<T>>) -> R + 'a,
+        then: impl FnOnce(Result<(), SendError<T>>) -> R + Send + 'a,
     ) -> Self {
         let value = Source::Owned(Some(value));
         self.with(SendArm { tx, value, key: None, then })
@@ -227,11 +246,11 @@ impl<'a, R: 'a> Select<'a, R> {
     /// assert!(ended.panics.is_empty(), "{ended}");
     /// ```
     #[track_caller]
-    pub fn send_from<T: 'static>(
+    pub fn send_from<T: Send + 'static>(
         self,
         tx: &'a Sender<T>,
         value: &'a mut Option<T>,
-        then: impl FnOnce(Result<(), SendError<T>>) -> R + 'a,
+        then: impl FnOnce(Result<(), SendError<T>>) -> R + Send + 'a,
     ) -> Self {
         let value = Source::Lent(value);
         self.with(SendArm { tx, value, key: None, then })
@@ -248,7 +267,7 @@ impl<'a, R: 'a> Select<'a, R> {
     /// });
     /// assert!(ended.panics.is_empty(), "{ended}");
     /// ```
-    pub fn or_default(mut self, then: impl FnOnce() -> R + 'a) -> Self {
+    pub fn or_default(mut self, then: impl FnOnce() -> R + Send + 'a) -> Self {
         self.default = Some(Box::new(then));
         self
     }
@@ -267,7 +286,7 @@ impl<'a, R: 'a> Select<'a, R> {
     /// });
     /// assert!(ended.panics.is_empty(), "{ended}");
     /// ```
-    pub fn until(mut self, moment: Moment, then: impl FnOnce() -> R + 'a) -> Self {
+    pub fn until(mut self, moment: Moment, then: impl FnOnce() -> R + Send + 'a) -> Self {
         self.until = Some((moment, Box::new(then)));
         self
     }
@@ -285,35 +304,52 @@ impl<'a, R: 'a> Select<'a, R> {
     /// assert!(ended.panics.is_empty(), "{ended}");
     /// ```
     #[track_caller]
-    pub fn wait(self) -> impl Future<Output = R> + 'a {
+    pub fn wait(mut self) -> impl Future<Output = R> + Send + 'a {
         let place = Location::caller();
         async move {
-            match self.refused() {
-                Ok(answer) => answer,
-                Err(select) => select.asked(place).await,
+            let offer = match self.begun(place) {
+                Ok(answer) => return answer,
+                Err(offer) => offer,
+            };
+            let event = Asking::new(offer).await;
+            self.answer(&event)
+        }
+    }
+
+    /// What a send answers whose receivers are gone; else what the scheduler is offered.
+    fn begun(&mut self, place: Place) -> Result<R, Box<Offer>> {
+        loop {
+            if let Some(answer) = self.refused() {
+                return Ok(answer);
+            }
+            let offer = self.offer(place);
+            if !self.arms.iter().any(|arm| arm.is_refused()) {
+                return Err(Box::new(offer));
+            }
+            // The last receiver went meanwhile, in another thread.
+            self.arms.iter_mut().for_each(|arm| arm.back());
+        }
+    }
+
+    /// What the first send answers whose receivers are gone. One that has no value is no case any more.
+    fn refused(&mut self) -> Option<R> {
+        while let Some(at) = self.arms.iter().position(|arm| arm.is_refused()) {
+            let answer = self.arms.remove(at).end(Comes::Refused);
+            if answer.is_some() {
+                return answer;
             }
         }
+        None
     }
 
-    /// What a send answers whose receivers are gone; else the select again.
-    fn refused(mut self) -> Result<R, Self> {
-        match self.arms.iter().position(|arm| arm.is_refused()) {
-            None => Err(self),
-            Some(at) => match self.arms.remove(at).end(Comes::Refused) {
-                Some(answer) => Ok(answer),
-                None => self.refused(),
-            },
-        }
-    }
-
-    async fn asked(mut self, place: Place) -> R {
+    fn offer(&mut self, place: Place) -> Offer {
         let (cases, parts): (Vec<_>, Vec<_>) = self.arms.iter_mut().map(|arm| arm.begin()).unzip();
         let until = self.until.as_ref().map(|(moment, _)| *moment);
         let named = cases.iter().map(|case| (case.sends, case.channel)).collect();
         let ask = Ask::on(ask::SELECT, self.default.is_some().into(), until.map_or(NEVER, |m| m.0));
-        let waits = Waits::Select(named, until);
-        let event = Asking::new(Offer { id: 0, ask, cases, waits, place, parts, job: None }).await;
-        self.answer(&event)
+        let mut offer = Offer::of(ask, Waits::Select(named, until), place);
+        (offer.cases, offer.parts) = (cases, parts);
+        offer
     }
 
     /// The send whose channel was closed first: the fault is of that one.
@@ -340,7 +376,7 @@ impl<'a, R: 'a> Select<'a, R> {
         };
         match answer.or_else(other) {
             Some(answer) => answer,
-            None => panic!("fault {}", Run::current().note(Fault::of(event.value))),
+            None => panic!("fault {}", Hand::current().note(Fault::of(event.value))),
         }
     }
 }

@@ -28,7 +28,7 @@ use std::{fs, io};
 /// ```
 pub fn run<F>(seed: u64, main: impl FnOnce() -> F) -> Ended
 where
-    F: Future + 'static,
+    F: Future + Send + 'static,
     F::Output: Answer,
 {
     Runtime::builder().simulated().seed(seed).block_on(main())
@@ -98,7 +98,7 @@ impl Found {
 /// ```
 pub fn search<F>(seeds: impl IntoIterator<Item = u64>, main: impl Fn() -> F) -> Option<Found>
 where
-    F: Future + 'static,
+    F: Future + Send + 'static,
     F::Output: Answer,
 {
     Runtime::builder().simulated().search(seeds, main)
@@ -115,7 +115,7 @@ impl Builder {
     /// ```
     pub fn search<F>(&self, seeds: impl IntoIterator<Item = u64>, main: impl Fn() -> F) -> Option<Found>
     where
-        F: Future + 'static,
+        F: Future + Send + 'static,
         F::Output: Answer,
     {
         let mut one = self.clone();

@@ -1,11 +1,12 @@
 //! Moments of a run's clock, and sleep.
-use crate::run::{Run, Waits};
+use crate::hand::{Asking, Hand};
+use crate::run::Waits;
 use crate::words::{ask, Ask, LAST};
-use std::cell::Cell;
 use std::fmt;
 use std::future::Future;
 use std::ops::{Add, Sub};
 use std::panic::Location;
+use std::sync::atomic::{AtomicU64, Ordering};
 use std::time::{Duration, Instant};
 
 /// A moment of the run's clock, which begins at 0. In a simulation the clock is virtual.
@@ -51,14 +52,14 @@ impl fmt::Display for Moment {
 pub(crate) enum Clock {
     Real(Instant),
     /// It moves only where nobody can go on before the next deadline.
-    Virtual(Cell<u64>),
+    Virtual(AtomicU64),
 }
 
 impl Clock {
     pub(crate) fn now(&self) -> u64 {
         match self {
             Clock::Real(begun) => u64::try_from(begun.elapsed().as_nanos()).unwrap_or(LAST),
-            Clock::Virtual(now) => now.get(),
+            Clock::Virtual(now) => now.load(Ordering::SeqCst),
         }
     }
 }
@@ -76,7 +77,7 @@ impl Clock {
 /// assert!(ended.panics.is_empty(), "{ended}");
 /// ```
 pub fn now() -> Moment {
-    Moment(Run::current().clock.now())
+    Moment(Hand::current().run.clock.now())
 }
 
 /// Waits for so long.
@@ -113,7 +114,7 @@ pub fn sleep_until(moment: Moment) -> impl Future<Output = ()> {
 }
 
 async fn sleep_from(moment: Moment, place: &'static Location<'static>) {
-    Run::asking(Ask::with(ask::SLEEP, moment.0), Waits::Sleep(moment), place).await;
+    Asking::of(Ask::with(ask::SLEEP, moment.0), Waits::Sleep(moment), place).await;
 }
 
 /// Lets others go first.
@@ -131,6 +132,6 @@ async fn sleep_from(moment: Moment, place: &'static Location<'static>) {
 pub fn yield_now() -> impl Future<Output = ()> {
     let place = Location::caller();
     async move {
-        Run::asking(Ask::of(ask::YIELD), Waits::Turn, place).await;
+        Asking::of(Ask::of(ask::YIELD), Waits::Turn, place).await;
     }
 }

@@ -1,19 +1,19 @@
 //! Panics, ends that go, futures that are dropped, and channels that are used again.
 use kuvendyra::{channel, go, sim, sleep, spawn_blocking, yield_now};
 use kuvendyra::{Fault, JoinError, JoinHandle, Outcome, Receiver, Runtime, Select};
-use std::cell::{Cell, RefCell};
 use std::future::{poll_fn, Future};
 use std::pin::Pin;
-use std::rc::Rc;
+use std::sync::atomic::{AtomicU32, Ordering::SeqCst};
+use std::sync::{Arc, Mutex};
 use std::task::Poll;
 use std::time::Duration;
 
 /// Counts how many of its kind were dropped.
-struct Counted(Rc<Cell<u32>>);
+struct Counted(Arc<AtomicU32>);
 
 impl Drop for Counted {
     fn drop(&mut self) {
-        self.0.set(self.0.get() + 1);
+        self.0.fetch_add(1, SeqCst);
     }
 }
 
@@ -106,8 +106,21 @@ fn a_dropped_sender_closes() {
 }
 
 #[test]
+fn a_sender_that_goes_in_a_blocking_call_closes() {
+    let main = || async {
+        let (tx, rx) = channel::<u8>(0).unwrap();
+        let waits = go(async move { rx.recv().await });
+        spawn_blocking(move || drop(tx)).await.unwrap();
+        assert_eq!(waits.await, Ok(None));
+    };
+    for ended in [Runtime::builder().block_on(main()), sim::run(0, main)] {
+        assert!(ended.is_clean(), "{ended}");
+    }
+}
+
+#[test]
 fn all_values_are_dropped_once() {
-    let count = Rc::new(Cell::new(0));
+    let count = Arc::new(AtomicU32::new(0));
     let mine = count.clone();
     let ended = sim::run(0, || async move {
         let (tx, rx) = channel(2).unwrap();
@@ -125,7 +138,7 @@ fn all_values_are_dropped_once() {
         std::mem::drop(Select::new().send(&tx, Counted(mine.clone()), |_| ()));
     });
     assert!(ended.outcome == Outcome::MainEnded && ended.panics.is_empty(), "{ended}");
-    assert_eq!(count.get(), 5);
+    assert_eq!(count.load(SeqCst), 5);
 }
 
 /// Polls the future once, and drops it.
@@ -152,18 +165,18 @@ fn a_future_that_is_dropped_at_once_asks_nothing() {
     assert!(ended.is_clean(), "{ended}");
 }
 
-type Shared = Rc<RefCell<Option<Pin<Box<dyn Future<Output = Option<Counted>>>>>>>;
+type Shared = Arc<Mutex<Option<Pin<Box<dyn Future<Output = Option<Counted>> + Send>>>>>;
 
 /// Polls what is shared for as long as it is there.
 async fn while_there(shared: Shared) -> bool {
     poll_fn(|context| {
-        let future = shared.take();
+        let future = shared.lock().unwrap().take();
         match future {
             None => Poll::Ready(false),
             Some(mut future) => match future.as_mut().poll(context) {
                 Poll::Ready(_) => Poll::Ready(true),
                 Poll::Pending => {
-                    shared.replace(Some(future));
+                    *shared.lock().unwrap() = Some(future);
                     Poll::Pending
                 }
             },
@@ -174,22 +187,22 @@ async fn while_there(shared: Shared) -> bool {
 
 #[test]
 fn what_a_dropped_future_would_receive_is_dropped() {
-    let count = Rc::new(Cell::new(0));
+    let count = Arc::new(AtomicU32::new(0));
     let mine = count.clone();
     let ended = sim::run(0, || async move {
         let (tx, rx) = channel::<Counted>(0).unwrap();
         let received = async move { rx.recv().await };
-        let shared: Shared = Rc::new(RefCell::new(Some(Box::pin(received))));
+        let shared: Shared = Arc::new(Mutex::new(Some(Box::pin(received))));
         let waits = go(while_there(shared.clone()));
         sleep(Duration::from_millis(1)).await;
         // Another goroutine drops the future, whose goroutine waits to receive.
-        let future = shared.take();
+        let future = shared.lock().unwrap().take();
         tx.send(Counted(mine.clone())).await.unwrap();
         drop(future);
         assert_eq!(waits.await, Ok(false));
-        assert_eq!(mine.get(), 1);
+        assert_eq!(mine.load(SeqCst), 1);
     });
-    assert!(ended.is_clean() && count.get() == 1, "{ended}");
+    assert!(ended.is_clean() && count.load(SeqCst) == 1, "{ended}");
 }
 
 #[test]
@@ -197,7 +210,7 @@ fn a_future_stays_with_its_goroutine() {
     let ended = sim::run(0, || async {
         let (_tx, rx) = channel::<Counted>(0).unwrap();
         let received = async move { rx.recv().await };
-        let shared: Shared = Rc::new(RefCell::new(Some(Box::pin(received))));
+        let shared: Shared = Arc::new(Mutex::new(Some(Box::pin(received))));
         go(while_there(shared.clone()));
         sleep(Duration::from_millis(1)).await;
         assert!(go(while_there(shared)).await.is_err());
@@ -307,14 +320,14 @@ fn many_wait_in_turn() {
 
 #[test]
 fn a_leak_is_told() {
-    let kept = Rc::new(RefCell::new(None));
+    let kept = Arc::new(Mutex::new(None));
     let mine = kept.clone();
     let ended = sim::run(0, || async move {
         let (tx, rx) = channel::<u8>(0).unwrap();
         go(async move { rx.recv().await });
         sleep(Duration::from_millis(1)).await;
         // What is kept beyond the run keeps the channel open.
-        mine.replace(Some(tx));
+        *mine.lock().unwrap() = Some(tx);
     });
     assert_eq!((ended.outcome, ended.leaks().count()), (Outcome::MainEnded, 1), "{ended}");
     assert!(!ended.is_clean());
@@ -357,20 +370,20 @@ fn runs_within_runs() {
 
 #[test]
 fn a_channel_of_another_run_is_refused() {
-    let out = Rc::new(RefCell::new(None));
+    let out = Arc::new(Mutex::new(None));
     let mine = out.clone();
     let _ = sim::run(0, || async move {
-        mine.replace(channel::<u8>(1).ok());
+        *mine.lock().unwrap() = channel::<u8>(1).ok();
     });
-    let ends = out.take();
+    let ends = out.lock().unwrap().take();
     let ended = sim::run(0, || async move { assert!(ends.unwrap().0.send(1).await.is_ok()) });
     assert!(ended.panics[0].message.contains("another run"), "{ended}");
-    let out = Rc::new(RefCell::new(None));
+    let out = Arc::new(Mutex::new(None));
     let mine = out.clone();
     let _ = sim::run(0, || async move {
-        mine.replace(channel::<u8>(1).ok());
+        *mine.lock().unwrap() = channel::<u8>(1).ok();
     });
-    let ends = out.take();
+    let ends = out.lock().unwrap().take();
     let ended = sim::run(0, || async move { Select::new().recv(&ends.unwrap().1, |_| ()).wait().await });
     assert!(ended.panics[0].message.contains("another run"), "{ended}");
 }

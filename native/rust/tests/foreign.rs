@@ -1,8 +1,7 @@
 //! Futures that are none of the crate's.
 use kuvendyra::{go, now, sim, yield_now, Outcome, Runtime};
-use std::cell::RefCell;
 use std::future::poll_fn;
-use std::rc::Rc;
+use std::sync::{Arc, Mutex};
 use std::task::{Poll, Waker};
 use std::time::Duration;
 
@@ -42,11 +41,11 @@ fn a_future_of_another_crate_is_awaited() {
 }
 
 /// A place for one number, and who waits for it: a future that is none of the crate's.
-type Cup = Rc<RefCell<(Option<u8>, Option<Waker>)>>;
+type Cup = Arc<Mutex<(Option<u8>, Option<Waker>)>>;
 
 async fn drunk(cup: Cup) -> u8 {
     poll_fn(|context| {
-        let (number, waker) = &mut *cup.borrow_mut();
+        let (number, waker) = &mut *cup.lock().unwrap();
         *waker = Some(context.waker().clone());
         number.take().map_or(Poll::Pending, Poll::Ready)
     })
@@ -63,7 +62,7 @@ fn one_goroutine_wakes_another_by_its_waker() {
                 yield_now().await;
             }
             let waker = {
-                let mut cup = cup.borrow_mut();
+                let mut cup = cup.lock().unwrap();
                 cup.0 = Some(5);
                 cup.1.take()
             };

@@ -2,9 +2,8 @@
 //! channels says.
 use kuvendyra::{channel, check, go, yield_now};
 use kuvendyra::{Ended, Fault, Outcome, Receiver, Runtime, Select, Sender};
-use std::cell::RefCell;
 use std::collections::VecDeque;
-use std::rc::Rc;
+use std::sync::{Arc, Mutex};
 
 #[derive(Clone, Debug)]
 enum Op {
@@ -112,20 +111,20 @@ async fn asked(op: &Op, ends: &Ends) -> Answer {
 
 /// Runs the program by the seed, and answers what was asked and told, in order.
 fn log_of(seed: u64) -> (Vec<Entry>, Ended) {
-    let log: Rc<RefCell<Vec<Entry>>> = Rc::default();
+    let log: Arc<Mutex<Vec<Entry>>> = Arc::default();
     let told = log.clone();
     let Program { capacities, bodies } = program(seed);
     let ended = Runtime::builder().simulated().traced().seed(seed).block_on(async move {
         let ends: Ends = capacities.iter().map(|capacity| channel(*capacity).unwrap()).collect();
-        let ends = Rc::new(ends);
+        let ends = Arc::new(ends);
         let mut handles = vec![];
         for (g, ops) in bodies.into_iter().enumerate() {
             let (ends, log) = (ends.clone(), told.clone());
             handles.push(go(async move {
                 for op in ops {
-                    log.borrow_mut().push(Entry::Asks(g, op.clone()));
+                    log.lock().unwrap().push(Entry::Asks(g, op.clone()));
                     let answer = asked(&op, &ends).await;
-                    log.borrow_mut().push(Entry::Told(g, answer));
+                    log.lock().unwrap().push(Entry::Told(g, answer));
                 }
             }));
         }
@@ -133,7 +132,7 @@ fn log_of(seed: u64) -> (Vec<Entry>, Ended) {
             handle.await.unwrap();
         }
     });
-    let log = log.take();
+    let log = std::mem::take(&mut *log.lock().unwrap());
     (log, ended)
 }
 

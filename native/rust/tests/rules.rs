@@ -2,38 +2,37 @@
 //! seeds of the simulation.
 use kuvendyra::{channel, go, nil, now, sim, sleep, sleep_until, spawn_blocking, yield_now};
 use kuvendyra::{Ended, Fault, JoinError, Outcome, Runtime, Select, TryRecvError, TrySendError};
-use std::cell::RefCell;
 use std::future::Future;
-use std::rc::Rc;
+use std::sync::{Arc, Mutex};
 use std::time::Duration;
 
 /// Runs it each way, and looks at how it ended.
-fn each<F: Future<Output = ()> + 'static>(main: impl Fn() -> F, check: impl Fn(&Ended)) {
+fn each<F: Future<Output = ()> + Send + 'static>(main: impl Fn() -> F, check: impl Fn(&Ended)) {
     check(&Runtime::builder().block_on(main()));
     for seed in 0..10 {
         check(&sim::run(seed, &main));
     }
 }
 
-fn clean<F: Future<Output = ()> + 'static>(main: impl Fn() -> F) {
+fn clean<F: Future<Output = ()> + Send + 'static>(main: impl Fn() -> F) {
     each(main, |ended| assert!(ended.is_clean(), "{ended}"));
 }
 
-fn deadlock<F: Future<Output = ()> + 'static>(main: impl Fn() -> F) {
+fn deadlock<F: Future<Output = ()> + Send + 'static>(main: impl Fn() -> F) {
     each(main, |ended| assert_eq!(ended.outcome, Outcome::Deadlock, "{ended}"));
 }
 
 /// What happened, in order.
 #[derive(Clone, Default)]
-struct Log(Rc<RefCell<Vec<u32>>>);
+struct Log(Arc<Mutex<Vec<u32>>>);
 
 impl Log {
     fn add(&self, number: u32) {
-        self.0.borrow_mut().push(number);
+        self.0.lock().unwrap().push(number);
     }
 
     fn is(&self, numbers: &[u32]) {
-        assert_eq!(*self.0.borrow(), numbers);
+        assert_eq!(*self.0.lock().unwrap(), numbers);
     }
 }
 
@@ -226,16 +225,17 @@ fn a_select_waits_for_all_its_cases() {
 #[test]
 fn a_select_takes_each_case_in_some_run() {
     let taken = |seed| {
-        let case = Rc::new(RefCell::new(0));
+        let case = Arc::new(Mutex::new(0));
         let told = case.clone();
         let ended = sim::run(seed, || async move {
             let ((a, from_a), (b, from_b)) = (channel(1).unwrap(), channel(1).unwrap());
             a.send(()).await.unwrap();
             b.send(()).await.unwrap();
-            *told.borrow_mut() = Select::new().recv(&from_a, |_| 1).recv(&from_b, |_| 2).wait().await;
+            let case = Select::new().recv(&from_a, |_| 1).recv(&from_b, |_| 2).wait().await;
+            *told.lock().unwrap() = case;
         });
         assert!(ended.is_clean(), "{ended}");
-        let case = *case.borrow();
+        let case = *case.lock().unwrap();
         case
     };
     let all: Vec<i32> = (0..32).map(taken).collect();
