@@ -9,7 +9,13 @@ fn main() {
     }
     let here = PathBuf::from(env::var_os("CARGO_MANIFEST_DIR").expect("cargo tells the folder"));
     let folder = env::var_os("GMP_LIB").map_or_else(|| here.join("../lib"), PathBuf::from);
-    println!("cargo:rerun-if-changed={}", folder.join("libgmp_c.a").display());
+    let library = folder.join("libgmp_c.a");
+    println!("cargo:rerun-if-changed={}", library.display());
+    assert!(
+        library.is_file(),
+        "there is no {}: `./gmp lib DIR` builds it, GMP_LIB names its folder by a path from /, and the feature mock does without it",
+        library.display()
+    );
     println!("cargo:rustc-link-search=native={}", folder.display());
     println!("cargo:rustc-link-lib=static=gmp_c");
 }
