@@ -58,7 +58,8 @@ abbrev pub explain : Shape
 explain = command (codes "explain") (flag (codes "json") ∷ [])
 
 abbrev pub draw : Shape
-draw = command (codes "draw") (numeric (codes "from") 0 18446744073709551615 ∷ numeric (codes "to") 0 18446744073709551615 ∷ [])
+draw = command (codes "draw")
+    (numeric (codes "from") 0 18446744073709551615 ∷ numeric (codes "to") 0 18446744073709551615 ∷ option (codes "by") ∷ [])
 
 abbrev pub explore : Shape
 explore = command (codes "explore")

@@ -8,6 +8,8 @@ use Rattle.clap.specs.declared.error.kind.ErrorKind.{ErrorKind}
 use Rattle.clap.specs.declared.error.kind.ErrorKind.TheVariants as kind
 use Rattle.gmp_script.specs.Numbers.{parsed_number}
 use Rattle.gmp_words.specs.Program.{gmp}
+use Rattle.gmp_words.specs.declared.options.By.{By}
+use Rattle.gmp_words.specs.declared.options.By.TheVariants as by
 use Rattle.gmp_words.specs.declared.options.CommandLine.{CommandLine}
 use Rattle.gmp_words.specs.declared.options.Segments.{Segments}
 use Rattle.gmp_words.specs.declared.options.Settings.{Settings}
@@ -61,6 +63,17 @@ pub record AreWanted (rows : List Row) (w : Wanted) : Type 0 where
   pub no_fault : w.no_fault ≡ list_any (λ name. bytes_eq name (codes "no-fault")) (names_wanted rows)
   pub no_leak : w.no_leak ≡ list_any (λ name. bytes_eq name (codes "no-leak")) (names_wanted rows)
 
+-- what has a lane in a picture, which is a machine where nothing else is named
+abbrev pub by_name : Option Text → Option By
+by_name None = Some by.Machine
+by_name (Some text) =
+    (if bytes_eq text (codes "machine") then Some by.Machine
+    else if bytes_eq text (codes "goroutine") then Some by.Goroutine
+    else None)
+
+abbrev pub lanes_by : List Row → Option By
+lanes_by rows = by_name (given rows (codes "by"))
+
 -- a folder is named for the segments of the history
 abbrev pub names_folder : List Row → Bool
 names_folder rows = is_some (given rows (codes "segments"))
@@ -96,6 +109,7 @@ pub record AreGiven (rows : List Row) (s : Settings) : Type 0 where
   pub fair : s.fair ≡ is_given rows (codes "fair")
   pub at : number_given rows (codes "at") 0 ≡ Some s.at
   pub json : s.json ≡ is_given rows (codes "json")
+  pub by : lanes_by rows ≡ Some s.by
   pub from : number_given rows (codes "from") 0 ≡ Some s.from
   pub to : number_given rows (codes "to") 18446744073709551615 ≡ Some s.to
   pub states : number_given rows (codes "states") 1000000 ≡ Some s.states

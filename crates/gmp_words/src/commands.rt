@@ -7,7 +7,7 @@ ghost use Rattle.gmp_words.specs.Program.{flag, folder, gmp, numeric_of, with_mo
 ghost use Rattle.gmp_words.specs.Program as line;
 
 use crate::numeric::Numeric;
-use crate::wanting;
+use crate::{drawing, wanting};
 use clap::builder::ValueParser;
 use clap::{Arg, ArgAction, Command};
 use gmp_seq::{LEAST_ROOM, MOST_CHANNELS, MOST_MACHINES, MOST_PROCS};
@@ -195,8 +195,8 @@ it says which replies are allowed there, or what is missing.
 Exit status: as of check.";
 
 const DRAW_INPUT: &str =
-    "The trace comes on standard input, and a picture of it (SVG) goes to standard output: a lane for each machine and
-each channel, from left to right by entries.
+    "The trace comes on standard input, and a picture of it (SVG) goes to standard output: a lane for each machine, or for
+each goroutine, and for each channel, from left to right by entries.
 
 Exit status: as of check.";
 
@@ -360,7 +360,7 @@ fn draw<'a>(alloc: Global) -> Result<Command<'a>, AllocError>
     ensures local { IfOk result (λ r. (fields_of r).has_globals ≡ false) }
 {
     let about = "Reads a trace, checks it and prints a picture of it";
-    with(alloc, bare(alloc, "draw", about, DRAW_INPUT), &[FROM, TO])
+    with(alloc, bare(alloc, "draw", about, DRAW_INPUT), &[FROM, TO])?.arg(drawing::arg(alloc))
 }
 
 /// The command `explore`, with its options.

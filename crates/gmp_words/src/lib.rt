@@ -8,11 +8,12 @@
 //! alone, options that don't go together, a word that isn't UTF-8. Help and the version that are asked for are no refusal. An input is refused where it is too long
 //! (`MAX_SCRIPT`, `MAX_TRACE`) or can't be read, a script by its first bad line.
 //!
-//! `words`, `numeric` and `wanting` read the command line by `commands`, `options` has what it says, `host` hands it in, `reading` and `parsing`
-//! read the input, `ended` and `said` are the end.
+//! `words`, `numeric`, `wanting` and `drawing` read the command line by `commands`, `options` has what it says, `host` hands it in, `reading`
+//! and `parsing` read the input, `ended` and `said` are the end.
 #![tactic(auto)]
 
 mod commands;
+mod drawing;
 mod ended;
 mod host;
 mod numeric;
@@ -26,7 +27,7 @@ mod words;
 pub use commands::MOST_ENTRIES;
 pub use ended::{Ended, Verdict};
 pub use host::arguments;
-pub use options::{CommandLine, Segments, Settings, Task, Wanted};
+pub use options::{By, CommandLine, Segments, Settings, Task, Wanted};
 pub use parsing::script;
 pub use reading::{MAX_SCRIPT, MAX_TRACE, input};
 pub use said::{Said, Untraced};

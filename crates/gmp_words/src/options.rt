@@ -1,4 +1,4 @@
-//! What is to be done (`Task`), and with which numbers (`Settings`). One type for all tasks: an option that a task doesn't have has its
+//! What is to be done (`Task`), and with which numbers and names (`Settings`). One type for all tasks: an option that a task doesn't have has its
 //! default.
 
 ghost use Rattle.std.specs.Prelude.{◌≤◌};
@@ -24,6 +24,13 @@ pub enum Task {
     Draw,
     /// Looks at all that may happen in any run of a script, and prints what goes wrong, or that nothing does.
     Explore,
+}
+
+/// What has a lane in a picture.
+#[derive(Clone, Copy)]
+pub enum By {
+    Machine,
+    Goroutine,
 }
 
 /// What no run of a script is to do. One or more of these are wanted.
@@ -81,6 +88,8 @@ pub struct Settings {
     pub at: u64,
     /// Whether facts are told as one JSON object, and not as lines.
     pub json: bool,
+    /// What has a lane in a picture.
+    pub by: By,
     /// The first entry of a picture.
     pub from: u64,
     /// The entry before which a picture ends.

@@ -3,7 +3,7 @@
 ghost use Rattle.std.specs.Prelude.{◌≡◌, ◌≢◌, ◌≤◌, ◌⊎◌, ℕ, [], codes, map, string_bytes, true, Option, Some, IfOk, IfErr, IfNone, IfSome};
 ghost use Rattle.gmp_words.specs.Said.{is_of_words};
 ghost use Rattle.gmp_words.specs.Program.{gmp};
-ghost use Rattle.gmp_words.specs.Words.{AreEntries, AreGiven, AreSaid, AreWanted, AskForHelp, AskForHelpAlone, IsHelp, entered, go_together, is_given, name_of, names_folder, number_given};
+ghost use Rattle.gmp_words.specs.Words.{AreEntries, AreGiven, AreSaid, AreWanted, AskForHelp, AskForHelpAlone, IsHelp, entered, go_together, is_given, lanes_by, name_of, names_folder, number_given};
 ghost use Rattle.gmp_words.specs.declared.options.CommandLine.{CommandLine as Line};
 ghost use Rattle.clap.specs.Words.{fault_of, found_of, kind_of, rows_of, subcommand_rows_of};
 
@@ -13,9 +13,9 @@ use crate::commands::{
 };
 use crate::ended::Ended;
 use crate::numeric::given;
-use crate::options::{CommandLine, Segments, Settings, Task, Wanted};
+use crate::options::{By, CommandLine, Segments, Settings, Task, Wanted};
 use crate::said::Said;
-use crate::wanting;
+use crate::{drawing, wanting};
 use clap::error::ErrorKind;
 use clap::{ArgMatches, Command};
 use std::alloc::Global;
@@ -139,10 +139,36 @@ fn length_of(options: &ArgMatches) -> Option<Length>
     })
 }
 
+/// What the options say of machines' choices and acts.
+#[derive(Clone, Copy)]
+struct OfActs {
+    word: u64,
+    acts: u32,
+    random: u64,
+}
+
+/// What the options say of machines' choices and acts.
+///
+/// None where a number is out of range, or is not written in digits alone.
+fn of_acts(options: &ArgMatches) -> Option<OfActs>
+    ensures word { IfSome result (λ x. number_given (rows_of (found_of options.now)) (codes "word") 0 ≡ Some x.word) }
+    ensures acts { IfSome result (λ x. number_given (rows_of (found_of options.now)) (codes "acts") 10000000 ≡ Some x.acts) }
+    ensures in_range { IfSome result (λ x. (1 ≤ x.acts) × (x.acts ≤ 1000000000)) }
+    ensures random { IfSome result (λ x. number_given (rows_of (found_of options.now)) (codes "random") 0 ≡ Some x.random) }
+    ensures none { IfNone result ((s : Settings) → AreGiven (rows_of (found_of options.now)) s → ⊥) }
+{
+    Some(OfActs {
+        word: WORD.read(options)?,
+        acts: ACTS.read(options)? as u32,
+        random: RANDOM.read(options)?,
+    })
+}
+
 /// What the options say for this task.
 ///
 /// None where a number is out of range, or is not written in digits alone.
-fn settings_of(task: Task, wanted: Wanted, options: &ArgMatches) -> Option<Settings>
+fn settings_of(task: Task, wanted: Wanted, by: By, options: &ArgMatches) -> Option<Settings>
+    requires by { lanes_by (rows_of (found_of options.now)) ≡ Some by }
     requires wanted { AreWanted (rows_of (found_of options.now)) wanted }
     requires together { go_together (rows_of (found_of options.now)) ≡ true }
     ensures task { IfSome result (λ s. s.task ≡ task) }
@@ -151,6 +177,7 @@ fn settings_of(task: Task, wanted: Wanted, options: &ArgMatches) -> Option<Setti
 {
     let of_trace = of_trace(options)?;
     let length = length_of(options)?;
+    let of_acts = of_acts(options)?;
     Some(Settings {
         task,
         procs: PROCS.read(options)? as u8,
@@ -159,14 +186,15 @@ fn settings_of(task: Task, wanted: Wanted, options: &ArgMatches) -> Option<Setti
         channels: CHANNELS.read(options)? as u16,
         entries: length.entries,
         segments: length.segments,
-        word: WORD.read(options)?,
-        acts: ACTS.read(options)? as u32,
-        random: RANDOM.read(options)?,
+        word: of_acts.word,
+        acts: of_acts.acts,
+        random: of_acts.random,
         trace: is_given(options, "trace"),
         scripted: is_given(options, "scripted"),
         fair: is_given(options, "fair"),
         at: of_trace.at,
         json: of_trace.json,
+        by,
         from: of_trace.from,
         to: of_trace.to,
         states: STATES.read(options)? as u32,
@@ -192,6 +220,11 @@ const NO_NAME: Refusal = Refusal {
     text: "--want takes no-deadlock, no-fault and no-leak, parted by commas",
 };
 
+const NO_LANE: Refusal = Refusal {
+    kind: ErrorKind::InvalidValue,
+    text: "--by takes machine or goroutine",
+};
+
 const APART: Refusal = Refusal {
     kind: ErrorKind::ArgumentConflict,
     text: "--room goes with --segments, and --trace and --scripted do not",
@@ -213,10 +246,11 @@ fn line_of<'a>(matches: &ArgMatches<'a>) -> Result<CommandLine<'a>, Refusal>
     };
     let task = task(name).ok_or(NO_COMMAND)?;
     let wanted = wanting::wanted(options).ok_or(NO_NAME)?;
+    let by = drawing::by(options).ok_or(NO_LANE)?;
     if !go_together(options) {
         return Err(APART);
     }
-    let settings = settings_of(task, wanted, options).ok_or(NO_NUMBER)?;
+    let settings = settings_of(task, wanted, by, options).ok_or(NO_NUMBER)?;
     Ok(CommandLine {
         settings,
         folder: given(options, "segments"),

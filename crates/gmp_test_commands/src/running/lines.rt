@@ -2,10 +2,10 @@
 
 use crate::words::{put_line, words_of};
 use gmp_script::Script;
-use gmp_words::{Ended, Said, Task, command_line};
+use gmp_words::{By, Ended, Said, Task, command_line};
 use std::alloc::{AllocError, Global};
 
-/// The options of a command line that its command has: of `explore`, of `run`, or of `step`.
+/// The options of a command line that its command has: of `explore`, of `run`, of `draw`, or of `step`.
 pub fn settings(alloc: Global, line: &str, out: &mut Vec<u8>) -> Result<(), Ended> {
     let words = words_of(alloc, line)?;
     let said = command_line(alloc, &words)?;
@@ -18,6 +18,13 @@ pub fn settings(alloc: Global, line: &str, out: &mut Vec<u8>) -> Result<(), Ende
         Task::Run => {
             let segments = s.segments.map(|segments| (segments.entries, segments.room));
             format!(in alloc; "{segments:?} {:?} {}", said.folder, s.fair)?
+        }
+        Task::Draw => {
+            let by = match s.by {
+                By::Machine => "machine",
+                By::Goroutine => "goroutine",
+            };
+            format!(in alloc; "{by} {} {}", s.from, s.to)?
         }
         _ => format!(in alloc;
             "{:?}",

@@ -1,8 +1,11 @@
-use Rattle.std.proofs.Common.{◌≡◌, List, rules, subst, tests}
+use Rattle.std.proofs.Common.{◌≡◌, ◌∙◌, List, None, Option, Some, rules, subst, sym, tests}
 use Rattle.clap.specs.Words.{Row, found_of, rows_of, subcommand_rows_of}
 use Rattle.gmp_words.specs.declared.options.CommandLine.{CommandLine as Line}
-use Rattle.gmp_words.specs.Words.{AreGiven, AreSaid, AreWanted, options_of}
+use Rattle.gmp_words.specs.Words.{AreGiven, AreSaid, AreWanted, lanes_by, options_of}
 use Rattle.gmp_words.proofs.words.line_of.Goals as goal
+
+no_some : {A : Type 0} {o : Option A} {a : A} → o ≡ None → o ≡ Some a → ⊥
+no_some none some = let never : None ≡ Some _ = sym none ∙ some in cc
 
 pub returns-in_err-wanted-clause-err : goal.returns-in_err-wanted-clause-err
 returns-in_err-wanted-clause-err c =
@@ -10,6 +13,14 @@ returns-in_err-wanted-clause-err c =
     let rows : options_of (subcommand_rows_of c.args.matches.now) ≡ rows_of (found_of c.in-Some.options.now) = search (rules, tests) in
     let refused : (line : Line) → AreSaid (subcommand_rows_of c.args.matches.now) line → ⊥ =
     λ line said. none line.settings.wanted (subst (λ (r : List Row). AreWanted r line.settings.wanted) rows said.options.wanted) in
+    search (rules, tests)
+
+pub returns-in_err-by-clause-err : goal.returns-in_err-by-clause-err
+returns-in_err-by-clause-err c =
+    let none : lanes_by (rows_of (found_of c.in-Some.options.now)) ≡ None = search (rules, tests) in
+    let rows : options_of (subcommand_rows_of c.args.matches.now) ≡ rows_of (found_of c.in-Some.options.now) = search (rules, tests) in
+    let refused : (line : Line) → AreSaid (subcommand_rows_of c.args.matches.now) line → ⊥ =
+    λ line said. no_some none (subst (λ (r : List Row). lanes_by r ≡ Some line.settings.by) rows said.options.by) in
     search (rules, tests)
 
 pub returns-in_err-settings-clause-err : goal.returns-in_err-settings-clause-err
