@@ -1,2 +1,3 @@
 pub mod Svg
 pub mod Position
+pub mod Shown

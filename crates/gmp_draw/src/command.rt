@@ -9,7 +9,7 @@ use crate::range::Range;
 use gmp_judge::{Progress, right_trace};
 use gmp_trace::Trace;
 use gmp_walk::first_number;
-use gmp_words::Ended;
+use gmp_words::{By, Ended};
 use std::alloc::Global;
 use std::io::{Read, Write};
 
@@ -24,11 +24,12 @@ fn range_of(trace: &Trace, from: u64, to: u64) -> Range {
 }
 
 /// Reads a trace, checks it, and writes the picture of its entries from `from` on to before `to`; where `to` is the greatest number, of
-/// 5,000 at most. What is told of its progress ends before anything is written.
+/// 5,000 at most. A lane is a machine's or a goroutine's. What is told of its progress ends before anything is written.
 ///
 /// It ends with what is wrong where something is: the input, the first bad line, the output, or memory.
 pub fn draw<R: Read, W: Write, P: Progress>(
     alloc: Global,
+    by: By,
     from: u64,
     to: u64,
     reader: &mut R,
@@ -51,7 +52,7 @@ pub fn draw<R: Read, W: Write, P: Progress>(
         Err(ended) => return ended,
     };
     let range = range_of(&trace, from, to);
-    let Ok(svg) = picture(alloc, trace.view(), range, &mut ()) else {
+    let Ok(svg) = picture(alloc, trace.view(), by, range, &mut ()) else {
         return Ended::out_of_memory();
     };
     match writer.write_all(&svg) {

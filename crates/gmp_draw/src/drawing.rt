@@ -10,58 +10,101 @@ use crate::frame::{open_picture, put_axis, put_heading, put_legend};
 use crate::lanes::{put_arrows, put_blanks, put_lanes, put_spans};
 use crate::layout::Layout;
 use crate::levels::put_channels;
+use crate::machines::shown_machines;
+use crate::moments::put_moments;
 use crate::pen::Pen;
 use crate::range::Range;
 use crate::rows::{Rows, longest_name};
 use crate::scene::Scene;
-use gmp_trace::{Bad, TraceView, Watch, Why};
+use crate::svg::digits;
+use gmp_trace::{Bad, End, TraceView, Watch, Why};
 use gmp_walk::walk;
+use gmp_words::By;
 use std::alloc::{AllocError, Global};
 
-/// The SVG of what a walk told.
-fn drawn(alloc: Global, trace: TraceView, scene: Scene) -> Result<Vec<u8>, AllocError> {
-    let Scene {
-        range,
-        told,
-        acted,
-        spans,
-        arrows,
-        mut channels,
-    } = scene;
-    let spans = spans.finish(told.to)?;
-    let arrows = arrows.finish();
-    channels.finish(told.to)?;
-    let machines = trace.limits.machines;
-    let layout = Layout {
-        columns: Columns::new(range.and(told), longest_name(&channels.list)),
-        rows: Rows::new(alloc, machines, &acted, &channels.list)?,
-    };
-    let mut pen = Pen::new(alloc, trace.entries, told.from);
-    open_picture(&mut pen, &layout)?;
+/// Which machines or goroutines have a lane: of goroutines those that did something in the entries that are drawn.
+fn shown(alloc: Global, trace: TraceView, scene: &Scene) -> Result<Vec<bool>, AllocError> {
+    match scene.by {
+        By::Machine => shown_machines(alloc, trace.limits.machines, &scene.acted),
+        By::Goroutine => {
+            let mut shown = vec![in alloc; false; usize::from(trace.bodies)]?;
+            for span in &scene.spans.closed {
+                if let Some(is_shown) = shown.get_mut(usize::from(span.lane)) {
+                    *is_shown = true;
+                }
+            }
+            Ok(shown)
+        }
+    }
+}
+
+/// How many letters the longest name of a machine's or goroutine's lane has.
+fn letters(by: By, bodies: u16) -> u64 {
+    match by {
+        By::Machine => 11,
+        By::Goroutine => digits(u64::from(bodies)).saturating_add(10),
+    }
+}
+
+/// Whether who waits at the end waits for good.
+fn is_over(end: End) -> bool {
+    matches!(end, End::MainEnded | End::AllAsleep)
+}
+
+/// Writes all that is drawn.
+fn put_all(
+    pen: &mut Pen,
+    layout: &Layout,
+    trace: TraceView,
+    scene: &Scene,
+) -> Result<(), AllocError> {
+    let spans = &scene.spans.closed;
+    open_picture(pen, layout)?;
     put_heading(
-        &mut pen,
-        &layout,
+        pen,
+        layout,
         trace.entries.len() as u64,
-        told.from,
+        scene.told.from,
         trace.end,
     )?;
-    put_legend(&mut pen)?;
-    put_axis(&mut pen, &layout)?;
-    put_lanes(&mut pen, &layout, machines)?;
-    put_blanks(&mut pen, &layout, &spans)?;
-    put_arrows(&mut pen, &layout, &arrows)?;
-    put_spans(&mut pen, &layout, &spans)?;
-    put_channels(&mut pen, &layout, &channels)?;
-    pen.put(b"</svg>\n")?;
+    put_legend(pen, layout.by)?;
+    put_axis(pen, layout)?;
+    put_moments(pen, layout, &scene.moments.list)?;
+    put_lanes(pen, layout)?;
+    put_blanks(pen, layout, spans)?;
+    put_arrows(pen, layout, scene.arrows.all())?;
+    put_spans(pen, layout, spans)?;
+    put_channels(pen, layout, &scene.channels)?;
+    pen.put(b"</svg>\n")
+}
+
+/// The SVG of what a walk told.
+fn drawn(alloc: Global, trace: TraceView, mut scene: Scene) -> Result<Vec<u8>, AllocError> {
+    scene.spans.finish(scene.told.to, is_over(trace.end))?;
+    scene.channels.finish(scene.told.to)?;
+    let by = scene.by;
+    let has_moments = matches!(by, By::Goroutine) && !scene.moments.list.is_empty();
+    let list = &scene.channels.list;
+    let layout = Layout {
+        by,
+        columns: Columns::new(
+            scene.range.and(scene.told),
+            longest_name(letters(by, trace.bodies), list),
+        ),
+        rows: Rows::new(alloc, has_moments, &shown(alloc, trace, &scene)?, list)?,
+    };
+    let mut pen = Pen::new(alloc, trace.entries, scene.told.from);
+    put_all(&mut pen, &layout, trace, &scene)?;
     Ok(pen.finish())
 }
 
-/// A picture of these entries of a trace, as SVG. The caller has checked the trace: at an entry that is no step it ends.
+/// A picture of these entries of a trace, as SVG, with a lane for each machine or goroutine. The caller has checked the trace: at an entry that is no step it ends.
 ///
 /// An error is that of a trace at whose beginning no run may begin, or of memory.
 pub fn picture<W: Watch>(
     alloc: Global,
     trace: TraceView,
+    by: By,
     range: Range,
     watch: &mut W,
 ) -> Result<Vec<u8>, Bad>
@@ -71,7 +114,7 @@ pub fn picture<W: Watch>(
         line: 0,
         why: Why::OutOfMemory,
     };
-    let Ok(mut scene) = Scene::new(alloc, trace, range) else {
+    let Ok(mut scene) = Scene::new(alloc, trace, by, range) else {
         return Err(no_memory);
     };
     walk(alloc, trace, &mut scene, watch)?;

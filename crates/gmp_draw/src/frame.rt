@@ -7,6 +7,7 @@ use crate::layout::Layout;
 use crate::pen::Pen;
 use crate::svg::{Area, digits, open_text, put_rect};
 use gmp_trace::End;
+use gmp_words::By;
 use std::alloc::AllocError;
 
 /// The looks of all classes, the hatching and the arrow's head.
@@ -47,6 +48,37 @@ static LOOKS: [&[u8]; 34] = [
     b"</defs>\n",
 ];
 
+/// What goroutines' lanes have besides.
+static LOOKS_OF_GOROUTINES: &[u8] = b"<style>\n\
+.y{fill:#999}\n\
+.u{fill:#edf1f7;stroke:#fff}\n\
+.z{fill:#ffb3b3;stroke:#c00000}\n\
+</style>\n";
+
+/// What each look of goroutines' lanes means, in one line.
+static LEGEND_OF_GOROUTINES: [&[u8]; 20] = [
+    b"<rect class=\"c3\" x=\"12\" y=\"34\" width=\"46\" height=\"18\"/>",
+    b"<text x=\"16\" y=\"47\">send</text>",
+    b"<text class=\"g\" x=\"64\" y=\"47\">runs, its first call</text>\n",
+    b"<rect class=\"c0\" x=\"216\" y=\"34\" width=\"30\" height=\"18\"/>",
+    b"<rect class=\"h\" x=\"216\" y=\"34\" width=\"30\" height=\"18\"/>",
+    b"<text class=\"g\" x=\"252\" y=\"47\">blocking call</text>\n",
+    b"<rect class=\"y\" x=\"360\" y=\"39\" width=\"30\" height=\"8\"/>",
+    b"<text class=\"g\" x=\"396\" y=\"47\">ready</text>\n",
+    b"<rect class=\"u\" x=\"450\" y=\"34\" width=\"30\" height=\"18\"/>",
+    b"<text class=\"g\" x=\"486\" y=\"47\">waits</text>\n",
+    b"<rect class=\"z\" x=\"540\" y=\"34\" width=\"30\" height=\"18\"/>",
+    b"<text class=\"g\" x=\"576\" y=\"47\">waits to the end</text>\n",
+    b"<path class=\"a\" d=\"M710 43L742 43\"/>",
+    b"<text class=\"g\" x=\"750\" y=\"47\">made ready, claimed</text>\n",
+    b"<rect class=\"f\" x=\"900\" y=\"34\" width=\"30\" height=\"18\"/><rect class=\"l\" x=\"900\" y=\"43\" width=\"30\" height=\"9\"/>",
+    b"<text class=\"g\" x=\"936\" y=\"47\">fill level</text>\n",
+    b"<rect class=\"t\" x=\"1032\" y=\"34\" width=\"2\" height=\"18\"/>",
+    b"<text class=\"g\" x=\"1040\" y=\"47\">value passed</text>\n",
+    b"<path class=\"x\" d=\"M1148 38L1158 48M1158 38L1148 48\"/>",
+    b"<text class=\"g\" x=\"1164\" y=\"47\">closed</text>\n",
+];
+
 /// What each look means, in one line.
 static LEGEND: [&[u8]; 19] = [
     b"<rect class=\"c3\" x=\"12\" y=\"34\" width=\"60\" height=\"18\"/>",
@@ -83,6 +115,9 @@ pub fn open_picture(pen: &mut Pen, layout: &Layout) -> Result<(), AllocError> {
     for look in &LOOKS {
         pen.put(look)?;
     }
+    if matches!(layout.by, By::Goroutine) {
+        pen.put(LOOKS_OF_GOROUTINES)?;
+    }
     let ground = Area {
         x: 0,
         y: 0,
@@ -94,8 +129,12 @@ pub fn open_picture(pen: &mut Pen, layout: &Layout) -> Result<(), AllocError> {
 }
 
 /// The legend.
-pub fn put_legend(pen: &mut Pen) -> Result<(), AllocError> {
-    for piece in &LEGEND {
+pub fn put_legend(pen: &mut Pen, by: By) -> Result<(), AllocError> {
+    let pieces: &[&[u8]] = match by {
+        By::Machine => &LEGEND,
+        By::Goroutine => &LEGEND_OF_GOROUTINES,
+    };
+    for piece in pieces {
         pen.put(piece)?;
     }
     Ok(())
@@ -133,11 +172,12 @@ pub fn put_heading(
 
 /// What has no lane.
 fn put_hidden(pen: &mut Pen, layout: &Layout) -> Result<(), AllocError> {
-    if layout.rows.hidden_machines > 0 {
-        pen.put_named(
-            b"; machines without an entry here, left out: ",
-            layout.rows.hidden_machines,
-        )?;
+    if layout.rows.hidden_lanes > 0 {
+        pen.put(match layout.by {
+            By::Machine => b"; machines without an entry here, left out: ",
+            By::Goroutine => b"; goroutines not started here or done, left out: ",
+        })?;
+        pen.put_number(layout.rows.hidden_lanes)?;
     }
     if layout.rows.hidden_channels > 0 {
         pen.put_named(

@@ -1,16 +1,17 @@
-//! The lanes of the machines: arrows, and over them the spans.
+//! The lanes of the machines or goroutines: arrows, and over them the spans.
 
 ghost use Rattle.std.specs.Prelude.{◌+◌, ◌*◌, ◌≤◌, ◌↔◌, IsTrue};
 
-use crate::arrows::Arrow;
+use crate::arrows::{Arrow, Spot};
 use crate::colours::{bands, colour, text_on};
 use crate::columns::LETTER;
 use crate::layout::Layout;
 use crate::pen::Pen;
 use crate::rows::{GUTTER, SPAN};
-use crate::spans::{Doing, Span};
+use crate::spans::{Doing, Reason, Span};
 use crate::svg::{Area, digits, open_text, put_point, put_rect};
-use gmp_base::{GNo, MNo};
+use gmp_base::GNo;
+use gmp_words::By;
 use std::alloc::AllocError;
 
 /// How thick a band and a machine that spins are.
@@ -21,32 +22,40 @@ const THIN: u64 = 8;
 /// A label begins so far right of its span's edge.
 const LABEL: u64 = 3;
 
-/// The name of each lane, and a line along it.
-pub fn put_lanes(pen: &mut Pen, layout: &Layout, machines: u8) -> Result<(), AllocError> {
-    for m in 0..machines {
-        if let Some(y) = layout.rows.machine(MNo(m)) {
-            let middle = y.saturating_add(SPAN / 2);
-            open_text(&mut pen.out, b"n", 12, middle.saturating_add(4))?;
-            pen.put_named(b"machine ", u64::from(m))?;
-            pen.put(b"</text>\n")?;
-            let line = Area {
-                x: layout.columns.left,
-                y: middle,
-                width: layout.columns.across(layout.columns.entries).1,
-                height: 1,
-            };
-            put_rect(&mut pen.out, b"i", line)?;
-            pen.put(b"\n")?;
+/// The name of each lane, and a line along that of a machine.
+pub fn put_lanes(pen: &mut Pen, layout: &Layout) -> Result<(), AllocError> {
+    for (lane, place) in layout.rows.lanes.iter().enumerate() {
+        if let Some(y) = *place {
+            put_name(pen, layout, lane as u64, y.saturating_add(SPAN / 2))?;
         }
     }
     Ok(())
 }
 
+/// The name of a lane whose middle is there, and a line along that of a machine.
+fn put_name(pen: &mut Pen, layout: &Layout, lane: u64, middle: u64) -> Result<(), AllocError> {
+    open_text(&mut pen.out, b"n", 12, middle.saturating_add(4))?;
+    if matches!(layout.by, By::Goroutine) {
+        pen.put_named(b"goroutine ", lane)?;
+        return pen.put(b"</text>\n");
+    }
+    pen.put_named(b"machine ", lane)?;
+    pen.put(b"</text>\n")?;
+    let line = Area {
+        x: layout.columns.left,
+        y: middle,
+        width: layout.columns.across(layout.columns.entries).1,
+        height: 1,
+    };
+    put_rect(&mut pen.out, b"i", line)?;
+    pen.put(b"\n")
+}
+
 /// No line where a machine is parked. It goes below the arrows.
 pub fn put_blanks(pen: &mut Pen, layout: &Layout, spans: &[Span]) -> Result<(), AllocError> {
     for span in spans {
-        if span.doing == Doing::Parked {
-            if let Some(y) = layout.rows.machine(span.machine) {
+        if matches!(span.doing, Doing::Parked) {
+            if let Some(y) = layout.rows.lane(span.lane) {
                 let (x, width) = layout.columns.across(span.entries);
                 let area = Area {
                     x,
@@ -62,12 +71,16 @@ pub fn put_blanks(pen: &mut Pen, layout: &Layout, spans: &[Span]) -> Result<(), 
     Ok(())
 }
 
+/// The upper edge of the spans of an arrow's end.
+fn end_of(layout: &Layout, spot: Spot) -> Option<u64> {
+    layout.rows.lane(spot.lane?)
+}
+
 /// Arrows from who made a goroutine ready to its claim.
 pub fn put_arrows(pen: &mut Pen, layout: &Layout, arrows: &[Arrow]) -> Result<(), AllocError> {
     for arrow in arrows {
-        let from = layout.rows.machine(arrow.from.machine);
-        let to = layout.rows.machine(arrow.to.machine);
-        if let (Some(from), Some(to)) = (from, to) {
+        let ends = (end_of(layout, arrow.from), end_of(layout, arrow.to));
+        if let (Some(from), Some(to)) = ends {
             put_arrow(pen, layout, arrow, from, to)?;
         }
     }
@@ -120,7 +133,7 @@ fn put_arrow(
 /// The spans.
 pub fn put_spans(pen: &mut Pen, layout: &Layout, spans: &[Span]) -> Result<(), AllocError> {
     for span in spans {
-        if let Some(y) = layout.rows.machine(span.machine) {
+        if let Some(y) = layout.rows.lane(span.lane) {
             let (x, width) = layout.columns.across(span.entries);
             let area = Area {
                 x,
@@ -129,8 +142,8 @@ pub fn put_spans(pen: &mut Pen, layout: &Layout, spans: &[Span]) -> Result<(), A
                 height: SPAN,
             };
             pen.put(b"<g>")?;
-            put_title(pen, span)?;
-            put_span(pen, span, area)?;
+            put_title(pen, layout.by, span)?;
+            put_span(pen, layout.by, span, area)?;
             pen.put(b"</g>\n")?;
         }
     }
@@ -138,15 +151,17 @@ pub fn put_spans(pen: &mut Pen, layout: &Layout, spans: &[Span]) -> Result<(), A
 }
 
 /// What a span is, its entries, and the lines of its first entry and of the goroutine's first call.
-fn put_title(pen: &mut Pen, span: &Span) -> Result<(), AllocError> {
+fn put_title(pen: &mut Pen, by: By, span: &Span) -> Result<(), AllocError> {
     pen.put(b"<title>")?;
-    match span.doing {
-        Doing::Runs(g) => pen.put_named(b"goroutine ", u64::from(g.0))?,
-        Doing::Calls(g) => pen.put_named(b"blocking call of goroutine ", u64::from(g.0))?,
-        Doing::Spins => pen.put(b"spinning")?,
-        Doing::Parked => pen.put(b"parked")?,
+    match by {
+        By::Machine => put_done(pen, span.doing)?,
+        By::Goroutine => {
+            pen.put_named(b"goroutine ", u64::from(span.lane))?;
+            put_lived(pen, span.doing)?;
+        }
     }
-    pen.put_entries(span.opening, span.entries.to)?;
+    let first = span.opening.map(|_| span.entries.from);
+    pen.put_entries(first, span.entries.to)?;
     pen.put_line(span.opening)?;
     if span.call != span.opening {
         pen.put_line(span.call)?;
@@ -154,21 +169,64 @@ fn put_title(pen: &mut Pen, span: &Span) -> Result<(), AllocError> {
     pen.put(b"</title>")
 }
 
-/// The shape of a span.
-fn put_span(pen: &mut Pen, span: &Span, area: Area) -> Result<(), AllocError> {
-    match span.doing {
-        Doing::Runs(g) => {
-            put_coloured(pen, g, area)?;
-            put_label(pen, g, span, text_on(g), area)
+/// What a machine does.
+fn put_done(pen: &mut Pen, doing: Doing) -> Result<(), AllocError> {
+    match doing {
+        Doing::Runs(g, _) => pen.put_named(b"goroutine ", u64::from(g.0)),
+        Doing::Calls(g, _) => pen.put_named(b"blocking call of goroutine ", u64::from(g.0)),
+        Doing::Spins => pen.put(b"spinning"),
+        _ => pen.put(b"parked"),
+    }
+}
+
+/// What a goroutine does, in the words of `gmp explain`.
+fn put_lived(pen: &mut Pen, doing: Doing) -> Result<(), AllocError> {
+    match doing {
+        Doing::Runs(_, m) => pen.put_named(b": runs on machine ", u64::from(m.0)),
+        Doing::Calls(_, m) => pen.put_named(b": in a blocking call of machine ", u64::from(m.0)),
+        Doing::Waits(reason) => {
+            pen.put(b": ")?;
+            pen.put_reason(reason)
         }
-        Doing::Calls(g) => {
+        Doing::Stuck(reason) => {
+            pen.put(b": ")?;
+            pen.put_reason(reason)?;
+            pen.put(b", to the end")
+        }
+        _ => pen.put(b": ready"),
+    }
+}
+
+/// The shape of a span.
+fn put_span(pen: &mut Pen, by: By, span: &Span, area: Area) -> Result<(), AllocError> {
+    match span.doing {
+        Doing::Runs(g, _) => {
+            put_coloured(pen, g, area)?;
+            put_call(pen, by, g, span, text_on(g), area)
+        }
+        Doing::Calls(g, _) => {
             put_coloured(pen, g, area)?;
             put_rect(&mut pen.out, b"h", area)?;
-            put_label(pen, g, span, b"o", area)
+            put_call(pen, by, g, span, b"o", area)
         }
         Doing::Spins => put_rect(&mut pen.out, b"s", thin(area)),
         Doing::Parked => put_rect(&mut pen.out, b"q", area),
+        Doing::Ready => put_rect(&mut pen.out, b"y", thin(area)),
+        Doing::Waits(reason) => put_waiting(pen, b"u", reason, area),
+        Doing::Stuck(reason) => put_waiting(pen, b"z", reason, area),
     }
+}
+
+/// A goroutine that waits, and for what, where that fits.
+fn put_waiting(pen: &mut Pen, class: &[u8], reason: Reason, area: Area) -> Result<(), AllocError> {
+    put_rect(&mut pen.out, class, area)?;
+    let words = pen.words(reason)?;
+    if fits(words.len() as u64, area.width) {
+        open_label(pen, b"g", area)?;
+        pen.put(words.as_bytes())?;
+        pen.put(b"</text>")?;
+    }
+    Ok(())
 }
 
 /// The middle of an area.
@@ -209,26 +267,50 @@ fn fits(letters: u64, width: u64) -> bool
     LABEL <= width && letters <= (width - LABEL) / LETTER
 }
 
-/// The number of the goroutine and the word of its first call, as far as they fit.
-fn put_label(
+/// Where the label of a span begins.
+fn open_label(pen: &mut Pen, class: &[u8], area: Area) -> Result<(), AllocError> {
+    let y = area.y.saturating_add(SPAN / 2 + 4);
+    open_text(&mut pen.out, class, area.x.saturating_add(LABEL), y)
+}
+
+/// The word of a goroutine's first call, with its number on a machine's lane, as far as they fit.
+fn put_call(
     pen: &mut Pen,
+    by: By,
     g: GNo,
     span: &Span,
     class: &[u8],
     area: Area,
 ) -> Result<(), AllocError> {
-    let g = u64::from(g.0);
     let word = match span.call {
         Some(number) => pen.call_of(number).unwrap_or(b""),
         None => b"",
     };
+    match by {
+        By::Machine => put_label(pen, u64::from(g.0), word, class, area),
+        By::Goroutine if fits(word.len() as u64, area.width) => {
+            open_label(pen, class, area)?;
+            pen.put(word)?;
+            pen.put(b"</text>")
+        }
+        By::Goroutine => Ok(()),
+    }
+}
+
+/// A number and a word, as far as they fit.
+fn put_label(
+    pen: &mut Pen,
+    g: u64,
+    word: &[u8],
+    class: &[u8],
+    area: Area,
+) -> Result<(), AllocError> {
     let short = digits(g);
     let long = short.saturating_add(1).saturating_add(word.len() as u64);
     if !fits(short, area.width) {
         return Ok(());
     }
-    let x = area.x.saturating_add(LABEL);
-    open_text(&mut pen.out, class, x, area.y.saturating_add(SPAN / 2 + 4))?;
+    open_label(pen, class, area)?;
     pen.put_number(g)?;
     if !word.is_empty() && fits(long, area.width) {
         pen.put(b" ")?;

@@ -1,13 +1,17 @@
 //! Who writes the picture: `Pen` has the bytes so far, and the entries that titles cite.
 
+use crate::spans::Reason;
 use crate::svg::{put, put_escaped, put_number};
 use gmp_history::History;
+use gmp_seq::Status;
 use gmp_trace::{call_name, call_place, put_entry};
+use gmp_waits::Doing;
 use std::alloc::{AllocError, Global};
 
 /// The picture as far as it is written.
 #[derive(Drop)]
 pub struct Pen<'a> {
+    alloc: Global,
     pub out: Vec<u8>,
     /// An entry's line as the trace has it.
     line: Vec<u8>,
@@ -20,6 +24,7 @@ impl<'a> Pen<'a> {
     /// Nothing is written.
     pub fn new(alloc: Global, entries: &'a History, first: u64) -> Self {
         Pen {
+            alloc,
             out: Vec::new(alloc),
             line: Vec::new(alloc),
             entries,
@@ -41,6 +46,18 @@ impl<'a> Pen<'a> {
     pub fn put_named(&mut self, bytes: &[u8], n: u64) -> Result<(), AllocError> {
         self.put(bytes)?;
         self.put_number(n)
+    }
+
+    /// What a goroutine waits for, in words.
+    pub fn words(&self, reason: Reason) -> Result<String, AllocError> {
+        let waits = Status::Waiting(reason.wait());
+        format!(in self.alloc; "{}", Doing(&waits))
+    }
+
+    /// Writes that.
+    pub fn put_reason(&mut self, reason: Reason) -> Result<(), AllocError> {
+        let words = self.words(reason)?;
+        self.put(words.as_bytes())
     }
 
     /// Writes a line feed and the line of an entry, where there is one.

@@ -1,14 +1,16 @@
-//! Where lanes are from top to bottom: one for each machine, and below them one for each channel.
+//! Where lanes are from top to bottom: one for each machine or goroutine, and below them one for each channel.
 
 use crate::channels::Channel;
 use crate::svg::digits;
-use gmp_base::MNo;
 use std::alloc::{AllocError, Global};
 
 /// Where the lanes begin.
 const TOP: u64 = 84;
 
-/// A machine's lane: room for arrows, and then the spans.
+/// The line of moments, where there is one.
+const MOMENTS: u64 = 20;
+
+/// A machine's or goroutine's lane: room for arrows, and then the spans.
 const LANE: u64 = 56;
 
 pub const GUTTER: u64 = 24;
@@ -22,9 +24,6 @@ const CHANNEL_GUTTER: u64 = 14;
 
 pub const LEVELS: u64 = 32;
 
-/// So many machines have a lane each, whatever they do; of more only those that act.
-const MACHINES: u8 = 8;
-
 /// So many channels have a lane at most.
 const CHANNELS: u64 = 32;
 
@@ -33,18 +32,20 @@ const CHANNELS: u64 = 32;
 pub struct Rows {
     /// How high the picture is.
     pub height: u64,
-    /// The upper edge of each machine's spans.
-    machines: [Option<u64>; 256],
+    /// The upper edge of the line of moments.
+    pub moments: Option<u64>,
+    /// The upper edge of each lane's spans.
+    pub lanes: Vec<Option<u64>>,
     /// The upper edge of each channel's levels.
     channels: Vec<Option<u64>>,
-    /// How many machines and how many touched channels have no lane.
-    pub hidden_machines: u64,
+    /// How many machines or goroutines and how many touched channels have no lane.
+    pub hidden_lanes: u64,
     pub hidden_channels: u64,
 }
 
-/// The length of the longest name of a lane.
-pub fn longest_name(channels: &[Channel]) -> u64 {
-    let mut longest: u64 = 11;
+/// The length of the longest name of a lane, where that of a machine's or goroutine's lane has so many letters.
+pub fn longest_name(letters: u64, channels: &[Channel]) -> u64 {
+    let mut longest = letters;
     for (c, channel) in channels.iter().enumerate() {
         if channel.is_touched {
             let numbers = digits(c as u64).saturating_add(digits(u64::from(channel.capacity)));
@@ -55,28 +56,34 @@ pub fn longest_name(channels: &[Channel]) -> u64 {
 }
 
 impl Rows {
-    /// A lane for each of so many machines and of these channels, as far as they have one.
+    /// A line of moments, if there are any, a lane for each machine or goroutine that is shown, and for these channels, as far as they have
+    /// one.
     pub fn new(
         alloc: Global,
-        machines: u8,
-        acted: &[bool; 256],
+        has_moments: bool,
+        shown: &[bool],
         channels: &[Channel],
     ) -> Result<Self, AllocError> {
         let mut rows = Rows {
             height: TOP,
-            machines: [None; 256],
+            moments: None,
+            lanes: Vec::new(alloc),
             channels: Vec::new(alloc),
-            hidden_machines: 0,
+            hidden_lanes: 0,
             hidden_channels: 0,
         };
-        rows.place_machines(machines, acted);
+        if has_moments {
+            rows.moments = Some(TOP);
+            rows.height = TOP + MOMENTS;
+        }
+        rows.place_lanes(shown)?;
         rows.place_channels(channels)?;
         Ok(rows)
     }
 
-    /// The upper edge of a machine's spans, where it has a lane.
-    pub fn machine(&self, m: MNo) -> Option<u64> {
-        self.machines[usize::from(m.0)]
+    /// The upper edge of the spans of a machine or goroutine, where it has a lane.
+    pub fn lane(&self, lane: u16) -> Option<u64> {
+        *self.lanes.get(usize::from(lane))?
     }
 
     /// The upper edge of a channel's levels, where it has a lane.
@@ -84,17 +91,19 @@ impl Rows {
         *self.channels.get(c)?
     }
 
-    /// Gives each machine its lane.
-    fn place_machines(&mut self, machines: u8, acted: &[bool; 256]) {
-        for m in 0..machines {
-            if machines <= MACHINES || acted[usize::from(m)] {
-                self.machines[usize::from(m)] = Some(self.height.saturating_add(GUTTER));
+    /// Gives each machine or goroutine that is shown its lane.
+    fn place_lanes(&mut self, shown: &[bool]) -> Result<(), AllocError> {
+        for is_shown in shown {
+            if *is_shown {
+                self.lanes.push(Some(self.height.saturating_add(GUTTER)))?;
                 self.height = self.height.saturating_add(LANE);
             } else {
-                self.hidden_machines = self.hidden_machines.saturating_add(1);
+                self.lanes.push(None)?;
+                self.hidden_lanes = self.hidden_lanes.saturating_add(1);
             }
         }
         self.height = self.height.saturating_add(CHANNEL_GUTTER);
+        Ok(())
     }
 
     /// Gives each channel that is touched its lane.

@@ -229,7 +229,15 @@ impl Command {
             Task::Join => join(alloc, &mut PARTS.as_bytes(), output, &mut ()),
             Task::Cut => cut(alloc, AT, &mut TRACE.as_bytes(), output),
             Task::Explain => told(alloc, output),
-            Task::Draw => draw(alloc, 0, 2, &mut TRACE.as_bytes(), output, &mut ()),
+            Task::Draw => draw(
+                alloc,
+                settings.by,
+                0,
+                2,
+                &mut TRACE.as_bytes(),
+                output,
+                &mut (),
+            ),
             Task::Explore => looked(alloc, settings, output),
         }
     }

@@ -5,7 +5,7 @@ use gmp_cli::step;
 use gmp_draw::draw;
 use gmp_explain::explain;
 use gmp_explore_cli::explore;
-use gmp_words::{Said, Settings, command_line};
+use gmp_words::{By, Said, Settings, command_line};
 use std::alloc::{AllocError, Global};
 
 /// What it wrote and what it said.
@@ -81,10 +81,18 @@ pub fn explained(alloc: Global, trace: &[u8], json: bool) -> Result<Ran, AllocEr
     )
 }
 
-/// `gmp draw` on a trace.
-pub fn drawn(alloc: Global, trace: &[u8]) -> Result<Ran, AllocError> {
+/// `gmp draw` on a trace, with these lanes.
+pub fn drawn(alloc: Global, by: By, trace: &[u8]) -> Result<Ran, AllocError> {
     let mut written = Vec::new(alloc);
-    let ended = draw(alloc, 0, u64::MAX, &mut &trace[..], &mut written, &mut ());
+    let ended = draw(
+        alloc,
+        by,
+        0,
+        u64::MAX,
+        &mut &trace[..],
+        &mut written,
+        &mut (),
+    );
     done(alloc, written, ended.status, &ended.said)
 }
 

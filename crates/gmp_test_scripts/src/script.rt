@@ -10,6 +10,7 @@ use gmp_follow::follows;
 use gmp_script::Script;
 use gmp_test_cuts::cut_everywhere;
 use gmp_trace::{read, write};
+use gmp_words::By;
 use std::alloc::{AllocError, Global};
 use std::io::ErrorKind;
 use std::{fs, io};
@@ -170,17 +171,15 @@ fn judge_explained(
     is_told_beside(rt, stem, end, &ran, "gmp explain wrote another line")
 }
 
-/// `gmp draw` draws the trace as the picture beside it, if one is.
-fn judge_drawn(rt: &HostRuntime, stem: &str, trace: &[u8]) -> Result<(), ScriptError> {
-    let ran = drawn(rt.alloc(), trace)?;
+/// `gmp draw` draws the trace with these lanes as the picture beside it, if one is.
+fn judge_drawn(rt: &HostRuntime, stem: &str, trace: &[u8], by: By) -> Result<(), ScriptError> {
+    let ran = drawn(rt.alloc(), by, trace)?;
     judge_status(rt.alloc(), &ran, 0)?;
-    is_beside(
-        rt,
-        stem,
-        ".svg",
-        &ran.written,
-        "gmp draw wrote another line",
-    )?;
+    let end = match by {
+        By::Machine => ".svg",
+        By::Goroutine => ".goroutines.svg",
+    };
+    is_beside(rt, stem, end, &ran.written, "gmp draw wrote another line")?;
     Ok(())
 }
 
@@ -300,7 +299,8 @@ fn judge_tellings(
 ) -> Result<(), ScriptError> {
     judge_explained(rt, stem, trace, false)?;
     judge_explained(rt, stem, trace, true)?;
-    judge_drawn(rt, stem, trace)?;
+    judge_drawn(rt, stem, trace, By::Machine)?;
+    judge_drawn(rt, stem, trace, By::Goroutine)?;
     judge_explored(rt, name, stem)?;
     judge_reasons(rt.alloc(), trace)
 }
