@@ -4,8 +4,8 @@
  * knows no bodies, threads, values or clocks. The host keeps those. It calls gmp_turn for a machine, does what the event says, and calls
  * again. A machine is a worker of the host: a thread of its own, or one of several that one thread serves.
  *
- * One call at a time on a handle. It may go from thread to thread, so a host with several threads keeps it behind a mutex of its own, and
- * runs bodies and blocking calls outside of that.
+ * One call at a time on a handle, be it of a run or of a checker. It may go from thread to thread, so a host with several threads keeps it
+ * behind a mutex of its own, and runs bodies and blocking calls outside of that.
  *
  * Each pointer is to be valid, and an array to have as many elements as its count says; where the count is 0 the pointer may be any. An
  * enum below lists the values of a uint32_t. C11.
@@ -61,6 +61,9 @@ extern "C" {
 
 /* The handle: one word. gmp_open makes it, and gmp_close takes it back; no copy of it is used afterwards. */
 typedef struct { void *at; } gmp;
+
+/* A text that is checked as it comes, by one word. gmp_check_open makes it, and gmp_check_close takes it back. */
+typedef struct { void *at; } gmp_checker;
 
 /* How large a run may be. */
 typedef struct {
@@ -158,7 +161,7 @@ enum {
 
 /* Why a function refused; 0 is no refusal. */
 enum {
-    GMP_WRONG = 1,          /* of gmp_check_text: the text is no right trace's */
+    GMP_WRONG = 1,          /* of gmp_check_text and gmp_check_end: the text is no right trace's */
     GMP_OUT_OF_MEMORY = 28,
     GMP_BAD_LIMITS = 29,    /* of gmp_open */
     GMP_NOT_WHOLE = 32      /* of gmp_text: the history is not kept whole */
@@ -230,6 +233,20 @@ uint32_t gmp_text(gmp *h, uint8_t *buffer, size_t room, uint64_t *len);
 /* Whether these n bytes are the text of a right trace, of whichever scheduler: 0, if they are; GMP_WRONG, and in *line the first bad line,
  * counted from 1; or GMP_OUT_OF_MEMORY, which says nothing of the text. It needs no handle. */
 uint32_t gmp_check_text(const uint8_t *text, size_t n, uint64_t *line);
+
+/* The same of a text that comes in pieces, cut anywhere. gmp_check_open opens a checker that was fed nothing. It answers 0 and writes its
+ * word, or GMP_OUT_OF_MEMORY, and writes nothing:
+ *     gmp_checker c; uint32_t why = gmp_check_open(&c.at); */
+uint32_t gmp_check_open(void **out);
+
+/* Feeds the checker these n bytes behind those before; it keeps a copy of all. Answers 0, or GMP_OUT_OF_MEMORY, and then nothing changed. */
+uint32_t gmp_check_feed(gmp_checker *c, const uint8_t *text, size_t n);
+
+/* What gmp_check_text answers of all that was fed. Nothing changes, so more may be fed. */
+uint32_t gmp_check_end(gmp_checker *c, uint64_t *line);
+
+/* Lets the checker go. */
+void gmp_check_close(gmp_checker c);
 
 #ifdef __cplusplus
 }

@@ -1,5 +1,5 @@
 -- What a check finds of a text.
-use Rattle.std.specs.Prelude.{◌≡◌, ◌⊎◌, ℕ, List, Option}
+use Rattle.std.specs.Prelude.{◌≡◌, ◌≢◌, ◌⊎◌, ℕ, List, Option}
 use Rattle.gmp_seq.specs.declared.call.Outcome.{Outcome}
 use Rattle.gmp_trace.specs.declared.bad.Bad.{Bad}
 use Rattle.gmp_trace.specs.HasText.{HasText}
@@ -27,3 +27,11 @@ pub record IsBadText (bytes : List ℕ) (line : ℕ) : Type 0 where
   pub bad : Bad
   pub here : bad.line ≡ line
   pub first : IsFault bytes bad.line bad.why ⊎ IsWrongText bytes bad
+
+-- What a check answers of these bytes, by a number and a line: 0, they are the text of a right trace; 1, they are not, and this is the first bad
+-- line; 28, memory was refused.
+pub record IsJudged (bytes : List ℕ) (number line : ℕ) : Type 0 where
+  pub right : number ≡ 0 → IsRightText bytes
+  pub wrong : number ≡ 1 → IsBadText bytes line
+  pub exact : IsRightText bytes → number ≢ 1
+  pub kinds : (number ≡ 0) ⊎ (number ≡ 1) ⊎ (number ≡ 28)

@@ -5,7 +5,7 @@
 //! and counts that are right. What the numbers say is judged here: no number is refused but limits.
 #![tactic(auto)]
 
-ghost use Rattle.std.specs.Prelude.{◌≡◌, ◌≢◌, ◌⊎◌, ◌<◌, ◌↔◌, ℕ, length, true};
+ghost use Rattle.std.specs.Prelude.{◌≡◌, ◌≢◌, ◌⊎◌, ◌<◌, ◌↔◌, ◌++◌, ℕ, length, true};
 ghost use Rattle.std.specs.Int.{bit_at};
 ghost use Rattle.gmp_seq.specs.Fits.{AreLimits};
 ghost use Rattle.gmp_acts.specs.Headline.{SameOpening};
@@ -16,16 +16,18 @@ ghost use Rattle.gmp_core.specs.Whole.{HeadlineOf, emptied};
 ghost use Rattle.gmp_stand.specs.Replayed.{doing_at};
 ghost use Rattle.gmp_trace.specs.Text.{text};
 ghost use Rattle.gmp_stand.specs.Told.{trace_of};
-ghost use Rattle.gmp_c.specs.Checking.{IsBadText, IsRightText};
+ghost use Rattle.gmp_c.specs.Checking.{IsJudged};
 ghost use Rattle.gmp_c.specs.Words.{IsOpening, IsWritten, Turned, doing_number, handed_of, limits_of, outcome_number};
 
+mod checker;
 mod checking;
 mod copying;
 mod handle;
 mod loose;
 mod words;
 
-use crate::checking::first_bad;
+use crate::checker::{Checker, Fed};
+use crate::checking::judged;
 use crate::copying::copied;
 use crate::handle::{Handle, Opaque, loosened, put};
 use crate::words::{
@@ -33,7 +35,6 @@ use crate::words::{
 };
 use gmp_base::{GNo, MNo};
 use gmp_stand::{Stand, TextError};
-use gmp_trace::{Bad, Why};
 use std::alloc::Global;
 
 /// The number of the header's functions.
@@ -44,9 +45,6 @@ const OUT_OF_MEMORY: u32 = 28;
 
 /// That a history is not kept whole.
 const NOT_WHOLE: u32 = 32;
-
-/// That a text is no right trace's.
-const WRONG: u32 = 1;
 
 /// That C may pass the handle to another thread.
 fn crosses<T: Send>(_value: &T) {}
@@ -198,22 +196,50 @@ pub extern "C" fn gmp_text(h: &mut Handle, buffer: &mut [u8], len: &mut u64) -> 
 /// want of memory.
 #[unsafe(no_mangle)]
 pub extern "C" fn gmp_check_text(alloc: Global, text: &[u8], line: &mut u64) -> u32
-    ensures right { result ≡ 0 → IsRightText text.now }
-    ensures wrong { result ≡ 1 → IsBadText text.now line.new }
-    ensures exact { IsRightText text.now → result ≢ 1 }
-    ensures kinds { (result ≡ 0) ⊎ (result ≡ 1) ⊎ (result ≡ 28) }
+    ensures { IsJudged text.now result line.new }
 {
-    match first_bad(alloc, text) {
-        None => 0,
-        Some(
-            Bad {
-                why: Why::OutOfMemory,
-                ..
-            },
-        ) => OUT_OF_MEMORY,
-        Some(bad) => {
-            *line = bad.line;
-            WRONG
+    judged(alloc, text, line)
+}
+
+/// Opens a checker that was fed nothing, and writes its word. Answers 0, or 28 for want of memory.
+#[unsafe(no_mangle)]
+pub extern "C" fn gmp_check_open(alloc: Global, out: &mut *mut Opaque) -> u32
+    ensures { (result ≡ 0) ⊎ (result ≡ 28) }
+{
+    let fed = Fed::new(alloc);
+    crosses(&fed);
+    match Box::new(alloc, fed) {
+        Ok(fed) => {
+            *out = put(fed);
+            0
         }
+        Err(_) => OUT_OF_MEMORY,
     }
+}
+
+/// Feeds this text behind what was fed before. Answers 0, or 28 for want of memory.
+#[unsafe(no_mangle)]
+pub extern "C" fn gmp_check_feed(c: &mut Checker, text: &[u8]) -> u32
+    ensures fed { result ≡ 0 → c.new.value ≡ c.old.value ++ text.now }
+    ensures refused { result ≢ 0 → (result ≡ 28) × (c.new.value ≡ c.old.value) }
+{
+    match c.get().feed(text) {
+        Ok(()) => 0,
+        Err(_) => OUT_OF_MEMORY,
+    }
+}
+
+/// Whether what was fed is the text of a right trace, as of `gmp_check_text`.
+#[unsafe(no_mangle)]
+pub extern "C" fn gmp_check_end(alloc: Global, c: &mut Checker, line: &mut u64) -> u32
+    ensures judged { IsJudged c.old.value result line.new }
+    ensures same { c.new.value ≡ c.old.value }
+{
+    judged(alloc, c.get().text(), line)
+}
+
+/// Lets the checker go.
+#[unsafe(no_mangle)]
+pub extern "C" fn gmp_check_close(alloc: Global, c: Checker) {
+    let _ = checker::loosened(c, alloc).into_box();
 }
