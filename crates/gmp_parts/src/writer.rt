@@ -22,6 +22,7 @@ use gmp_start::Start;
 use gmp_trace::{BeginningView, End, TraceView, write_view};
 use std::alloc::Global;
 use std::marker::Model;
+use std::mem;
 
 /// Writes a run in parts, piece by piece of its history.
 ///
@@ -216,6 +217,21 @@ impl<W: Outlet> PartWriter<W> {
         ensures { result ≡ self.now.failed }
     {
         self.failed
+    }
+
+    /// Where the parts go.
+    pub fn out(&self) -> &W
+        ensures { result.now ≡ self.now.out }
+    {
+        &self.out
+    }
+
+    /// Lets the parts go elsewhere from now on, and gives back where they went.
+    pub fn redirect(&mut self, out: W) -> W
+        ensures back { result ≡ self.old.out }
+        ensures new { self.new ≡ record self.old { out = out } }
+    {
+        mem::replace(&mut self.out, out)
     }
 
     /// Where the parts went.

@@ -15,10 +15,12 @@
 mod dealing;
 mod doing;
 mod event;
+mod parting;
 mod stand;
 mod telling;
 
 pub use doing::Doing;
 pub use event::{Event, Handed};
+pub use parting::PieceText;
 pub use stand::Stand;
 pub use telling::TextError;
