@@ -4,8 +4,8 @@
  * knows no bodies, threads, values or clocks. The host keeps those. It calls gmp_turn for a machine, does what the event says, and calls
  * again. A machine is a worker of the host: a thread of its own, or one of several that one thread serves.
  *
- * One call at a time on a handle, be it of a run or of a checker. It may go from thread to thread, so a host with several threads keeps it
- * behind a mutex of its own, and runs bodies and blocking calls outside of that.
+ * One call at a time on a handle, be it of a run, a checker or parts. It may go from thread to thread, so a host with several threads keeps
+ * it behind a mutex of its own, and runs bodies and blocking calls outside of that.
  *
  * Each pointer is to be valid, and an array to have as many elements as its count says; where the count is 0 the pointer may be any. An
  * enum below lists the values of a uint32_t. C11.
@@ -64,6 +64,9 @@ typedef struct { void *at; } gmp;
 
 /* A text that is checked as it comes, by one word. gmp_check_open makes it, and gmp_check_close takes it back. */
 typedef struct { void *at; } gmp_checker;
+
+/* What writes the pieces of a run as parts, by one word. gmp_parts_open makes it, and gmp_parts_close takes it back. */
+typedef struct { void *at; } gmp_parts;
 
 /* How large a run may be. */
 typedef struct {
@@ -163,8 +166,9 @@ enum {
 enum {
     GMP_WRONG = 1,          /* of gmp_check_text and gmp_check_end: the text is no right trace's */
     GMP_OUT_OF_MEMORY = 28,
-    GMP_BAD_LIMITS = 29,    /* of gmp_open */
-    GMP_NOT_WHOLE = 32      /* of gmp_text: the history is not kept whole */
+    GMP_BAD_LIMITS = 29,    /* of gmp_open and gmp_parts_open */
+    GMP_NOT_WHOLE = 32,     /* of gmp_text: the history is not kept whole */
+    GMP_NO_STEP = 33        /* of gmp_parts_write: the piece doesn't go on where the last part stops */
 };
 
 /* gmp_outcome */
@@ -188,7 +192,9 @@ enum {
 };
 
 /* Opens a run of so many goroutines, with channels of these n capacities, numbered from 0. Machines that are fair look at each queue from
- * time to time, so that no ready goroutine waits for ever. Answers 0 and writes the handle's word, or answers why not, and writes nothing:
+ * time to time: while one ready goroutine waits in a line, no machine claims more than 32 * (procs + 1) * goroutines others, whichever machines
+ * have turns (`served` in docs/PROMISES.md); that machines have turns, and bodies come back, is the host's part. Answers 0 and writes the
+ * handle's word, or answers why not, and writes nothing:
  *     gmp h; uint32_t why = gmp_open(&limits, goroutines, capacities, n, true, &h.at); */
 uint32_t gmp_open(const gmp_limits *limits, uint16_t goroutines, const uint32_t *capacities, size_t n, bool fair, void **out);
 
@@ -229,6 +235,23 @@ uint64_t gmp_piece_len(gmp *h);
  * how many it has; with room 0 only that. No byte 0 ends it. Answers 0; or GMP_NOT_WHOLE, where limits.room is less than limits.entries or
  * a piece was handed out, or GMP_OUT_OF_MEMORY, and then writes nothing. */
 uint32_t gmp_text(gmp *h, uint8_t *buffer, size_t room, uint64_t *len);
+
+/* The text of a run whose history is handed out: each piece as a part, which is a trace by itself. The parts one behind another, or in files
+ * of their own, are what `gmp join` reads, and it judges them as one run. Opens a writer of parts, with the limits, goroutines and capacities
+ * of the run. Answers as gmp_open, and writes the writer's word:
+ *     gmp_parts p; uint32_t why = gmp_parts_open(&limits, goroutines, capacities, n, &p.at); */
+uint32_t gmp_parts_open(const gmp_limits *limits, uint16_t goroutines, const uint32_t *capacities, size_t n, void **out);
+
+/* Writes the piece that h handed out last as the next part, in place of the text of the part before: once after each gmp_hand_out that
+ * handed out an entry, of which there is one more once the run is over. Answers 0; or GMP_NO_STEP, where the piece has no entry or doesn't go
+ * on where the last part stops, or GMP_OUT_OF_MEMORY. Then there is no text, and each later call answers the same. */
+uint32_t gmp_parts_write(gmp_parts *p, gmp *h);
+
+/* The text of the part that was written last, in the manner of gmp_text; it has no byte before the first. Answers 0. */
+uint32_t gmp_parts_text(gmp_parts *p, uint8_t *buffer, size_t room, uint64_t *len);
+
+/* Lets the writer go. */
+void gmp_parts_close(gmp_parts p);
 
 /* Whether these n bytes are the text of a right trace, of whichever scheduler: 0, if they are; GMP_WRONG, and in *line the first bad line,
  * counted from 1; or GMP_OUT_OF_MEMORY, which says nothing of the text. It needs no handle. */

@@ -13,6 +13,8 @@ use Rattle.gmp_seq.specs.declared.call.Limits.{Limits}
 use Rattle.gmp_seq.specs.declared.call.Outcome.{Outcome}
 use Rattle.gmp_seq.specs.declared.call.Outcome.TheVariants as outcome
 use Rattle.gmp_core.specs.Whole.{Whole}
+use Rattle.gmp_parts.specs.declared.error.PartError.{PartError}
+use Rattle.gmp_parts.specs.declared.error.PartError.TheVariants as part_error
 use Rattle.gmp_stand.specs.declared.doing.Doing.{Doing}
 use Rattle.gmp_stand.specs.declared.doing.Doing.TheVariants as doing
 use Rattle.gmp_stand.specs.declared.event.Event.{Event}
@@ -136,3 +138,10 @@ doing_number doing.Waits = 4
 doing_number doing.Dead = 5
 doing_number doing.Nobody = 6
 doing_number doing.Unknown = 7
+
+-- why a part was not written; 0 where it was. A device is memory here.
+abbrev pub failed_number : Option PartError → ℕ
+failed_number None = 0
+failed_number (Some part_error.NoStep) = 33
+failed_number (Some part_error.OutOfMemory) = 28
+failed_number (Some part_error.Device) = 28

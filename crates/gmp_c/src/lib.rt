@@ -1,11 +1,11 @@
-//! The scheduler for C: a handle, numbers, and the functions of native/c/gmp.h. Each is one call of gmp_stand, whose clauses stand here over
-//! what the handle's box holds.
+//! The scheduler for C: handles, numbers, and the functions of native/c/gmp.h. Each is one call of gmp_stand, or a check of a text, and its
+//! clauses stand here over what the handle's box holds.
 //!
-//! What C passes is trusted to be what the header says: a handle that `gmp_open` made and `gmp_close` did not take, pointers that are valid,
-//! and counts that are right. What the numbers say is judged here: no number is refused but limits.
+//! What C passes is trusted to be what the header says: a handle that an opening made and no close took, pointers that are valid, and counts
+//! that are right. What the numbers say is judged here: no number is refused but limits.
 #![tactic(auto)]
 
-ghost use Rattle.std.specs.Prelude.{◌≡◌, ◌≢◌, ◌⊎◌, ◌<◌, ◌↔◌, ◌++◌, ℕ, length, true};
+ghost use Rattle.std.specs.Prelude.{◌≡◌, ◌≢◌, ◌⊎◌, ◌<◌, ◌↔◌, ◌++◌, ℕ, None, Some, length, true};
 ghost use Rattle.std.specs.Int.{bit_at};
 ghost use Rattle.gmp_seq.specs.Fits.{AreLimits};
 ghost use Rattle.gmp_acts.specs.Headline.{SameOpening};
@@ -13,28 +13,34 @@ ghost use Rattle.gmp_acts.specs.Lookouts.{NoWorkIsAsleep};
 ghost use Rattle.gmp_fair.specs.Fair.{AllSteady};
 ghost use Rattle.gmp_core.specs.Stage.{parked};
 ghost use Rattle.gmp_core.specs.Whole.{HeadlineOf, emptied};
+ghost use Rattle.gmp_parts.specs.Writing.{GoesOn, WritesPart};
+ghost use Rattle.gmp_stand.specs.Parting.{textless};
 ghost use Rattle.gmp_stand.specs.Replayed.{doing_at};
 ghost use Rattle.gmp_trace.specs.Text.{text};
 ghost use Rattle.gmp_stand.specs.Told.{trace_of};
 ghost use Rattle.gmp_c.specs.Checking.{IsJudged};
-ghost use Rattle.gmp_c.specs.Words.{IsOpening, IsWritten, Turned, doing_number, handed_of, limits_of, outcome_number};
+ghost use Rattle.gmp_c.specs.Words.{IsOpening, IsWritten, Turned, doing_number, failed_number, handed_of, limits_of, outcome_number};
 
 mod checker;
 mod checking;
 mod copying;
 mod handle;
 mod loose;
+mod parts;
 mod words;
 
 use crate::checker::{Checker, Fed};
 use crate::checking::judged;
 use crate::copying::copied;
 use crate::handle::{Handle, Opaque, loosened, put};
+use crate::parts::Parts;
 use crate::words::{
     AskWords, CaseWords, EventWords, LimitWords, handed, number_of, number_of_doing, words_of,
 };
 use gmp_base::{GNo, MNo};
-use gmp_stand::{Stand, TextError};
+use gmp_check::OpenError;
+use gmp_parts::PartError;
+use gmp_stand::{PieceText, Stand, TextError};
 use std::alloc::Global;
 
 /// The number of the header's functions.
@@ -43,8 +49,14 @@ const VERSION: u32 = 1;
 /// Want of memory, as a refusal's number.
 const OUT_OF_MEMORY: u32 = 28;
 
+/// That limits are out of range.
+const BAD_LIMITS: u32 = 29;
+
 /// That a history is not kept whole.
 const NOT_WHOLE: u32 = 32;
+
+/// That a piece doesn't go on where the last part stops.
+const NO_STEP: u32 = 33;
 
 /// That C may pass the handle to another thread.
 fn crosses<T: Send>(_value: &T) {}
@@ -242,4 +254,68 @@ pub extern "C" fn gmp_check_end(alloc: Global, c: &mut Checker, line: &mut u64) 
 #[unsafe(no_mangle)]
 pub extern "C" fn gmp_check_close(alloc: Global, c: Checker) {
     let _ = checker::loosened(c, alloc).into_box();
+}
+
+/// Opens a writer of the parts of a run with so many goroutines and channels of these capacities, and writes its word. Nothing is written
+/// yet. Answers 0, or the number of the refusal.
+#[unsafe(no_mangle)]
+pub extern "C" fn gmp_parts_open(
+    alloc: Global,
+    limits: &LimitWords,
+    goroutines: u16,
+    capacities: &[u32],
+    out: &mut *mut Opaque,
+) -> u32
+    ensures { IsOpening (AreLimits (limits_of limits.now) goroutines capacities.now) result }
+{
+    match PieceText::open(alloc, limits.limits(), goroutines, capacities) {
+        Ok(parts) => {
+            crosses(&parts);
+            match Box::new(alloc, parts) {
+                Ok(parts) => {
+                    *out = put(parts);
+                    0
+                }
+                Err(_) => OUT_OF_MEMORY,
+            }
+        }
+        Err(OpenError::BadLimits) => BAD_LIMITS,
+        Err(OpenError::OutOfMemory) => OUT_OF_MEMORY,
+    }
+}
+
+/// Writes the piece that was handed out last as the next part. Answers 0, or 28 for want of memory, or 33 where the piece doesn't go on where
+/// the last part stops: then there is no text, and it answers so each time.
+#[unsafe(no_mangle)]
+pub extern "C" fn gmp_parts_write(p: &mut Parts, h: &mut Handle) -> u32
+    ensures written { result ≡ 0 → WritesPart Some (textless p.old.value) h.old.value.piece p.new.value }
+    ensures goes_on { result ≡ 0 → GoesOn p.old.value h.old.value.piece }
+    ensures no_step { result ≡ 33 → p.old.value.failed ≡ None → GoesOn p.old.value h.old.value.piece → ⊥ }
+    ensures refused { result ≢ 0 → p.new.value ≡ record (textless p.old.value) { failed = p.new.value.failed } }
+    ensures why { result ≡ failed_number p.new.value.failed }
+    ensures again { p.old.value.failed ≢ None → result ≡ failed_number p.old.value.failed }
+    ensures same { h.new.value ≡ h.old.value }
+{
+    match p.get().write(h.get()) {
+        Ok(()) => 0,
+        Err(PartError::NoStep) => NO_STEP,
+        Err(PartError::OutOfMemory | PartError::Device) => OUT_OF_MEMORY,
+    }
+}
+
+/// Writes the text of the part that was written last into the buffer, as much as there is room for, and how long it is. Answers 0.
+#[unsafe(no_mangle)]
+pub extern "C" fn gmp_parts_text(p: &mut Parts, buffer: &mut [u8], len: &mut u64) -> u32
+    ensures text { IsWritten p.old.value.out buffer.old buffer.new len.new }
+    ensures number { result ≡ 0 }
+    ensures same { p.new.value ≡ p.old.value }
+{
+    *len = copied(p.get().text(), buffer) as u64;
+    0
+}
+
+/// Lets the writer of the parts go.
+#[unsafe(no_mangle)]
+pub extern "C" fn gmp_parts_close(alloc: Global, p: Parts) {
+    let _ = parts::loosened(p, alloc).into_box();
 }
