@@ -214,6 +214,9 @@ void gmp_turn(gmp *h, uint8_t m, const gmp_ask *ask, const gmp_case *cases, size
 /* The set of machines that are parked: bit m is machine m's. A host that sleeps in a machine's thread wakes it when its bit is clear. */
 uint64_t gmp_parked(gmp *h);
 
+/* The least moment until which a goroutine waits, asleep or in a select; GMP_NEVER, where none does. */
+uint64_t gmp_deadline(gmp *h);
+
 /* How the run ended, if it did. */
 uint32_t gmp_outcome(gmp *h);
 

@@ -5,13 +5,15 @@
 //! that are right. What the numbers say is judged here: no number is refused but limits.
 #![tactic(auto)]
 
-ghost use Rattle.std.specs.Prelude.{◌≡◌, ◌≢◌, ◌⊎◌, ◌<◌, ◌↔◌, ◌++◌, ℕ, None, Some, length, true};
+ghost use Rattle.std.specs.Prelude.{◌≡◌, ◌≢◌, ◌⊎◌, ◌<◌, ◌↔◌, ◌++◌, ℕ, None, Some, length, true, unwrap_or};
 ghost use Rattle.std.specs.Int.{bit_at};
 ghost use Rattle.gmp_seq.specs.Fits.{AreLimits};
+ghost use Rattle.gmp_seq.specs.Table.{least_deadline};
 ghost use Rattle.gmp_acts.specs.Headline.{SameOpening};
 ghost use Rattle.gmp_acts.specs.Lookouts.{NoWorkIsAsleep};
 ghost use Rattle.gmp_fair.specs.Fair.{AllSteady};
 ghost use Rattle.gmp_core.specs.Stage.{parked};
+ghost use Rattle.gmp_core.specs.Waits.{PassesNobodyOver};
 ghost use Rattle.gmp_core.specs.Whole.{HeadlineOf, emptied};
 ghost use Rattle.gmp_parts.specs.Writing.{GoesOn, WritesPart};
 ghost use Rattle.gmp_stand.specs.Parting.{textless};
@@ -115,6 +117,7 @@ pub extern "C" fn gmp_turn(
     event: &mut EventWords,
 )
     ensures turn { Turned m (handed_of ask.now cases.now moment word) h.old.value.core h.new.value.core event.new }
+    ensures served { PassesNobodyOver h.old.value.core }
     ensures steady { AllSteady h.old.value.core.system → AllSteady h.new.value.core.system }
     ensures headline { HeadlineOf h.new.value.core.system }
     ensures awake { NoWorkIsAsleep h.new.value.core.system }
@@ -132,6 +135,15 @@ pub extern "C" fn gmp_parked(h: &mut Handle) -> u64
     ensures same { h.new.value ≡ h.old.value }
 {
     h.get().parked_set()
+}
+
+/// The least moment until which a goroutine waits; the greatest number, where none waits until one.
+#[unsafe(no_mangle)]
+pub extern "C" fn gmp_deadline(h: &mut Handle) -> u64
+    ensures deadline { result ≡ unwrap_or (least_deadline h.old.value.core.system.book.state.table) 18446744073709551615 }
+    ensures same { h.new.value ≡ h.old.value }
+{
+    h.get().deadline().unwrap_or(u64::MAX)
 }
 
 /// How the run ended: 0, if it did not; 1, main ended; 2, all are asleep; 3, there are as many entries as there may be.

@@ -9,6 +9,7 @@ ghost use Rattle.gmp_base.specs.declared.number.Readiness.{Readiness};
 ghost use Rattle.gmp_seq.specs.Fits.{AreLimits, Fits};
 ghost use Rattle.gmp_seq.specs.Machines.{is_parked_mode};
 ghost use Rattle.gmp_seq.specs.State.{main};
+ghost use Rattle.gmp_seq.specs.Table.{least_deadline};
 ghost use Rattle.gmp_book.specs.Book.{WhyUnopened};
 ghost use Rattle.gmp_acts.specs.System.{made_of};
 ghost use Rattle.gmp_core.specs.Whole.{wanted_by};
@@ -101,7 +102,7 @@ impl<T> Core<T> {
     ghost use Rattle.gmp_driver.specs.Machine.{held_at, is_done};
     ghost use Rattle.gmp_fair.specs.Fair.{AllSteady};
     ghost use Rattle.gmp_core.specs.Lending.{lends_body};
-    ghost use Rattle.gmp_core.specs.Waits.{WaitsThrough};
+    ghost use Rattle.gmp_core.specs.Waits.{PassesNobodyOver, WaitsThrough};
     ghost use Rattle.gmp_core.specs.Whole.{GrantsAll, HasRoom, HeadlineOf, IsBodyInHand, IsKept, IsWhole, NoCallIsRefused, TakesFixed, emptied, is_of_body};
 
     /// Machines that have made no act and are not fair, each at its start with nothing in hand. There is a body for each goroutine. It takes all the memory
@@ -249,6 +250,14 @@ impl<T> Core<T> {
         let _ = &self.book;
     }
 
+    /// Of fair machines none passes over who waits in lines for ever, whichever acts follow.
+    pub fn serves(&self)
+        ensures served { PassesNobodyOver self.now }
+    {
+        // The core keeps what acts need from its beginning on.
+        let _ = &self.book;
+    }
+
     /// Acts in a row, each of the machine beside it, as long as there is room, and how many of them there were. Whatever they are, the
     /// headline holds after them, and no work is left asleep.
     pub fn run(&mut self, moves: &[(MNo, Choice)]) -> usize
@@ -333,6 +342,13 @@ impl<T> Core<T> {
             Some(driver) => driver.is_done(),
             None => false,
         }
+    }
+
+    /// The least deadline of all goroutines that wait, in nanoseconds.
+    pub fn least_deadline(&self) -> Option<u64>
+        ensures { result ≡ least_deadline self.now.system.book.state.table }
+    {
+        self.book.goroutines().least_deadline()
     }
 
     /// Every call that the book accepted since the last hand-out with its reply, in order: each machine's are those that it made, with the

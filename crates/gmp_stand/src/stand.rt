@@ -2,6 +2,7 @@
 ghost use Rattle.std.specs.Prelude.{◌≡◌, ◌⊎◌, ◌<◌, ◌↔◌, ℕ, All, IfErr, IfOk, IfSome, IsSome, None, OnErr, OnOk, Some, [], length, map, true, false};
 ghost use Rattle.std.specs.Int.{bit_at};
 ghost use Rattle.gmp_seq.specs.Fits.{AreLimits, Fits};
+ghost use Rattle.gmp_seq.specs.Table.{least_deadline};
 ghost use Rattle.gmp_book.specs.Book.{WhyUnopened};
 ghost use Rattle.gmp_acts.specs.Headline.{SameOpening};
 ghost use Rattle.gmp_acts.specs.Lookouts.{NoWorkIsAsleep};
@@ -9,6 +10,7 @@ ghost use Rattle.gmp_acts.specs.System.{machine_at};
 ghost use Rattle.gmp_driver.specs.Machine.{held_at};
 ghost use Rattle.gmp_fair.specs.Fair.{AllSteady};
 ghost use Rattle.gmp_core.specs.Stage.{parked};
+ghost use Rattle.gmp_core.specs.Waits.{PassesNobodyOver};
 ghost use Rattle.gmp_core.specs.Whole.{HeadlineOf, IsKept, IsWhole, emptied, goroutine_in_hand};
 ghost use Rattle.gmp_stand.specs.Standing.{numbers, opening_standing};
 ghost use Rattle.gmp_stand.specs.declared.doing.Doing.TheVariants.{Unknown};
@@ -125,6 +127,7 @@ impl Stand {
     /// in serves the turn's first act, or is let go where that doesn't want it.
     pub fn turn(&mut self, m: MNo, handed: Handed) -> Event
         ensures turn { TakesTurn m handed result self.old.core self.new.core }
+        ensures served { PassesNobodyOver self.old.core }
         ensures steady { AllSteady self.old.core.system → AllSteady self.new.core.system }
         ensures headline { HeadlineOf self.new.core.system }
         ensures awake { NoWorkIsAsleep self.new.core.system }
@@ -142,12 +145,14 @@ impl Stand {
         Event::More
     }
 
-    /// The headline holds, and no work is left asleep: so it is told of a core that makes no act.
+    /// The headline holds, no work is left asleep, and fair machines pass nobody over: so it is told of a core that makes no act.
     fn keeps(&mut self)
         ensures same { self.new ≡ self.old }
+        ensures served { PassesNobodyOver self.old.core }
         ensures headline { HeadlineOf self.new.core.system }
         ensures awake { NoWorkIsAsleep self.new.core.system }
     {
+        self.core.serves();
         let _ = self.core.run(&[]);
     }
 
@@ -244,6 +249,13 @@ impl Stand {
             }
         }
         set
+    }
+
+    /// The least deadline of all goroutines that wait, in nanoseconds.
+    pub fn deadline(&self) -> Option<u64>
+        ensures { result ≡ least_deadline self.now.core.system.book.state.table }
+    {
+        self.core.least_deadline()
     }
 
     /// How the run ended, if it did.
