@@ -1,9 +1,10 @@
 //! How a run ended.
 use crate::fault::Fault;
-use crate::run::{Place, Waits};
+use crate::run::{locked, Goroutine, Place, Run, State, Waits};
 use crate::time::Moment;
-use crate::words::NIL;
+use crate::words::{outcome, status, NIL, OUT_OF_MEMORY};
 use std::fmt;
+use std::panic::{catch_unwind, AssertUnwindSafe};
 
 /// The number of a refusal that is none of the scheduler's: the system had no thread for a machine.
 pub(crate) const NO_THREAD: u32 = 0;
@@ -23,6 +24,8 @@ pub enum Outcome {
     Deadlock,
     /// It made as many entries as it may, or there was no memory for more.
     Full,
+    /// A part of its trace could not be written: [`Ended::unwritten`] says why.
+    Unwritten,
     /// It did not begin: the limits are out of range, or there was no memory, or too few threads.
     Refused,
 }
@@ -86,7 +89,8 @@ pub struct Left {
     /// Where it waits.
     pub place: String,
     /// Whether it waits for good: of a deadlock all do; where main ended, who waits with no deadline. Of a run whose
-    /// history was handed out, as one of more than 65,536 entries may be, the second isn't known, and this is false.
+    /// history was handed out, as one of more than 61,440 entries may be, or of 12,288 if it is written in parts, the second
+    /// isn't known, and this is false.
     pub is_stuck: bool,
 }
 
@@ -125,12 +129,15 @@ pub struct Ended {
     /// The text of its trace, for the commands `gmp check`, `explain` and `draw`: of a run that was
     /// [`traced`](crate::Builder::traced) or found by a search, if its history is whole.
     pub trace: Option<String>,
+    /// Why its trace could not be written, or not to its end, if it should have been
+    /// ([`traced_to`](crate::Builder::traced_to)).
+    pub unwritten: Option<String>,
 }
 
 impl Ended {
     pub(crate) fn refused(seed: u64, number: u32) -> Ended {
         let why = match number {
-            28 => "no memory",
+            OUT_OF_MEMORY => "no memory",
             NO_THREAD => "no thread for a machine",
             _ => "limits are out of range",
         };
@@ -144,7 +151,33 @@ impl Ended {
             entries: 0,
             at: Moment::default(),
             trace: None,
+            unwritten: None,
         }
+    }
+
+    /// How the run ended; what is left of it is dropped.
+    pub(crate) fn of(run: &Run, number: u32, seed: u64) -> Ended {
+        let (outcome, left, entries, unwritten, goroutines) = {
+            let state = &mut *run.lock();
+            run.end(state);
+            let outcome = match number {
+                outcome::MAIN_ENDED => Outcome::MainEnded,
+                outcome::ALL_ASLEEP => Outcome::Deadlock,
+                _ if state.is_unwritten() => Outcome::Unwritten,
+                _ => Outcome::Full,
+            };
+            let (left, entries, unwritten) = (left_of(state, outcome), state.entries(), state.finish());
+            let none = state.goroutines.iter().map(|_| Goroutine::default()).collect();
+            (outcome, left, entries, unwritten, std::mem::replace(&mut state.goroutines, none))
+        };
+        let at = Moment(run.clock.now());
+        for goroutine in goroutines {
+            // A panic of what is dropped only now is told by nobody but the hook.
+            let _ = catch_unwind(AssertUnwindSafe(|| drop(goroutine)));
+        }
+        let (panics, faults) =
+            (std::mem::take(&mut *locked(&run.panics)), std::mem::take(&mut *locked(&run.faults)));
+        Ended { outcome, seed, error: None, panics, faults, left, entries, at, trace: None, unwritten }
     }
 
     /// Who was left waiting for good when main ended.
@@ -165,7 +198,8 @@ impl Ended {
         self.left.iter().filter(move |left| main_ended && left.is_stuck)
     }
 
-    /// Whether main ended and answered no error, nobody panicked or was told a fault, and nobody was left waiting for good.
+    /// Whether main ended and answered no error, nobody panicked or was told a fault, nobody was left waiting for good, and the
+    /// trace was written, if it should have been.
     ///
     /// ```
     /// use kuvendyra::Runtime;
@@ -175,6 +209,7 @@ impl Ended {
     pub fn is_clean(&self) -> bool {
         self.outcome == Outcome::MainEnded
             && self.error.is_none()
+            && self.unwritten.is_none()
             && self.panics.is_empty()
             && self.faults.is_empty()
             && self.leaks().next().is_none()
@@ -187,11 +222,15 @@ impl fmt::Display for Ended {
             Outcome::MainEnded => "main ended",
             Outcome::Deadlock => "all goroutines are asleep",
             Outcome::Full => "the history is full",
+            Outcome::Unwritten => "the trace could not be written",
             Outcome::Refused => "refused",
         };
         write!(f, "{outcome}, after {} entries, at {}", self.entries, self.at)?;
         if let Some(error) = &self.error {
             write!(f, "\nmain: {error}")?;
+        }
+        if let Some(why) = &self.unwritten {
+            write!(f, "\ntrace: {why}")?;
         }
         for Panicked { goroutine, message } in &self.panics {
             write!(f, "\ngoroutine {goroutine}: panicked: {message}")?;
@@ -213,6 +252,26 @@ impl fmt::Display for Left {
         let rest = if self.is_stuck { "" } else { ", and may go on" };
         write!(f, ": waits {waits}, at {place}{rest}")
     }
+}
+
+/// Who has not ended.
+fn left_of(state: &mut State, outcome: Outcome) -> Vec<Left> {
+    let mut left = vec![];
+    let is_in_pieces = state.is_in_pieces();
+    for (g, goroutine) in state.goroutines.iter().enumerate() {
+        let Some(wait) = &goroutine.wait else { continue };
+        let knows = !is_in_pieces && !wait.waits.has_deadline();
+        let is_stuck =
+            outcome == Outcome::Deadlock || knows && state.core.status(g as u16) == status::WAITING;
+        left.push(Left {
+            goroutine: g as u32,
+            started: goroutine.place.map(text_of),
+            waits: wait.waits.text(),
+            place: text_of(wait.place),
+            is_stuck,
+        });
+    }
+    left
 }
 
 /// The text of a place.

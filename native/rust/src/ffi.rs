@@ -1,9 +1,9 @@
 //! The proved core behind safe methods. The whole trusted seam, and all `unsafe` code of the crate, is this file.
 #![allow(unsafe_code)]
 
-use crate::words::{Ask, Case, Event, Limits};
+use crate::words::{Ask, Case, Event, Limits, OUT_OF_MEMORY};
 
-/// The handle of C: one word.
+/// A handle of C: one word.
 #[repr(transparent)]
 #[derive(Clone, Copy)]
 struct Handle(*mut u8);
@@ -35,7 +35,20 @@ unsafe extern "C" {
     fn gmp_hand_out(h: *mut Handle) -> u32;
     fn gmp_text(h: *mut Handle, buffer: *mut u8, n: usize, len: *mut u64) -> u32;
     fn gmp_check_text(text: *const u8, n: usize, line: *mut u64) -> u32;
+    fn gmp_parts_open(
+        limits: *const Limits,
+        goroutines: u16,
+        capacities: *const u32,
+        n: usize,
+        out: *mut *mut u8,
+    ) -> u32;
+    fn gmp_parts_write(p: *mut Handle, h: *mut Handle) -> u32;
+    fn gmp_parts_text(p: *mut Handle, buffer: *mut u8, n: usize, len: *mut u64) -> u32;
+    fn gmp_parts_close(p: Handle);
 }
+
+/// The array of the capacities of a run that begins without channels.
+const NO_CHANNELS: [u32; 1] = [0];
 
 /// A run of the proved scheduler. It is closed when it is dropped.
 pub struct Core(Handle);
@@ -48,8 +61,8 @@ impl Core {
     /// Opens a run without channels; else the number of the refusal.
     pub fn open(limits: &Limits, goroutines: u16) -> Result<Core, u32> {
         let mut at = std::ptr::null_mut();
-        // SAFETY: all pointers are of live values; the array of capacities has 0 elements.
-        let why = unsafe { gmp_open(limits, goroutines, [0u32; 1].as_ptr(), 0, true, &mut at) };
+        // SAFETY: all pointers are of live values; of the capacities 0 elements are looked at.
+        let why = unsafe { gmp_open(limits, goroutines, NO_CHANNELS.as_ptr(), 0, true, &mut at) };
         if why == 0 {
             Ok(Core(Handle(at)))
         } else {
@@ -100,18 +113,8 @@ impl Core {
 
     /// The text of the run's trace, if the history is whole and there is memory.
     pub fn text(&mut self) -> Option<String> {
-        let mut text = vec![];
-        for _ in 0..2 {
-            let mut len = 0;
-            // SAFETY: the handle is open, and this is the only call on it; the buffer has as many bytes as its count says.
-            let why = unsafe { gmp_text(&mut self.0, text.as_mut_ptr(), text.len(), &mut len) };
-            if why != 0 {
-                return None;
-            }
-            // The first time it is only told how long the text is.
-            text.resize(usize::try_from(len).ok()?, 0);
-        }
-        String::from_utf8(text).ok()
+        // SAFETY: the handle is open, and this is the only call on it; the buffer has as many bytes as its count says.
+        whole(|buffer, len| unsafe { gmp_text(&mut self.0, buffer.as_mut_ptr(), buffer.len(), len) }).ok()
     }
 
     /// Judges a trace: 0, if it is right; 1 and the first bad line; else there was no memory.
@@ -128,6 +131,60 @@ impl Drop for Core {
         // SAFETY: the handle is open, and no copy of it is used afterwards.
         unsafe { gmp_close(self.0) }
     }
+}
+
+/// The trace of a run in parts. They are closed when this is dropped.
+pub struct Parts(Handle);
+
+// SAFETY: as for `Core`.
+unsafe impl Send for Parts {}
+
+impl Parts {
+    /// Opens the parts of a run without channels; else the number of the refusal.
+    pub fn open(limits: &Limits, goroutines: u16) -> Result<Parts, u32> {
+        let mut at = std::ptr::null_mut();
+        // SAFETY: all pointers are of live values; of the capacities 0 elements are looked at.
+        let why = unsafe { gmp_parts_open(limits, goroutines, NO_CHANNELS.as_ptr(), 0, &mut at) };
+        if why == 0 {
+            Ok(Parts(Handle(at)))
+        } else {
+            Err(why)
+        }
+    }
+
+    /// The text of the next part: of the piece that the run handed out last; else the number of the refusal.
+    pub fn next(&mut self, core: &mut Core) -> Result<String, u32> {
+        // SAFETY: both handles are open, since only `drop` closes them, and this is the only call on each.
+        let why = unsafe { gmp_parts_write(&mut self.0, &mut core.0) };
+        if why != 0 {
+            return Err(why);
+        }
+        // SAFETY: the handle is open, and this is the only call on it; the buffer has as many bytes as its count says.
+        whole(|buffer, len| unsafe { gmp_parts_text(&mut self.0, buffer.as_mut_ptr(), buffer.len(), len) })
+    }
+}
+
+impl Drop for Parts {
+    fn drop(&mut self) {
+        // SAFETY: the handle is open, and no copy of it is used afterwards.
+        unsafe { gmp_parts_close(self.0) }
+    }
+}
+
+/// The whole of a text of which a function writes as much as there is room for, and says how long it is; else the number of its
+/// refusal.
+fn whole(mut write: impl FnMut(&mut [u8], &mut u64) -> u32) -> Result<String, u32> {
+    let mut text = vec![];
+    for _ in 0..2 {
+        let mut len = 0;
+        let why = write(&mut text, &mut len);
+        if why != 0 {
+            return Err(why);
+        }
+        // The first time it is only told how long the text is.
+        text.resize(usize::try_from(len).map_err(|_| OUT_OF_MEMORY)?, 0);
+    }
+    Ok(String::from_utf8(text).expect("a trace is ASCII"))
 }
 
 /// Where the proved library gets its memory: from C's malloc.

@@ -48,6 +48,7 @@ mod join;
 mod machines;
 #[cfg(feature = "mock")]
 mod mock;
+mod parts;
 mod polls;
 mod random;
 mod run;
@@ -65,10 +66,10 @@ pub use ended::{Ended, Left, Outcome, Panicked, Told};
 pub use ends::{Receiver, Sender};
 pub use fault::{Fault, SendError, TryRecvError, TrySendError};
 #[cfg(not(feature = "mock"))]
-use ffi::Core;
+use ffi::{Core, Parts};
 pub use join::{go, spawn_blocking, JoinError, JoinHandle};
 #[cfg(feature = "mock")]
-use mock::Core;
+use mock::{Core, Parts};
 pub use runtime::{Answer, Builder, Runtime};
 pub use select::Select;
 pub use time::{now, sleep, sleep_until, yield_now, Moment};

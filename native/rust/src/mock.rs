@@ -1,6 +1,6 @@
 //! A stand-in for the proved core: plain Rust, one queue, no history. It serves to try the crate without the library.
 use crate::words::{ask, event, outcome, status, woke};
-use crate::words::{Ask, Case, Event, Limits, MAX_CAPACITY, NEVER, NIL};
+use crate::words::{Ask, Case, Event, Limits, MAX_CAPACITY, NEVER, NIL, OUT_OF_MEMORY};
 use std::collections::VecDeque;
 
 /// An offer of a goroutine that waits: (goroutine, arrival, case, value).
@@ -39,6 +39,7 @@ pub struct Core {
     parked: u64,
     entries: u64,
     handed_out: u64,
+    piece: u64,
     most: u64,
     over: u32,
 }
@@ -81,6 +82,7 @@ impl Core {
             parked: 0,
             entries: 0,
             handed_out: 0,
+            piece: 0,
             most: limits.entries,
             over: outcome::RUNS,
         })
@@ -342,7 +344,8 @@ impl Core {
     }
 
     pub fn hand_out(&mut self) -> bool {
-        self.handed_out += std::mem::take(&mut self.entries);
+        self.piece = std::mem::take(&mut self.entries);
+        self.handed_out += self.piece;
         true
     }
 
@@ -351,6 +354,19 @@ impl Core {
     }
 
     pub fn check_text(_: &str) -> (u32, u64) {
-        (28, 0)
+        (OUT_OF_MEMORY, 0)
+    }
+}
+
+/// Parts whose text only says how many entries each has.
+pub struct Parts;
+
+impl Parts {
+    pub fn open(_: &Limits, _: u16) -> Result<Parts, u32> {
+        Ok(Parts)
+    }
+
+    pub fn next(&mut self, core: &mut Core) -> Result<String, u32> {
+        Ok(format!("{} entries\n", core.piece))
     }
 }

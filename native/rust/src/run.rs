@@ -2,6 +2,7 @@
 use crate::ended::{Panicked, Told};
 use crate::fault::Fault;
 use crate::hand::Hand;
+use crate::parts::Written;
 use crate::random::Random;
 use crate::time::{Clock, Moment};
 use crate::words::{ask, event, woke, Ask, Case, Event, Limits};
@@ -135,6 +136,8 @@ pub(crate) struct State {
     /// The closes that the goroutine that is polled next makes: channels whose last sender went outside of one.
     pub late_closes: Vec<(u32, Arc<AtomicU64>)>,
     handed_out: u64,
+    /// The trace, if it is written in parts.
+    pub written: Option<Written>,
     /// The machines that are parked.
     pub parked: u64,
     /// The machines whose threads wait for a moment.
@@ -162,20 +165,43 @@ pub(crate) struct Run {
 pub(crate) type Called = (Option<Job>, Option<Arc<Bell>>);
 
 /// The lock of what one thread at a time looks at. A panic under it leaves nothing half done.
-pub(crate) fn locked<T>(mutex: &Mutex<T>) -> MutexGuard<'_, T> {
+pub(crate) fn locked<T: ?Sized>(mutex: &Mutex<T>) -> MutexGuard<'_, T> {
     mutex.lock().unwrap_or_else(PoisonError::into_inner)
 }
 
 impl State {
-    /// Makes room for one turn, where the history isn't kept whole.
-    fn make_room(&mut self, limits: &Limits) {
+    /// Makes room for one turn, where the history isn't kept whole. False, if what went out could not be written.
+    fn make_room(&mut self, limits: &Limits) -> bool {
         let room = u64::from(limits.room);
-        if limits.entries > room {
-            let entries = self.core.entries();
-            if entries + TURN_ENTRIES > room && self.core.hand_out() {
-                self.handed_out += entries;
+        if limits.entries > room && self.core.entries() + TURN_ENTRIES > room {
+            self.hand_out();
+        }
+        !self.is_unwritten()
+    }
+
+    /// Hands the history out, and writes it, if the trace is written. Answers whether there was memory to hand it out.
+    fn hand_out(&mut self) -> bool {
+        let entries = self.core.entries();
+        let is_out = self.core.hand_out();
+        if is_out {
+            self.handed_out += entries;
+            if let Some(written) = &mut self.written {
+                written.piece(&mut self.core);
             }
         }
+        is_out
+    }
+
+    /// Whether a part of the trace could not be written.
+    pub fn is_unwritten(&self) -> bool {
+        self.written.as_ref().is_some_and(Written::has_failed)
+    }
+
+    /// Writes what is left, if the trace is written. Answers why it could not be written, if it could not.
+    pub fn finish(&mut self) -> Option<String> {
+        self.written.as_ref()?;
+        let is_out = self.is_unwritten() || self.core.entries() == 0 || self.hand_out();
+        self.written.take()?.end(is_out)
     }
 
     /// The blocking call of the goroutine.
@@ -213,6 +239,7 @@ impl Run {
             closes: 0,
             late_closes: vec![],
             handed_out: 0,
+            written: None,
             parked: 0,
             waiting: 0,
             calling: 0,
@@ -266,7 +293,10 @@ impl Run {
 
     /// One turn of the machine. The threads of machines that it lets go on are woken.
     pub fn turn(&self, state: &mut State, m: u8, ask: &Ask, cases: &[Case]) -> Event {
-        state.make_room(&self.limits);
+        if !state.make_room(&self.limits) {
+            self.end(state);
+            return Event { kind: event::DONE, ..Event::default() };
+        }
         let word = state.words.next();
         let event = state.core.turn(m, ask, cases, self.clock.now(), word);
         let before = std::mem::replace(&mut state.parked, state.core.parked());

@@ -1,16 +1,17 @@
 //! How a run is set up, and made.
-use crate::ended::{text_of, Ended, Left, Outcome, NO_THREAD};
+use crate::ended::{Ended, NO_THREAD};
 use crate::hand::Hand;
 use crate::machines::Machines;
+use crate::parts::{Outlet, Written};
 use crate::random::Random;
-use crate::run::{locked, Body, Goroutine, Run, State};
+use crate::run::{locked, Body, Run};
 use crate::threads;
-use crate::time::{Clock, Moment};
-use crate::words::{outcome, status, Limits};
+use crate::time::Clock;
+use crate::words::Limits;
 use crate::Core;
 use std::fmt::Display;
 use std::future::Future;
-use std::panic::{catch_unwind, AssertUnwindSafe};
+use std::io::Write;
 use std::sync::atomic::AtomicU64;
 use std::sync::{Arc, Mutex};
 use std::time::Instant;
@@ -36,7 +37,7 @@ impl Runtime {
     /// assert_eq!(ended.seed, 5);
     /// ```
     pub fn builder() -> Builder {
-        let limits = Limits { procs: 1, machines: 4, channels: 1024, room: 65_536, entries: (1 << 63) - 1 };
+        let limits = Limits { procs: 1, machines: 4, channels: 1024, room: 0, entries: (1 << 63) - 1 };
         Builder { limits, goroutines: 1024, seed: 0, kind: Kind::Real, traces: Traces::No }
     }
 }
@@ -51,6 +52,7 @@ impl Runtime {
 /// ```
 #[derive(Clone, Debug)]
 pub struct Builder {
+    /// The room of the history is set where a run begins.
     limits: Limits,
     goroutines: u16,
     seed: u64,
@@ -67,11 +69,20 @@ enum Kind {
 }
 
 /// Of which runs the text of the trace is wanted.
-#[derive(Clone, Copy, Debug, PartialEq)]
+#[derive(Clone, Debug)]
 pub(crate) enum Traces {
     No,
     Unclean,
     All,
+    /// Of all, in parts, which go there.
+    To(Outlet),
+}
+
+/// How many entries the history of a run has room for: of one by a seed, of one that is written in parts, and of others.
+mod room {
+    pub const SIMULATED: u64 = 1_000_000;
+    pub const WRITTEN: u64 = 16_384;
+    pub const REAL: u64 = 65_536;
 }
 
 /// What main may answer: nothing, or a `Result` whose error is told in [`Ended::error`].
@@ -166,9 +177,7 @@ impl Builder {
     /// assert_eq!(ended.outcome, Outcome::Full);
     /// ```
     pub fn entries(mut self, entries: u64) -> Self {
-        let most = if self.kind == Kind::Simulated { 1_000_000 } else { 65_536 };
         self.limits.entries = entries;
-        self.limits.room = entries.min(most) as u32;
         self
     }
 
@@ -252,6 +261,33 @@ impl Builder {
         self
     }
 
+    /// Writes the run's trace while the run goes on, however long that lasts: in parts, one behind another, which `gmp join`
+    /// judges as one trace, and [`check`](crate::check) each alone. A part has some 12,000 entries; that of a simulation, 1,000,000
+    /// at most. Of this and [`traced`](Builder::traced) the one that is called last counts; a search writes nothing.
+    ///
+    /// Each part is given to the writer by one `write_all`, and at the end it is flushed. All goroutines wait meanwhile, so it
+    /// must not wait for one of them, and may use no channel of the run. Its error, or its panic, ends the run:
+    /// [`Ended::unwritten`] says why. A builder and its clones have one writer.
+    ///
+    /// ```
+    /// use kuvendyra::{yield_now, Runtime};
+    /// use std::fs::File;
+    ///
+    /// let path = std::env::temp_dir().join("kuvendyra_run.parts");
+    /// let ended = Runtime::builder().traced_to(File::create(&path)?).block_on(async {
+    ///     for _ in 0..20_000 {
+    ///         yield_now().await;
+    ///     }
+    /// });
+    /// assert!(ended.is_clean(), "{ended}");
+    /// # std::fs::remove_file(path)?;
+    /// # Ok::<(), std::io::Error>(())
+    /// ```
+    pub fn traced_to(mut self, writer: impl Write + Send + 'static) -> Self {
+        self.traces = Traces::To(Outlet::new(writer));
+        self
+    }
+
     /// Runs main and all that it starts until main ends or nobody can go on: in this thread, if [`threads`](Builder::threads)
     /// isn't called.
     ///
@@ -278,83 +314,51 @@ impl Builder {
             let answer = main.await.error();
             *locked(&told) = answer;
         });
-        let core = match Core::open(&self.limits, self.goroutines) {
-            Ok(core) => core,
-            Err(number) => return Ended::refused(self.seed, number),
-        };
-        let mut ended = self.run(core, main);
+        let mut ended = self.run(main).unwrap_or_else(|number| Ended::refused(self.seed, number));
         ended.error = ended.error.or(locked(&error).take());
         ended
     }
 
-    /// The run of main, whose answer isn't told here.
-    fn run(&self, core: Core, main: Body) -> Ended {
+    /// The limits, with the room of the history.
+    fn limits(&self) -> Limits {
+        let most = match (self.kind, &self.traces) {
+            (Kind::Simulated, _) => room::SIMULATED,
+            (_, Traces::To(_)) => room::WRITTEN,
+            _ => room::REAL,
+        };
+        Limits { room: self.limits.entries.min(most) as u32, ..self.limits }
+    }
+
+    /// The run of main, whose answer isn't told here; else the number of the refusal.
+    fn run(&self, main: Body) -> Result<Ended, u32> {
+        let limits = self.limits();
+        let core = Core::open(&limits, self.goroutines)?;
+        let written = match &self.traces {
+            Traces::To(outlet) => Some(Written::open(&limits, self.goroutines, outlet)?),
+            _ => None,
+        };
         let mut random = Random::new(self.seed);
         let words = Random::new(random.next());
         let (clock, threads) = match self.kind {
             Kind::Real => (Clock::Real(Instant::now()), 1),
             Kind::Simulated => (Clock::Virtual(AtomicU64::new(0)), 1),
-            Kind::Threads => (Clock::Real(Instant::now()), self.limits.machines),
+            Kind::Threads => (Clock::Real(Instant::now()), limits.machines),
         };
-        let run = Run::new(core, self.limits, self.goroutines, clock, words, threads);
+        let run = Run::new(core, limits, self.goroutines, clock, words, threads);
+        run.lock().written = written;
         run.lock().goroutines[0].body = Some(main);
         let hand = Hand::enter(&run);
         let number = match self.kind {
-            Kind::Real => Some(Machines::new(hand.0.clone(), None).run()),
-            Kind::Simulated => Some(Machines::new(hand.0.clone(), Some(Random::new(random.next()))).run()),
-            Kind::Threads => threads::run(&run),
+            Kind::Real => Machines::new(hand.0.clone(), None).run(),
+            Kind::Simulated => Machines::new(hand.0.clone(), Some(Random::new(random.next()))).run(),
+            Kind::Threads => threads::run(&run).ok_or(NO_THREAD)?,
         };
-        let Some(number) = number else {
-            return Ended::refused(self.seed, NO_THREAD);
+        let mut ended = Ended::of(&run, number, self.seed);
+        ended.trace = match self.traces {
+            Traces::All => run.lock().core.text(),
+            Traces::Unclean if !ended.is_clean() => run.lock().core.text(),
+            _ => None,
         };
-        let mut ended = ended(&run, number, self.seed);
-        if self.traces == Traces::All || self.traces == Traces::Unclean && !ended.is_clean() {
-            ended.trace = run.lock().core.text();
-        }
-        ended
+        Ok(ended)
     }
-}
-
-/// How the run ended; what is left of it is dropped.
-fn ended(run: &Run, number: u32, seed: u64) -> Ended {
-    let outcome = match number {
-        outcome::MAIN_ENDED => Outcome::MainEnded,
-        outcome::ALL_ASLEEP => Outcome::Deadlock,
-        _ => Outcome::Full,
-    };
-    let (left, entries, goroutines) = {
-        let state = &mut *run.lock();
-        run.end(state);
-        let (left, entries) = (left_of(state, outcome), state.entries());
-        let none = state.goroutines.iter().map(|_| Goroutine::default()).collect();
-        (left, entries, std::mem::replace(&mut state.goroutines, none))
-    };
-    let at = Moment(run.clock.now());
-    for goroutine in goroutines {
-        // A panic of what is dropped only now is told by nobody but the hook.
-        let _ = catch_unwind(AssertUnwindSafe(|| drop(goroutine)));
-    }
-    let (panics, faults) =
-        (std::mem::take(&mut *locked(&run.panics)), std::mem::take(&mut *locked(&run.faults)));
-    Ended { outcome, seed, error: None, panics, faults, left, entries, at, trace: None }
-}
-
-/// Who has not ended.
-fn left_of(state: &mut State, outcome: Outcome) -> Vec<Left> {
-    let mut left = vec![];
-    let is_in_pieces = state.is_in_pieces();
-    for (g, goroutine) in state.goroutines.iter().enumerate() {
-        let Some(wait) = &goroutine.wait else { continue };
-        let knows = !is_in_pieces && !wait.waits.has_deadline();
-        let is_stuck =
-            outcome == Outcome::Deadlock || knows && state.core.status(g as u16) == status::WAITING;
-        left.push(Left {
-            goroutine: g as u32,
-            started: goroutine.place.map(text_of),
-            waits: wait.waits.text(),
-            place: text_of(wait.place),
-            is_stuck,
-        });
-    }
-    left
 }

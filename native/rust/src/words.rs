@@ -45,6 +45,8 @@ pub const NEVER: u64 = u64::MAX;
 /// The last moment that may come.
 pub const LAST: u64 = NEVER - 1;
 pub const MAX_CASES: usize = 8;
+/// The number of the refusal for want of memory.
+pub const OUT_OF_MEMORY: u32 = 28;
 pub const MAX_CAPACITY: u32 = 4096;
 
 /// Kinds of asks.
