@@ -1,15 +1,17 @@
-//! How long a step takes: `cargo run --release --example bench`.
-use kuvendyra::{channel, go, yield_now, Ended, Runtime};
+//! How long a step takes, in one thread: `cargo run --release --example bench`. With the word `traced` behind that the trace is
+//! written too, to nowhere; with the name of a workload only that is measured.
+use kuvendyra::{channel, go, yield_now, Builder, Runtime};
 use std::future::Future;
 use std::time::Instant;
+use std::{env, io};
 
 const ROUNDS: u32 = 200_000;
 
-fn timed<F: Future<Output = ()> + Send + 'static>(what: &str, main: F) {
+fn timed<F: Future<Output = ()> + Send + 'static>(builder: &Builder, what: &str, main: F) {
     let begun = Instant::now();
-    let ended: Ended = Runtime::builder().machines(1).block_on(main);
+    let ended = builder.clone().block_on(main);
     let each = begun.elapsed() / ROUNDS;
-    println!("{what}: {each:?}, {} entries", ended.entries);
+    println!("{what}: {} ns, {} entries", each.as_nanos(), ended.entries);
     assert!(ended.is_clean(), "{ended}");
 }
 
@@ -53,7 +55,18 @@ async fn yields() {
 }
 
 fn main() {
-    timed("ping-pong, a round trip", ping_pong());
-    timed("buffered, a value", buffered());
-    timed("yield among 16", yields());
+    let words: Vec<String> = env::args().skip(1).collect();
+    let has = |word: &str| words.iter().any(|it| it == word);
+    let wants = |workload: &str| words.iter().all(|it| it == "traced") || has(workload);
+    let plain = Runtime::builder().machines(1).goroutines(64);
+    let builder = if has("traced") { plain.traced_to(io::sink()) } else { plain };
+    if wants("ping-pong") {
+        timed(&builder, "ping-pong, a round trip", ping_pong());
+    }
+    if wants("buffered") {
+        timed(&builder, "buffered, a value", buffered());
+    }
+    if wants("yield") {
+        timed(&builder, "yield, of 16", yields());
+    }
 }

@@ -5,6 +5,7 @@
 //!
 //! - [`Runtime::builder`] runs a program by the real clock.
 //! - [`Builder::threads`] runs it by several threads.
+//! - [`Builder::traced_to`] writes its trace while it goes on, however long it lasts.
 //! - [`sim::run`] runs it by a seed and a virtual clock: the same seed, the same run.
 //! - [`sim::search`] looks for a seed by which it deadlocks, panics, is told a fault, or leaks a goroutine.
 //!

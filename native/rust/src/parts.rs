@@ -43,7 +43,7 @@ pub(crate) struct Written {
 fn why(number: u32) -> String {
     match number {
         OUT_OF_MEMORY => "no memory".into(),
-        _ => "an entry is no step".into(),
+        _ => "the history doesn't go on where the last part stops".into(),
     }
 }
 

@@ -263,7 +263,8 @@ impl Builder {
 
     /// Writes the run's trace while the run goes on, however long that lasts: in parts, one behind another, which `gmp join`
     /// judges as one trace, and [`check`](crate::check) each alone. A part has some 12,000 entries; that of a simulation, 1,000,000
-    /// at most. Of this and [`traced`](Builder::traced) the one that is called last counts; a search writes nothing.
+    /// at most. Each entry is replayed before it is written, which takes the longer the more [`goroutines`](Builder::goroutines)
+    /// there may be. Of this and [`traced`](Builder::traced) the one that is called last counts; a search writes nothing.
     ///
     /// Each part is given to the writer by one `write_all`, and at the end it is flushed. All goroutines wait meanwhile, so it
     /// must not wait for one of them, and may use no channel of the run. Its error, or its panic, ends the run:

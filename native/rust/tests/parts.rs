@@ -76,7 +76,7 @@ fn joined(ended: &Ended, text: &str, end: &str) -> usize {
 
 /// Rounds with as many values each make more than 200,000 entries.
 const ROUNDS: u32 = 800;
-const VALUES: u32 = if cfg!(feature = "mock") { 120 } else { 40 };
+const VALUES: u32 = if cfg!(feature = "mock") { 120 } else { 60 };
 
 /// Goroutines that begin and end, send, receive, select, sleep, yield and block, over channels that are made and closed.
 async fn mixed(rounds: u32) {
