@@ -1,5 +1,5 @@
-/* The log of a run is judged by the proved checker, as it is and with one reply changed. With the name of a file the log is
- * written there, for `gmp explain` and `gmp draw`. */
+/* The log of a run is judged by the proved checker, as it is and with one reply changed. It goes to a file, for `gmp explain` and
+ * `gmp draw`, if one is named, and is judged as it is read from there, piece by piece. */
 #include "gmp.h"
 
 #include <stdio.h>
@@ -38,23 +38,44 @@ static char *text_of(gmp *h, uint64_t *length) {
     return text;
 }
 
-/* Says what the checker says: 0, if the trace is right, else the first bad line. */
-static uint64_t judged(const char *text, uint64_t length) {
-    uint64_t line = 0;
-    uint32_t answer = gmp_check_text((const uint8_t *)text, length, &line);
+/* Says what the checker answered, and whether the trace is right. */
+static bool is_right(uint32_t answer, uint64_t line) {
     if (answer == 0) {
         printf("the trace is right\n");
-        return 0;
+    } else if (answer == GMP_WRONG) {
+        printf("line %llu is wrong\n", (unsigned long long)line);
+    } else {
+        printf("out of memory\n");
     }
-    printf("line %llu is wrong\n", (unsigned long long)line);
-    return line;
+    return answer == 0;
 }
 
-static int written(const char *path, const char *text, uint64_t length) {
-    FILE *file = fopen(path, "wb");
-    if (file == NULL) return 1;
-    int failed = fwrite(text, 1, length, file) != length;
-    return fclose(file) != 0 || failed;
+/* Feeds the file to a checker by a buffer that is less than the trace. */
+static bool file_is_right(FILE *file) {
+    uint8_t buffer[256];
+    size_t n;
+    uint64_t line = 0;
+    gmp_checker c;
+    uint32_t answer = gmp_check_open(&c.at);
+    if (answer != 0) return is_right(answer, line);
+    while (answer == 0 && (n = fread(buffer, 1, sizeof buffer, file)) > 0) answer = gmp_check_feed(&c, buffer, n);
+    if (answer == 0) answer = gmp_check_end(&c, &line);
+    gmp_check_close(c);
+    return !ferror(file) && is_right(answer, line);
+}
+
+static bool text_is_right(const char *text, uint64_t length) {
+    uint64_t line = 0;
+    uint32_t answer = gmp_check_text((const uint8_t *)text, length, &line);
+    return is_right(answer, line);
+}
+
+/* Writes the text to the file, and judges what is in it then. */
+static bool written_is_right(const char *path, const char *text, uint64_t length) {
+    FILE *file = path == NULL ? tmpfile() : fopen(path, "w+b");
+    if (file == NULL) return false;
+    bool written = fwrite(text, 1, length, file) == length && fseek(file, 0, SEEK_SET) == 0 && file_is_right(file);
+    return fclose(file) == 0 && written;
 }
 
 int main(int argc, char **argv) {
@@ -69,12 +90,11 @@ int main(int argc, char **argv) {
     gmp_close(h);
     if (text == NULL) return 1;
 
-    int failed = argc > 1 ? written(argv[1], text, length) : 0;
-    failed |= judged(text, length) != 0;
+    bool right = written_is_right(argc > 1 ? argv[1] : NULL, text, length);
     /* The first ticket is called one of a later readiness. */
     char *ticket = strstr(text, "ticket 0.1");
     if (ticket != NULL) ticket[strlen("ticket 0.")] = '2';
-    failed |= ticket == NULL || judged(text, length) == 0;
+    bool passed = right && ticket != NULL && !text_is_right(text, length);
     free(text);
-    return failed;
+    return passed ? 0 : 1;
 }

@@ -1,4 +1,5 @@
-/* Goroutines as callbacks, in one thread: one sends a number, the other sends it back plus one, over two channels.
+/* Goroutines as callbacks, in one thread: one sends a number, the other sends it back plus one, over two channels. With the name of a file
+ * the log of the run is written there, in parts, for `gmp join`.
  *
  * A body is told an event, and answers with its next ask. */
 #include "gmp.h"
@@ -46,17 +47,30 @@ static gmp_ask pong(void *self, const gmp_event *event) {
     return event->woke == GMP_GOT ? ask(GMP_SEND, BACK, event->value + 1) : ask(GMP_RECV, THERE, 0);
 }
 
-/* Machine 0 acts until main has ended. The history is handed out before a turn may fill it. */
-static uint64_t run(gmp *h, const gmp_limits *limits, const body *bodies) {
-    uint64_t entries = 0;
+/* Where the log of the run goes, and how many entries of it went out. */
+struct log {
+    gmp_parts parts;
+    FILE *file;
+    uint64_t entries;
+};
+
+/* Hands the history out; if there is a file, it is the next part in it. */
+static bool hand_out(gmp *h, struct log *log) {
+    static uint8_t text[1u << 20];
+    uint64_t length = 0;
+    log->entries += gmp_entries(h);
+    if (gmp_hand_out(h) != 0) return false;
+    if (log->file == NULL) return true;
+    if (gmp_parts_write(&log->parts, h) != 0 || gmp_parts_text(&log->parts, text, sizeof text, &length) != 0) return false;
+    return length <= sizeof text && fwrite(text, 1, length, log->file) == length;
+}
+
+/* Machine 0 acts until main has ended. The history is handed out before a turn may fill it, and at the end. */
+static bool run(gmp *h, const gmp_limits *limits, const body *bodies, struct log *log) {
     gmp_ask next = ask(GMP_NONE, 0, 0);
     while (gmp_outcome(h) == GMP_RUNS) {
         gmp_event event;
-        uint64_t held = gmp_entries(h);
-        if (held > limits->room / 2) {
-            if (gmp_hand_out(h) != 0) break;
-            entries += held;
-        }
+        if (gmp_entries(h) > limits->room / 2 && !hand_out(h, log)) return false;
         gmp_turn(h, 0, &next, NULL, 0, 0, 1, &event);
         next = ask(GMP_NONE, 0, 0);
         if (event.kind == GMP_RESUME) {
@@ -66,10 +80,10 @@ static uint64_t run(gmp *h, const gmp_limits *limits, const body *bodies) {
             break;
         }
     }
-    return entries + gmp_entries(h);
+    return hand_out(h, log);
 }
 
-int main(void) {
+int main(int argc, char **argv) {
     struct pinger pinger = {0, false};
     const body bodies[] = {{ping, &pinger}, {pong, NULL}};
     const gmp_limits limits = {.procs = 1, .machines = 1, .channels = 2, .room = 16384, .entries = 1u << 30};
@@ -80,15 +94,20 @@ int main(void) {
         fprintf(stderr, "the library is of another version\n");
         return 1;
     }
+    struct log log = {.file = argc > 1 ? fopen(argv[1], "wb") : NULL};
+    if (argc > 1 && log.file == NULL) return 1;
     uint32_t why = gmp_open(&limits, 2, capacities, 2, true, &h.at);
+    if (why == 0) why = gmp_parts_open(&limits, 2, capacities, 2, &log.parts.at);
     if (why != 0) {
         fprintf(stderr, "refused: %u\n", (unsigned)why);
         return 1;
     }
-    uint64_t entries = run(&h, &limits, bodies);
+    bool written = run(&h, &limits, bodies, &log);
     uint32_t outcome = gmp_outcome(&h);
+    gmp_parts_close(log.parts);
     gmp_close(h);
+    if (log.file != NULL) written = fclose(log.file) == 0 && written;
     printf("outcome %u, value %llu, %llu entries\n", (unsigned)outcome, (unsigned long long)pinger.value,
-           (unsigned long long)entries);
-    return outcome == GMP_MAIN_ENDED && pinger.value == ROUNDS ? 0 : 1;
+           (unsigned long long)log.entries);
+    return written && outcome == GMP_MAIN_ENDED && pinger.value == ROUNDS ? 0 : 1;
 }
