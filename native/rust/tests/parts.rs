@@ -115,14 +115,14 @@ async fn mixed(rounds: u32) {
 }
 
 #[test]
-fn a_run_of_more_than_200_000_entries_is_written() {
+fn a_run_of_200_000_entries_is_written() {
     let (ended, text) = written(small(), mixed(ROUNDS));
     assert!(ended.is_clean() && ended.entries > 200_000, "{ended}");
     assert!(joined(&ended, &text, "end main ended") > 12);
 }
 
 #[test]
-fn so_is_one_of_threads() {
+fn runs_of_200_000_entries_in_threads_are_written() {
     for n in [1, 2, 4] {
         let (ended, text) = written(small().threads(n), mixed(ROUNDS));
         assert!(ended.is_clean() && ended.entries > 200_000, "{n} threads: {ended}");
