@@ -7,13 +7,13 @@ use std::io::{self, BufWriter, Write};
 use std::sync::{Arc, Mutex};
 use std::time::Duration;
 
-/// What was written, and how many bytes more may be.
+/// What was written, and how many times more it may be written on.
 #[derive(Clone)]
 struct Paper(Arc<Mutex<(String, usize)>>);
 
 impl Paper {
-    fn of(room: usize) -> Paper {
-        Paper(Arc::new(Mutex::new((String::new(), room))))
+    fn of(times: usize) -> Paper {
+        Paper(Arc::new(Mutex::new((String::new(), times))))
     }
 
     fn text(&self) -> String {
@@ -23,8 +23,8 @@ impl Paper {
 
 impl Write for Paper {
     fn write(&mut self, bytes: &[u8]) -> io::Result<usize> {
-        let (text, room) = &mut *self.0.lock().unwrap();
-        *room = room.checked_sub(bytes.len()).ok_or_else(|| io::Error::other("no paper"))?;
+        let (text, times) = &mut *self.0.lock().unwrap();
+        *times = times.checked_sub(1).ok_or_else(|| io::Error::other("no paper"))?;
         text.push_str(std::str::from_utf8(bytes).unwrap());
         Ok(bytes.len())
     }
@@ -58,9 +58,8 @@ fn entries_of(part: &str, before: u64, end: &str) -> u64 {
     lines.skip_while(|line| *line != "begin").count() as u64 - 1
 }
 
-/// The parts that were written go on one behind another, and are the whole run; answers how many they are.
-fn joined(ended: &Ended, text: &str, end: &str) -> usize {
-    assert_eq!((ended.unwritten.as_ref(), ended.trace.as_ref()), (None, None), "{ended}");
+/// How many parts were written, and how many entries they have; each goes on where the one before stops.
+fn parts_of(text: &str, end: &str) -> (usize, u64) {
     let begins = if cfg!(feature = "mock") { "" } else { "gmp-trace " };
     let mut starts: Vec<usize> = text.match_indices('\n').map(|(at, _)| at + 1).collect();
     starts.retain(|at| *at == text.len() || text[*at..].starts_with(begins));
@@ -70,8 +69,16 @@ fn joined(ended: &Ended, text: &str, end: &str) -> usize {
         entries += entries_of(&text[at..*next], entries, end);
         at = *next;
     }
-    assert_eq!((at, entries), (text.len(), ended.entries));
-    starts.len()
+    assert_eq!(at, text.len());
+    (starts.len(), entries)
+}
+
+/// What was written is the whole run; answers how many parts it has.
+fn joined(ended: &Ended, text: &str, end: &str) -> usize {
+    assert_eq!((ended.unwritten.as_ref(), ended.trace.as_ref()), (None, None), "{ended}");
+    let (parts, entries) = parts_of(text, end);
+    assert_eq!(entries, ended.entries);
+    parts
 }
 
 /// Rounds with as many values each make more than 200,000 entries.
@@ -150,19 +157,15 @@ fn a_deadlock_is_written_to_its_end() {
 
 #[test]
 fn a_run_that_makes_its_entries_is_written_to_its_end() {
-    let (ended, text) = written(small().entries(50_000), mixed(u32::MAX));
+    let (ended, text) = written(small().entries(30_000), mixed(u32::MAX));
     assert_eq!(ended.outcome, Outcome::Full, "{ended}");
-    assert!(joined(&ended, &text, "end book full") > 3);
+    assert!(joined(&ended, &text, "end book full") > 2);
 }
 
-/// A writer without room for a third part ends the run.
+/// A writer that takes one part ends the run with the second.
 fn cut_short(builder: Builder) {
-    let paper = Paper::of(usize::MAX);
-    let whole = builder.clone().traced_to(paper.clone()).block_on(mixed(ROUNDS / 4));
-    let parts = joined(&whole, &paper.text(), "end main ended");
-    let room = paper.text().len() * 2 / parts;
-    let short = Paper::of(room);
-    let ended = builder.traced_to(short.clone()).block_on(mixed(u32::MAX));
+    let paper = Paper::of(1);
+    let ended = builder.traced_to(paper.clone()).block_on(mixed(u32::MAX));
     assert_eq!(
         (ended.outcome, ended.unwritten.as_deref()),
         (Outcome::Unwritten, Some("no paper")),
@@ -170,7 +173,8 @@ fn cut_short(builder: Builder) {
     );
     assert!(!ended.is_clean() && ended.panics.is_empty() && ended.error.is_none(), "{ended}");
     assert!(ended.to_string().contains("\ntrace: no paper"), "{ended}");
-    assert!(short.text().len() <= room && ended.entries < 200_000, "{ended}");
+    let (parts, entries) = parts_of(&paper.text(), "end running");
+    assert!(parts == 1 && entries < ended.entries && ended.entries < 40_000, "{ended}");
 }
 
 #[test]
