@@ -5,7 +5,7 @@ use std::env;
 use std::error::Error;
 use std::fs::File;
 
-const VALUES: u64 = 50_000;
+const VALUES: u64 = 80_000;
 
 /// Four goroutines send values, two add them up.
 async fn program() {
