@@ -21,9 +21,9 @@
  *         if (event.kind == GMP_WAIT) sleep_until(event.value);
  *     }
  *
- * The examples beside this file: pingpong.c resumes bodies by function pointers, locks.c searches seeds for a deadlock, judge.c checks a
- * log. `./gmp lib DIR` at the top of the repository proves and builds the library; libgmp_c.a takes memory by three functions, which are in
- * liblibc_c.a beside it. In DIR/c, in this order:
+ * The examples beside this file: pingpong.c resumes bodies by function pointers, and writes the log of a run in parts; locks.c searches
+ * seeds for a deadlock; judge.c checks a log that it reads from a file piece by piece. `./gmp lib DIR` at the top of the repository proves
+ * and builds the library; libgmp_c.a takes memory by three functions, which are in liblibc_c.a beside it. In DIR/c, in this order:
  *
  *     gcc -std=c11 -I . pingpong.c ../lib/libgmp_c.a ../lib/liblibc_c.a -o pingpong
  *
