@@ -13,7 +13,7 @@ use gmp_base::{Ask, PNo};
 /// Where a hunt stands in its order of victims, which is the processors `word mod np`, `word mod np + 1` and so on, modulo np, the number
 /// of processors. A drawn word begins it, so that thieves don't meet; an order tries each once. The own one is skipped and keeps its
 /// number.
-#[derive(Clone, Copy, Debug, PartialEq, Eq)]
+#[derive(Clone, Copy)]
 pub struct Round {
     /// The word that its first act drew.
     pub word: u64,
@@ -23,7 +23,7 @@ pub struct Round {
 
 /// Where a fair machine looks next beside its own queue: in turn at the shelf and at a queue, and at one queue after another. So no ticket
 /// is passed over for ever.
-#[derive(Clone, Copy, Debug, PartialEq, Eq)]
+#[derive(Clone, Copy)]
 pub enum Aside {
     /// At the shelf, and the next time at the queue of this processor.
     Shelf(PNo),
@@ -33,7 +33,7 @@ pub enum Aside {
 
 /// A place of the program. At each there is one act. Numbers and asks stand in the place and not in a register, so that what is filled
 /// follows from the place. Contracts speak of places: no code makes one, since the driver keeps each as a `Spot`.
-#[derive(Debug, Drop)]
+#[derive(Drop)]
 pub enum Place {
     /// Takes a processor, without which no goroutine runs (Processors).
     Start,

@@ -9,7 +9,7 @@ use gmp_base::{PNo, Readiness};
 
 /// What the table looks at beside the place. Plain and copied, so that the table has neither bodies nor owners in it, and no type
 /// parameter.
-#[derive(Clone, Copy, Debug, PartialEq, Eq)]
+#[derive(Clone, Copy)]
 pub struct Seen {
     /// The number of processors.
     pub procs: u8,

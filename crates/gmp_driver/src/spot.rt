@@ -9,7 +9,7 @@ use gmp_base::{Ask, CNo, PNo};
 
 /// Where a machine stands, in 16 bytes: a place has room for a select's cases, and each move would write all of it. A variant is the place
 /// of its name, but for those that say what they are.
-#[derive(Clone, Copy, Debug, PartialEq, Eq)]
+#[derive(Clone, Copy)]
 pub(crate) enum Spot {
     Start,
     Look,
