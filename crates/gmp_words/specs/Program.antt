@@ -25,9 +25,13 @@ folder name = record (option name) { parser = Some NonEmptyString; value_names =
 abbrev pub flag : Text → Rule
 flag name = record (new_rule name) { long = Some name; action = Some SetTrue }
 
--- a command with these options
+-- the name of a file, which isn't empty, as a word of its own
+abbrev pub file : Rule
+file = record (new_rule (codes "file")) { action = Some Set; parser = Some NonEmptyString; value_names = 1 }
+
+-- a command that reads a file, with these options
 abbrev pub command : Text → List Rule → Shape
-command name options = record (new_shape name) { rules = options }
+command name options = record (new_shape name) { rules = file ∷ options }
 
 -- one with more options
 abbrev pub with_more : Shape → List Rule → Shape

@@ -9,7 +9,7 @@ use Rattle.gmp_trace.specs.declared.bad.Why.TheVariants as why
 use Rattle.gmp_trace.specs.declared.writing.WriteError.{WriteError}
 use Rattle.gmp_trace.specs.declared.writing.WriteError.TheVariants as write_error
 use Rattle.gmp_trace.specs.Bad.{bad_text}
-use Rattle.gmp_words.specs.declared.said.Said.TheVariants.{Nothing, BadLine, BadTrace, BadPart, Apart, InputTooLong, InputUnreadable, OutputFailed, BadLimits, OutOfMemory, Mismatch, NoRun, NoTrace, Usage}
+use Rattle.gmp_words.specs.declared.said.Said.TheVariants.{Nothing, BadLine, BadTrace, BadPart, Apart, InputTooLong, Unopened, InputUnreadable, OutputFailed, BadLimits, OutOfMemory, Mismatch, NoRun, NoTrace, Usage}
 
 -- why there is no trace
 abbrev pub untraced_text : Untraced → List ℕ
@@ -24,6 +24,7 @@ text_of (BadTrace bad) = codes "gmp: " ++ (bad_text bad ++ 10 ∷ [])
 text_of (BadPart part bad) = codes "gmp: part " ++ (decimal part ++ (codes ": " ++ (bad_text bad ++ 10 ∷ [])))
 text_of (Apart part) = codes "gmp: part " ++ (decimal part ++ (codes ": apart" ++ 10 ∷ []))
 text_of InputTooLong = codes "gmp: input too long" ++ 10 ∷ []
+text_of (Unopened name) = codes "gmp: " ++ (string_bytes name ++ (codes ": can't be opened" ++ 10 ∷ []))
 text_of InputUnreadable = codes "gmp: input unreadable" ++ 10 ∷ []
 text_of OutputFailed = codes "gmp: output failed" ++ 10 ∷ []
 text_of BadLimits = codes "gmp: bad limits" ++ 10 ∷ []
@@ -43,6 +44,7 @@ goes_with (BadTrace bad) status = status == 1
 goes_with (BadPart part bad) status = status == 1
 goes_with (Apart part) status = status == 1
 goes_with InputTooLong status = status == 1
+goes_with (Unopened name) status = status == 1
 goes_with InputUnreadable status = status == 1
 goes_with OutputFailed status = status == 1
 goes_with BadLimits status = status == 64
@@ -80,6 +82,7 @@ is_of_step (BadPart part bad) = false
 is_of_step (Apart part) = false
 is_of_step (Mismatch m) = false
 is_of_step NoRun = false
+is_of_step (Unopened name) = false
 is_of_step (NoTrace why) = false
 is_of_step (Usage text) = false
 is_of_step _ = true
@@ -146,6 +149,7 @@ is_before_writing (BadTrace bad) = true
 is_before_writing (BadPart part bad) = true
 is_before_writing (Apart part) = true
 is_before_writing InputTooLong = true
+is_before_writing (Unopened name) = true
 is_before_writing InputUnreadable = true
 is_before_writing BadLimits = true
 is_before_writing (Mismatch m) = true

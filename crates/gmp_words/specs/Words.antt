@@ -134,8 +134,10 @@ AskForHelp words = IsAmong kind.DisplayHelp (fault_of gmp words) ⊎ IsAmong kin
 abbrev pub AskForHelpAlone : List Text → Type 0
 AskForHelpAlone words = (fault_of gmp words ≡ kind.DisplayHelp ∷ []) ⊎ (fault_of gmp words ≡ kind.DisplayVersion ∷ [])
 
--- The line is what was entered: the task is the command, and the settings and the folder are what its options are given.
+-- The line is what was entered: the task is the command, the settings and the folder are what its options are given, and the file is the one
+-- that is named.
 pub record AreSaid (command : Option (Text × List Row)) (line : CommandLine) : Type 0 where
   pub task : option_map (λ c. c.0) command ≡ Some (name_of line.settings.task)
   pub options : AreGiven (options_of command) line.settings
   pub folder : option_map (λ name. name.now) line.folder ≡ given (options_of command) (codes "segments")
+  pub file : option_map (λ name. name.now) line.file ≡ given (options_of command) (codes "file")

@@ -131,8 +131,8 @@ const VERSION: &str = "0.1.0 (gmp-trace 1, 2, 4)";
 
 /// What stands behind the help of the program.
 const STATUSES: &str =
-    "A script, or for check, join, cut, explain and draw a trace, comes on standard input; what is asked for goes to standard
-output.
+    "A script, or for check, join, cut, explain and draw a trace, is read from FILE, or comes on standard input; what is asked
+for goes to standard output.
 
 Exit status:
   0   main ended, the trace is right, or help or the version was asked for
@@ -148,7 +148,7 @@ Exit status:
   9   explore: not known, since there are more states than --states says
   64  the command line or the limits are bad
 
-Try: gmp step < examples/hello.gmp | gmp check";
+Try: gmp step examples/hello.gmp | gmp check";
 
 /// What stands behind the help of `step`; those of the other commands follow.
 const STEP_INPUT: &str = "The script comes on standard input, and the trace goes to standard output.
@@ -207,12 +207,30 @@ clock: what goes wrong goes to standard output with the choices that lead there,
 Exit status: 0 no run has it, 2 a deadlock, 7 a fault, 8 a leak, 9 not known (there are more states), 1 bad script,
 input or output, 5 out of memory, 6 no trace of what was found, 64 bad command line or limits.";
 
-/// A command with its texts and no options.
-fn bare<'a>(alloc: Global, name: &'a str, about: &'a str, input: &'a str) -> Command<'a>
-    ensures shape { shape_of result ≡ line.command name.now [] }
-    ensures local { (fields_of result).has_globals ≡ false }
+/// The name of the file that a command reads.
+fn file<'a>(alloc: Global) -> Arg<'a>
+    ensures rule { rule_of result ≡ line.file }
+    ensures local { result.global ≡ false }
 {
-    Command::new(alloc, name).about(about).after_help(input)
+    Arg::new(alloc, "file")
+        .value_name("FILE")
+        .action(ArgAction::Set)
+        .value_parser(ValueParser::NonEmptyString)
+        .help("The file with the script or the trace [default: -, standard input]")
+}
+
+/// A command with its texts, which reads a file, and no options.
+fn bare<'a>(
+    alloc: Global,
+    name: &'a str,
+    about: &'a str,
+    input: &'a str,
+) -> Result<Command<'a>, AllocError>
+    ensures shape { IfOk result (λ r. shape_of r ≡ line.command name.now []) }
+    ensures local { IfOk result (λ r. (fields_of r).has_globals ≡ false) }
+{
+    let command = Command::new(alloc, name).about(about).after_help(input);
+    command.arg(file(alloc))
 }
 
 /// The command with these options too.
@@ -239,7 +257,7 @@ fn step<'a>(alloc: Global) -> Result<Command<'a>, AllocError>
     let about = "Runs a script in one thread and prints the trace";
     with(
         alloc,
-        bare(alloc, "step", about, STEP_INPUT),
+        bare(alloc, "step", about, STEP_INPUT)?,
         &[PROCS, MACHINES, CHANNELS, ENTRIES, WORD, ACTS],
     )?
     .arg(fair(alloc))
@@ -253,7 +271,7 @@ fn run<'a>(alloc: Global) -> Result<Command<'a>, AllocError>
     let about = "Runs a script by machines in threads and prints the summary";
     with(
         alloc,
-        bare(alloc, "run", about, RUN_INPUT),
+        bare(alloc, "run", about, RUN_INPUT)?,
         &[PROCS, MACHINES, CHANNELS, ENTRIES_IN_SEGMENTS, RANDOM, ROOM],
     )?
     .arg(segments(alloc))?
@@ -307,9 +325,9 @@ fn flag<'a>(alloc: Global, id: &'a str, help: &'a str) -> Arg<'a>
 }
 
 /// The command `check`, which has no options.
-fn check<'a>(alloc: Global) -> Command<'a>
-    ensures shape { shape_of result ≡ line.check }
-    ensures local { (fields_of result).has_globals ≡ false }
+fn check<'a>(alloc: Global) -> Result<Command<'a>, AllocError>
+    ensures shape { IfOk result (λ r. shape_of r ≡ line.check) }
+    ensures local { IfOk result (λ r. (fields_of r).has_globals ≡ false) }
 {
     bare(
         alloc,
@@ -320,9 +338,9 @@ fn check<'a>(alloc: Global) -> Command<'a>
 }
 
 /// The command `join`, which has no options.
-fn join<'a>(alloc: Global) -> Command<'a>
-    ensures shape { shape_of result ≡ line.join }
-    ensures local { (fields_of result).has_globals ≡ false }
+fn join<'a>(alloc: Global) -> Result<Command<'a>, AllocError>
+    ensures shape { IfOk result (λ r. shape_of r ≡ line.join) }
+    ensures local { IfOk result (λ r. (fields_of r).has_globals ≡ false) }
 {
     bare(
         alloc,
@@ -338,7 +356,7 @@ fn cut<'a>(alloc: Global) -> Result<Command<'a>, AllocError>
     ensures local { IfOk result (λ r. (fields_of r).has_globals ≡ false) }
 {
     let about = "Reads a trace, checks it and prints the part from an entry on";
-    with(alloc, bare(alloc, "cut", about, CUT_INPUT), &[AT])
+    with(alloc, bare(alloc, "cut", about, CUT_INPUT)?, &[AT])
 }
 
 /// The command `explain`, with its flag.
@@ -347,7 +365,7 @@ fn explain<'a>(alloc: Global) -> Result<Command<'a>, AllocError>
     ensures local { IfOk result (λ r. (fields_of r).has_globals ≡ false) }
 {
     let about = "Reads a trace, checks it and says what it tells of its run";
-    bare(alloc, "explain", about, EXPLAIN_INPUT).arg(flag(
+    bare(alloc, "explain", about, EXPLAIN_INPUT)?.arg(flag(
         alloc,
         "json",
         "Prints one JSON object, and not lines",
@@ -360,7 +378,7 @@ fn draw<'a>(alloc: Global) -> Result<Command<'a>, AllocError>
     ensures local { IfOk result (λ r. (fields_of r).has_globals ≡ false) }
 {
     let about = "Reads a trace, checks it and prints a picture of it";
-    with(alloc, bare(alloc, "draw", about, DRAW_INPUT), &[FROM, TO])?.arg(drawing::arg(alloc))
+    with(alloc, bare(alloc, "draw", about, DRAW_INPUT)?, &[FROM, TO])?.arg(drawing::arg(alloc))
 }
 
 /// The command `explore`, with its options.
@@ -370,7 +388,7 @@ fn explore<'a>(alloc: Global) -> Result<Command<'a>, AllocError>
 {
     let about =
         "Looks at all runs of a script and prints what goes wrong in one, or that nothing does";
-    let explore = bare(alloc, "explore", about, EXPLORE_INPUT);
+    let explore = bare(alloc, "explore", about, EXPLORE_INPUT)?;
     with(alloc, explore, &[PROCS_OF_ALL, CHANNELS, STATES])?
         .arg(wanting::arg(alloc))?
         .arg(flag(alloc, "trace", "Prints a trace of what goes wrong"))
@@ -406,8 +424,8 @@ pub(crate) fn command<'a>(alloc: Global) -> Result<Command<'a>, AllocError>
 {
     let gmp = with_command(program(alloc), step(alloc))?;
     let gmp = with_command(gmp, run(alloc))?;
-    let gmp = with_command(gmp, Ok(check(alloc)))?;
-    let gmp = with_command(gmp, Ok(join(alloc)))?;
+    let gmp = with_command(gmp, check(alloc))?;
+    let gmp = with_command(gmp, join(alloc))?;
     let gmp = with_command(gmp, cut(alloc))?;
     let gmp = with_command(gmp, explain(alloc))?;
     let gmp = with_command(gmp, draw(alloc))?;

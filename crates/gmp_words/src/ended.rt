@@ -160,6 +160,17 @@ impl Ended {
         }
     }
 
+    /// The file of this name, which the command line names, can't be opened.
+    pub fn unopened(name: String) -> Self
+        ensures status { result.status ≡ 1 }
+        ensures said { result.said ≡ Said.Unopened name }
+    {
+        Ended {
+            status: 1,
+            said: Said::Unopened(name),
+        }
+    }
+
     /// A read failed.
     pub fn unreadable() -> Self
         ensures status { result.status ≡ 1 }

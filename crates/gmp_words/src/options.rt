@@ -112,6 +112,8 @@ pub struct CommandLine<'a> {
     pub settings: Settings,
     /// The folder that a run in segments writes into.
     pub folder: Option<&'a str>,
+    /// The file that the script or the trace is read from, if one is named.
+    pub file: Option<&'a str>,
 }
 
 impl Settings {

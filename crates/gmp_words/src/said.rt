@@ -32,6 +32,8 @@ pub enum Said {
     Apart(u64),
     /// A script, a trace or a part of a run has more bytes than it may have.
     InputTooLong,
+    /// The file of this name can't be opened.
+    Unopened(String),
     /// A read failed.
     InputUnreadable,
     /// A write failed.
@@ -64,6 +66,7 @@ impl fmt::Display for Said {
             Said::BadPart(part, bad) => writeln!(f, "gmp: part {part}: {bad}"),
             Said::Apart(part) => writeln!(f, "gmp: part {part}: apart"),
             Said::InputTooLong => f.write_str("gmp: input too long\n"),
+            Said::Unopened(name) => writeln!(f, "gmp: {name}: can't be opened"),
             Said::InputUnreadable => f.write_str("gmp: input unreadable\n"),
             Said::OutputFailed => f.write_str("gmp: output failed\n"),
             Said::BadLimits => f.write_str("gmp: bad limits\n"),

@@ -254,6 +254,7 @@ fn line_of<'a>(matches: &ArgMatches<'a>) -> Result<CommandLine<'a>, Refusal>
     Ok(CommandLine {
         settings,
         folder: given(options, "segments"),
+        file: given(options, "file"),
     })
 }
 
