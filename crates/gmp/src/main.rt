@@ -65,7 +65,7 @@ fn look<R: Read>(rt: &HostRuntime, settings: &Settings, reader: &mut R) -> Ended
 }
 
 /// Where the script or the trace is read from: the file of this name, or standard input where there is none, or it is `-`.
-fn source<R: Input + Files + AllocGlobal>(
+fn opened<R: Input + Files + AllocGlobal>(
     rt: &R,
     file: Option<&str>,
 ) -> Result<Source<R::Reader, R::File>, Ended> {
@@ -93,7 +93,7 @@ fn main(rt: HostRuntime) -> ExitCode {
         Ok(said) => said,
         Err(ended) => return finish(&rt, &ended),
     };
-    let mut source = match source(&rt, file) {
+    let mut source = match opened(&rt, file) {
         Ok(source) => source,
         Err(ended) => return finish(&rt, &ended),
     };
