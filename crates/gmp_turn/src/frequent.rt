@@ -5,7 +5,6 @@
 //! The book's call is inlined into each. A turn that is inlined itself would grow larger than what the toolchain inlines.
 ghost use Rattle.std.specs.Prelude.{◌≡◌, true, None, IfSome, IsSome};
 ghost use Rattle.gmp_seq.specs.declared.call.Call.{Call as CallValue};
-ghost use Rattle.gmp_seq.specs.declared.call.Call.TheVariants as variant;
 ghost use Rattle.gmp_journal.specs.Frequent.{is_frequent};
 ghost use Rattle.gmp_journal.specs.Grants.{NeedsMemory};
 ghost use Rattle.gmp_driver.specs.declared.act.Act.TheVariants as act;
@@ -15,10 +14,11 @@ ghost use Rattle.gmp_driver.specs.Table.{next_act};
 ghost use Rattle.gmp_turn.specs.Turns.{Wakes, is_call};
 
 use crate::calling::woken;
-use gmp_base::{CNo, GNo, MNo, Readiness};
+use crate::known::{ClaimCall, Known, PokeCall, RecvCall, SendCall, TakeCall, YieldCall};
+use gmp_base::MNo;
 use gmp_book::Book;
 use gmp_driver::{Driver, Frequent};
-use gmp_seq::{Call, Reply};
+use gmp_seq::Reply;
 
 /// Makes the frequent call that the driver's machine names next, tells the driver the reply, or why the book refused it, and answers the
 /// machine to wake.
@@ -47,99 +47,6 @@ pub fn frequent_turn<T, Q>(
         Frequent::Send(c, v) => make_known(driver, book, SendCall(c, v), word),
         Frequent::Recv(c) => make_known(driver, book, RecvCall(c), word),
         Frequent::Pop | Frequent::Push | Frequent::Resume | Frequent::Other => unreachable!(),
-    }
-}
-
-/// A call that is known where its turn is compiled: of a match on the call its arm alone is left there.
-trait Known: Drop {
-    /// The call, as contracts see it.
-    ghost call: { Self → CallValue };
-
-    /// The call.
-    fn call(&self) -> Call
-        ensures { result ≡ call self.now };
-}
-
-/// The call `take`.
-#[derive(Drop)]
-struct TakeCall;
-
-/// The call `poke`.
-#[derive(Drop)]
-struct PokeCall;
-
-/// The call `claim` of the ticket of this goroutine and epoch.
-#[derive(Drop)]
-struct ClaimCall(GNo, u64);
-
-/// The call `yield`.
-#[derive(Drop)]
-struct YieldCall;
-
-/// The call `send`.
-#[derive(Drop)]
-struct SendCall(Option<CNo>, u64);
-
-/// The call `recv`.
-#[derive(Drop)]
-struct RecvCall(Option<CNo>);
-
-impl Known for TakeCall {
-    ghost call = { λ known. variant.Take };
-
-    #[inline(always)]
-    fn call(&self) -> Call {
-        Call::Take
-    }
-}
-
-impl Known for PokeCall {
-    ghost call = { λ known. variant.Poke };
-
-    #[inline(always)]
-    fn call(&self) -> Call {
-        Call::Poke
-    }
-}
-
-impl Known for ClaimCall {
-    ghost use Rattle.gmp_base.specs.declared.number.Readiness.{Readiness};
-
-    ghost call = { λ known. let r : Readiness = record { g = known.0; epoch = known.1 } in variant.Claim r };
-
-    #[inline(always)]
-    fn call(&self) -> Call {
-        Call::Claim(Readiness {
-            g: self.0,
-            epoch: self.1,
-        })
-    }
-}
-
-impl Known for YieldCall {
-    ghost call = { λ known. variant.Yield };
-
-    #[inline(always)]
-    fn call(&self) -> Call {
-        Call::Yield
-    }
-}
-
-impl Known for SendCall {
-    ghost call = { λ known. variant.Send known.0 known.1 };
-
-    #[inline(always)]
-    fn call(&self) -> Call {
-        Call::Send(self.0, self.1)
-    }
-}
-
-impl Known for RecvCall {
-    ghost call = { λ known. variant.Recv known.0 };
-
-    #[inline(always)]
-    fn call(&self) -> Call {
-        Call::Recv(self.0)
     }
 }
 

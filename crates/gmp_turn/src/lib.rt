@@ -11,6 +11,7 @@
 
 mod calling;
 mod frequent;
+mod known;
 pub mod laws;
 mod surrendering;
 

@@ -2,7 +2,7 @@ use Rattle.std.proofs.Common.{Some, refl}
 use Rattle.gmp_driver.specs.declared.act.Told.TheVariants as told
 use Rattle.gmp_driver.proofs.Uses.{uses}
 use Rattle.gmp_turn.proofs.InHand.{fits_refused, fits_then, told_fits, turns_ok, turns_refused}
-use Rattle.gmp_turn.proofs.calling.turn.Goals as goal
+use Rattle.gmp_turn.proofs.calling.any_turn.Goals as goal
 
 pub call_in_hand-requires-clause-uses : goal.call_in_hand-requires-clause-uses
 call_in_hand-requires-clause-uses g c = rw (c.hand.ensures.hand, c.give_pass-pass.ensures.left) (uses c.args.driver.now c.args.call.now c.requires.act c.requires.keeps)
