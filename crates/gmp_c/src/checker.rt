@@ -1,4 +1,4 @@
-//! A text that C feeds piece by piece, and its handle.
+//! A text that C feeds in chunks, and its handle.
 ghost use Rattle.std.specs.Prelude.{◌≡◌, ◌++◌, [], List, OnErr, OnOk, ℕ};
 ghost use Rattle.std.specs.declared.alloc.Global.{Global};
 

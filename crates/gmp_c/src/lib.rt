@@ -42,10 +42,10 @@ use crate::words::{
 use gmp_base::{GNo, MNo};
 use gmp_check::OpenError;
 use gmp_parts::PartError;
-use gmp_stand::{PieceText, Stand, TextError};
+use gmp_stand::{PartText, Stand, TextError};
 use std::alloc::Global;
 
-/// The number of the header's functions.
+/// The version of the header's functions.
 const VERSION: u32 = 1;
 
 /// Want of memory, as a refusal's number.
@@ -74,7 +74,8 @@ pub extern "C" fn gmp_open(
     fair: bool,
     out: &mut *mut Opaque,
 ) -> u32
-    ensures { IsOpening (AreLimits (limits_of limits.now) goroutines capacities.now) result }
+    ensures opening { IsOpening (AreLimits (limits_of limits.now) goroutines capacities.now) result }
+    ensures none { result ≢ 0 → out.new ≡ out.old }
 {
     match Stand::open(alloc, limits.limits(), goroutines, capacities, fair) {
         Ok(stand) => {
@@ -97,7 +98,7 @@ pub extern "C" fn gmp_close(alloc: Global, h: Handle) {
     let _ = loosened(h, alloc).into_box();
 }
 
-/// The number of the header's functions.
+/// The version of the header's functions.
 #[unsafe(no_mangle)]
 pub extern "C" fn gmp_version() -> u32
     ensures { result ≡ 1 }
@@ -228,7 +229,8 @@ pub extern "C" fn gmp_check_text(alloc: Global, text: &[u8], line: &mut u64) -> 
 /// Opens a checker that was fed nothing, and writes its word. Answers 0, or 28 for want of memory.
 #[unsafe(no_mangle)]
 pub extern "C" fn gmp_check_open(alloc: Global, out: &mut *mut Opaque) -> u32
-    ensures { (result ≡ 0) ⊎ (result ≡ 28) }
+    ensures kinds { (result ≡ 0) ⊎ (result ≡ 28) }
+    ensures none { result ≢ 0 → out.new ≡ out.old }
 {
     let fed = Fed::new(alloc);
     crosses(&fed);
@@ -278,9 +280,10 @@ pub extern "C" fn gmp_parts_open(
     capacities: &[u32],
     out: &mut *mut Opaque,
 ) -> u32
-    ensures { IsOpening (AreLimits (limits_of limits.now) goroutines capacities.now) result }
+    ensures opening { IsOpening (AreLimits (limits_of limits.now) goroutines capacities.now) result }
+    ensures none { result ≢ 0 → out.new ≡ out.old }
 {
-    match PieceText::open(alloc, limits.limits(), goroutines, capacities) {
+    match PartText::open(alloc, limits.limits(), goroutines, capacities) {
         Ok(parts) => {
             crosses(&parts);
             match Box::new(alloc, parts) {

@@ -250,7 +250,7 @@ impl<T> Core<T> {
         let _ = &self.book;
     }
 
-    /// Of fair machines none passes over who waits in lines for ever, whichever acts follow.
+    /// Of fair machines none claims without bound while another's ticket stands in a line, whichever acts follow.
     pub fn serves(&self)
         ensures served { PassesNobodyOver self.now }
     {

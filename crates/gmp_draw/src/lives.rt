@@ -1,6 +1,6 @@
 //! What each goroutine does from its start to its end, as a walk tells it.
 
-ghost use Rattle.std.specs.Prelude.{◌≡◌, ◌≤◌, ◌<◌, ℕ, None, true, OnOk, get_or, length};
+ghost use Rattle.std.specs.Prelude.{◌≡◌, ◌≤◌, ◌<◌, ◌^◌, ℕ, None, true, OnOk, get_or, length};
 ghost use Rattle.gmp_draw.specs.Shown.{AreShown, shows};
 
 use crate::spans::{Doing, Reason, Span, Spans, is_asked};
@@ -10,17 +10,20 @@ use gmp_start::Start;
 use gmp_walk::{Deed, goroutine_at};
 use std::alloc::AllocError;
 
-/// Whether what stands there is what the goroutine does.
-fn shows(shown: &Option<Span>, status: &Status) -> bool
-    ensures { result ≡ shows shown.now status.now }
+/// Whether what stands there is of this goroutine's lane, and what it does.
+fn shows(g: usize, shown: &Option<Span>, status: &Status) -> bool
+    ensures { result ≡ shows g shown.now status.now }
 {
     let Some(span) = shown else {
         return matches!(status, Status::Dormant | Status::Dead);
     };
+    if usize::from(span.lane) != g {
+        return false;
+    }
     match (span.doing, status) {
         (Doing::Ready, Status::Ready(_, _)) => true,
-        (Doing::Runs(_, m), Status::Running(n)) => m.0 == n.0,
-        (Doing::Calls(_, m), Status::Calling(n)) => m.0 == n.0,
+        (Doing::Runs(h, m), Status::Running(n)) => usize::from(h.0) == g && m.0 == n.0,
+        (Doing::Calls(h, m), Status::Calling(n)) => usize::from(h.0) == g && m.0 == n.0,
         (Doing::Waits(_), Status::Waiting(_)) => true,
         _ => false,
     }
@@ -28,7 +31,7 @@ fn shows(shown: &Option<Span>, status: &Status) -> bool
 
 /// The span that the goroutine begins before an entry, if it is neither before its start nor behind its end.
 fn begun(g: GNo, status: &Status, from: u64, opening: Option<u64>) -> Option<Span>
-    ensures { shows result status.now ≡ true }
+    ensures { shows g.0 result status.now ≡ true }
 {
     let doing = match status {
         Status::Dormant | Status::Dead => return None,
@@ -102,12 +105,12 @@ impl Spans {
     /// Notes what a goroutine does after an entry.
     fn note(&mut self, g: usize, row: &Goroutine, number: u64) -> Result<(), AllocError>
         requires { g < length self.old.current.items }
-        ensures now { OnOk result (shows (get_or self.new.current.items g None) row.now.status ≡ true) }
+        ensures now { OnOk result (g < 2 ^ 16 → shows g (get_or self.new.current.items g None) row.now.status ≡ true) }
         ensures others { OnOk result ((h : ℕ) → h < g → get_or self.new.current.items h None ≡ get_or self.old.current.items h None) }
         ensures length { OnOk result (length self.new.current.items ≡ length self.old.current.items) }
     {
         let shown = self.current[g];
-        if shows(&shown, &row.status) {
+        if shows(g, &shown, &row.status) {
             return Ok(());
         }
         let from = first_behind(&shown, &row.status, number);

@@ -87,8 +87,8 @@ impl Listener for Scene {
     ghost use Rattle.gmp_words.specs.declared.options.By.TheVariants.{Goroutine as OfGoroutines};
     ghost use Rattle.gmp_draw.specs.Shown.{AreShown};
 
-    // Where goroutines have lanes, what stands open on each is what its goroutine does. Of the rest no clause says what it keeps.
-    ghost hears = { λ before entry rows after. after.by ≡ OfGoroutines → AreShown after.spans.current.items rows (length rows) };
+    // Who has lanes stays; and where goroutines have, what stands open on each is what its goroutine does. Of the rest no clause says what it keeps.
+    ghost hears = { λ before entry rows after. (after.by ≡ before.by) × (after.by ≡ OfGoroutines → AreShown after.spans.current.items rows (length rows)) };
 
     fn hear(&mut self, deed: &Deed, rows: &[Goroutine]) -> Result<(), AllocError> {
         if self.told.is_empty() {

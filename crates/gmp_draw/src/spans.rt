@@ -95,7 +95,8 @@ impl Reason {
 impl Span {
     /// One that begins before this entry.
     pub fn new(lane: u16, doing: Doing, from: u64, opening: Option<u64>) -> Self
-        ensures { result.doing ≡ doing }
+        ensures lane { result.lane ≡ lane }
+        ensures doing { result.doing ≡ doing }
     {
         let call = match doing {
             Doing::Calls(_, _) => opening,

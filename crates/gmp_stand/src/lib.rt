@@ -6,6 +6,8 @@
 //! for is `Handed` in with the machine's next turn. Machines may have their turns in any order, so a host can have a thread for each, with
 //! the stand behind a lock.
 //!
+//! `PartText` has the text of what was handed out last, as a part of the run.
+//!
 //! **Invariant** (`HeadlineOf`, `NoWorkIsAsleep`): that of a core (gmp_core), whose acts a turn makes and no others.
 //!
 //! `Stand::open` refuses limits that don't fit and want of memory. A turn refuses nothing: an ask or an answer that the machine doesn't want
@@ -21,6 +23,6 @@ mod telling;
 
 pub use doing::Doing;
 pub use event::{Event, Handed};
-pub use parting::PieceText;
+pub use parting::PartText;
 pub use stand::Stand;
 pub use telling::TextError;

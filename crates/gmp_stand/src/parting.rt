@@ -17,12 +17,12 @@ use std::marker::Model;
 
 /// Writes the pieces of a run as parts, and keeps the text of the last one.
 #[derive(Drop)]
-pub struct PieceText {
+pub struct PartText {
     alloc: Global,
     writer: PartWriter<Together<Vec<u8>>>,
 }
 
-impl Model for PieceText {
+impl Model for PartText {
     ghost use Rattle.gmp_stand.specs.Parting.{Parting, seen_by};
 
     ghost Value = { Parting };
@@ -30,7 +30,7 @@ impl Model for PieceText {
     ghost view = { λ p. seen_by (λ out. out.0.items) p.writer };
 }
 
-impl PieceText {
+impl PartText {
     /// A run that begins, with so many goroutines, and channels of these capacities. Nothing is written yet.
     pub fn open(
         alloc: Global,
@@ -44,7 +44,7 @@ impl PieceText {
     {
         let out = Together(Vec::new(alloc));
         let writer = PartWriter::open(alloc, limits, goroutines, capacities, out)?;
-        Ok(PieceText { alloc, writer })
+        Ok(PartText { alloc, writer })
     }
 
     /// Writes the piece that the stand handed out last as the next part, in place of the text of the one before. Where it can't be written

@@ -1,6 +1,5 @@
-//! Turns of the calls that come most often. Each is compiled apart with its call known (`Known`): of a match on the call its arm alone is left
-//! there. In one turn for all calls every local of each arm would be zeroed in each call. None
-//! of them reads the word, of which contracts speak.
+//! Turns of the calls that come most often, each compiled apart with its call known (known.rt). In one turn for all calls every local of each
+//! arm would be zeroed in each call. None of them reads the word, of which contracts speak.
 //!
 //! The book's call is inlined into each. A turn that is inlined itself would grow larger than what the toolchain inlines.
 ghost use Rattle.std.specs.Prelude.{◌≡◌, true, None, IfSome, IsSome};

@@ -1,5 +1,5 @@
-//! Calls that are known where their turns are compiled (`Known`): each turn is compiled once for each of these types, and of a match on the call
-//! the one arm alone is left there.
+//! Calls that are known where their turns are compiled: a turn is compiled once for each of these types, and of a match on the call the one
+//! arm alone is left there.
 ghost use Rattle.std.specs.Prelude.{◌≡◌};
 ghost use Rattle.gmp_seq.specs.declared.call.Call.{Call as CallValue};
 ghost use Rattle.gmp_seq.specs.declared.call.Call.TheVariants as variant;
@@ -7,7 +7,7 @@ ghost use Rattle.gmp_seq.specs.declared.call.Call.TheVariants as variant;
 use gmp_base::{CNo, GNo, Readiness};
 use gmp_seq::Call;
 
-/// A call that is known where its turn is compiled: of a match on the call its arm alone is left there.
+/// A call as a type of its own.
 pub(crate) trait Known: Drop {
     /// The call, as contracts see it.
     ghost call: { Self → CallValue };

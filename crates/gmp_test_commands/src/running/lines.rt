@@ -5,7 +5,7 @@ use gmp_script::Script;
 use gmp_words::{By, Ended, Said, Task, command_line};
 use std::alloc::{AllocError, Global};
 
-/// The options of a command line that its command has: of `explore`, of `run`, of `draw`, or of `step`.
+/// The options of a command line that its command has: of `explore`, of `run`, of `draw`, or of `step`; of `check` the file.
 pub fn settings(alloc: Global, line: &str, out: &mut Vec<u8>) -> Result<(), Ended> {
     let words = words_of(alloc, line)?;
     let said = command_line(alloc, &words)?;
@@ -26,6 +26,7 @@ pub fn settings(alloc: Global, line: &str, out: &mut Vec<u8>) -> Result<(), Ende
             };
             format!(in alloc; "{by} {} {}", s.from, s.to)?
         }
+        Task::Check => format!(in alloc; "{:?}", said.file)?,
         _ => format!(in alloc;
             "{:?}",
             (

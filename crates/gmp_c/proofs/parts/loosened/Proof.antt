@@ -26,7 +26,7 @@ use Rattle.std.proofs.alloc.Global.TheLaws as heap_laws
 use Rattle.std.specs.contracts.impls.GlobalAllocator.TheImpl.{ghosts}
 use Rattle.std.specs.Box.Ownership.{box_owns}
 use Rattle.std.proofs.raw_atomic.Walks.{proved_at, leaves}
-use Rattle.gmp_stand.specs.contracts.parting.PieceText as piece_text
+use Rattle.gmp_stand.specs.contracts.parting.PartText as piece_text
 use Rattle.gmp_c.specs.contracts.parts.Parts as parts
 use Rattle.gmp_c.proofs.Values.{both, loose_good, loose_in}
 use Rattle.gmp_c.specs.contracts.parts.loosened.{ended, clauses}

@@ -37,7 +37,7 @@ use Rattle.std.specs.Box.Ownership.{box_owns}
 use Rattle.std.proofs.raw_atomic.Walks.{proved}
 use Rattle.gmp_stand.specs.Parting.{Parting}
 use Rattle.gmp_c.specs.declared.parts.Parts.{Parts}
-use Rattle.gmp_stand.specs.contracts.parting.PieceText as piece_text
+use Rattle.gmp_stand.specs.contracts.parting.PartText as piece_text
 use Rattle.gmp_c.specs.contracts.parts.Parts as parts
 use Rattle.gmp_c.specs.Keeping.{with_parting}
 use Rattle.gmp_c.specs.contracts.parts.Parts.get as F
