@@ -22,7 +22,7 @@
  *     }
  *
  * The examples beside this file: pingpong.c resumes bodies by function pointers, and writes the log of a run in parts; locks.c searches
- * seeds for a deadlock; judge.c checks a log that it reads from a file piece by piece. `./gmp lib DIR` at the top of the repository proves
+ * seeds for a deadlock; judge.c checks a log that it reads from a file in chunks. `./gmp lib DIR` at the top of the repository proves
  * and builds the library; libgmp_c.a takes memory by three functions, which are in liblibc_c.a beside it. In DIR/c, in this order:
  *
  *     gcc -std=c11 -I . pingpong.c ../lib/libgmp_c.a ../lib/liblibc_c.a -o pingpong
@@ -62,10 +62,12 @@ extern "C" {
 /* The handle: one word. gmp_open makes it, and gmp_close takes it back; no copy of it is used afterwards. */
 typedef struct { void *at; } gmp;
 
-/* A text that is checked as it comes, by one word. gmp_check_open makes it, and gmp_check_close takes it back. */
+/* A text that is checked as it comes, by one word. gmp_check_open makes it, and gmp_check_close takes it back; no copy of it is used
+ * afterwards. */
 typedef struct { void *at; } gmp_checker;
 
-/* What writes the pieces of a run as parts, by one word. gmp_parts_open makes it, and gmp_parts_close takes it back. */
+/* What writes the pieces of a run as parts, by one word. gmp_parts_open makes it, and gmp_parts_close takes it back; no copy of it is used
+ * afterwards. */
 typedef struct { void *at; } gmp_parts;
 
 /* How large a run may be. */
@@ -193,7 +195,7 @@ enum {
 
 /* Opens a run of so many goroutines, with channels of these n capacities, numbered from 0. Machines that are fair look at each queue from
  * time to time: while one ready goroutine waits in a line, no machine claims more than 32 * (procs + 1) * goroutines others, whichever machines
- * have turns (`served` in docs/PROMISES.md); that machines have turns, and bodies come back, is the host's part. Answers 0 and writes the
+ * have turns (`served` in docs/PROMISES.md at the top of the repository); that machines have turns, and bodies come back, is the host's part. Answers 0 and writes the
  * handle's word, or answers why not, and writes nothing:
  *     gmp h; uint32_t why = gmp_open(&limits, goroutines, capacities, n, true, &h.at); */
 uint32_t gmp_open(const gmp_limits *limits, uint16_t goroutines, const uint32_t *capacities, size_t n, bool fair, void **out);
@@ -214,7 +216,7 @@ void gmp_turn(gmp *h, uint8_t m, const gmp_ask *ask, const gmp_case *cases, size
 /* The set of machines that are parked: bit m is machine m's. A host that sleeps in a machine's thread wakes it when its bit is clear. */
 uint64_t gmp_parked(gmp *h);
 
-/* The least moment until which a goroutine waits, asleep or in a select; GMP_NEVER, where none does. */
+/* The least moment until which a goroutine waits, asleep or in a select; GMP_NEVER, where none does, or until that moment. */
 uint64_t gmp_deadline(gmp *h);
 
 /* How the run ended, if it did. */
@@ -260,7 +262,7 @@ void gmp_parts_close(gmp_parts p);
  * counted from 1; or GMP_OUT_OF_MEMORY, which says nothing of the text. It needs no handle. */
 uint32_t gmp_check_text(const uint8_t *text, size_t n, uint64_t *line);
 
-/* The same of a text that comes in pieces, cut anywhere. gmp_check_open opens a checker that was fed nothing. It answers 0 and writes its
+/* The same of a text that comes in chunks, cut anywhere. gmp_check_open opens a checker that was fed nothing. It answers 0 and writes its
  * word, or GMP_OUT_OF_MEMORY, and writes nothing:
  *     gmp_checker c; uint32_t why = gmp_check_open(&c.at); */
 uint32_t gmp_check_open(void **out);

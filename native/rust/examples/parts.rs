@@ -1,5 +1,5 @@
 //! A run whose trace is written while it goes on: `cargo run --release --example parts -- run.parts` in one thread, or with
-//! `4` behind that in four. Then `gmp join < run.parts` judges all of it.
+//! `4` behind that in four. Then `gmp join run.parts` judges all of it.
 use kuvendyra::{channel, go, Builder, Runtime};
 use std::env;
 use std::error::Error;
