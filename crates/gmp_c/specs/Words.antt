@@ -12,11 +12,11 @@ use Rattle.gmp_base.specs.Numbers.{fault_number}
 use Rattle.gmp_seq.specs.declared.call.Limits.{Limits}
 use Rattle.gmp_seq.specs.declared.call.Outcome.{Outcome}
 use Rattle.gmp_seq.specs.declared.call.Outcome.TheVariants as outcome
+use Rattle.gmp_seq.specs.declared.status.Status.{Status}
+use Rattle.gmp_seq.specs.declared.status.Status.TheVariants as status
 use Rattle.gmp_core.specs.Whole.{Whole}
 use Rattle.gmp_parts.specs.declared.error.PartError.{PartError}
 use Rattle.gmp_parts.specs.declared.error.PartError.TheVariants as part_error
-use Rattle.gmp_stand.specs.declared.doing.Doing.{Doing}
-use Rattle.gmp_stand.specs.declared.doing.Doing.TheVariants as doing
 use Rattle.gmp_stand.specs.declared.event.Event.{Event}
 use Rattle.gmp_stand.specs.declared.event.Event.TheVariants as event
 use Rattle.gmp_stand.specs.declared.event.Handed.{Handed}
@@ -129,15 +129,14 @@ outcome_number (Some outcome.MainEnded) = 1
 outcome_number (Some outcome.AllAsleep) = 2
 outcome_number (Some outcome.BookFull) = 3
 
-abbrev pub doing_number : Doing → ℕ
-doing_number doing.Dormant = 0
-doing_number doing.Ready = 1
-doing_number doing.Runs = 2
-doing_number doing.Calls = 3
-doing_number doing.Waits = 4
-doing_number doing.Dead = 5
-doing_number doing.Nobody = 6
-doing_number doing.Unknown = 7
+-- what a goroutine does, but for its details
+abbrev pub status_number : Status → ℕ
+status_number status.Dormant = 0
+status_number (status.Ready place answer) = 1
+status_number (status.Running m) = 2
+status_number (status.Calling m) = 3
+status_number (status.Waiting wait) = 4
+status_number status.Dead = 5
 
 -- why a part was not written; 0 where it was. A device is memory here.
 abbrev pub failed_number : Option PartError → ℕ

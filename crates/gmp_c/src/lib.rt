@@ -5,10 +5,11 @@
 //! that are right. What the numbers say is judged here: no number is refused but limits.
 #![tactic(auto)]
 
-ghost use Rattle.std.specs.Prelude.{◌≡◌, ◌≢◌, ◌⊎◌, ◌<◌, ◌↔◌, ◌++◌, ℕ, None, Some, length, true, unwrap_or};
+ghost use Rattle.std.specs.Prelude.{◌≡◌, ◌≢◌, ◌⊎◌, ◌<◌, ◌↔◌, ◌++◌, ℕ, None, Some, [], length, true, unwrap_or};
 ghost use Rattle.std.specs.Int.{bit_at};
+ghost use Rattle.std.specs.Option.{option_map_or};
 ghost use Rattle.gmp_seq.specs.Fits.{AreLimits};
-ghost use Rattle.gmp_seq.specs.Table.{least_deadline};
+ghost use Rattle.gmp_seq.specs.Table.{least_deadline, status_at};
 ghost use Rattle.gmp_acts.specs.Headline.{SameOpening};
 ghost use Rattle.gmp_acts.specs.Lookouts.{NoWorkIsAsleep};
 ghost use Rattle.gmp_fair.specs.Fair.{AllSteady};
@@ -17,11 +18,11 @@ ghost use Rattle.gmp_core.specs.Waits.{PassesNobodyOver};
 ghost use Rattle.gmp_core.specs.Whole.{HeadlineOf, emptied};
 ghost use Rattle.gmp_parts.specs.Writing.{GoesOn, WritesPart};
 ghost use Rattle.gmp_stand.specs.Parting.{textless};
-ghost use Rattle.gmp_stand.specs.Replayed.{doing_at};
 ghost use Rattle.gmp_trace.specs.Text.{text};
 ghost use Rattle.gmp_stand.specs.Told.{trace_of};
+ghost use Rattle.gmp_waits.specs.Doing.{doing_text};
 ghost use Rattle.gmp_c.specs.Checking.{IsJudged};
-ghost use Rattle.gmp_c.specs.Words.{IsOpening, IsWritten, Turned, doing_number, failed_number, handed_of, limits_of, outcome_number};
+ghost use Rattle.gmp_c.specs.Words.{IsOpening, IsWritten, Turned, failed_number, handed_of, limits_of, outcome_number, status_number};
 
 mod checker;
 mod checking;
@@ -37,7 +38,7 @@ use crate::copying::copied;
 use crate::handle::{Handle, Opaque, loosened, put};
 use crate::parts::Parts;
 use crate::words::{
-    AskWords, CaseWords, EventWords, LimitWords, handed, number_of, number_of_doing, words_of,
+    AskWords, CaseWords, EventWords, LimitWords, handed, number_of, number_of_status, words_of,
 };
 use gmp_base::{GNo, MNo};
 use gmp_check::OpenError;
@@ -59,6 +60,9 @@ const NOT_WHOLE: u32 = 32;
 
 /// That a piece doesn't go on where the last part stops.
 const NO_STEP: u32 = 33;
+
+/// That there is no such goroutine, among the numbers of what one does.
+const NOBODY: u32 = 6;
 
 /// That C may pass the handle to another thread.
 fn crosses<T: Send>(_value: &T) {}
@@ -165,13 +169,34 @@ pub extern "C" fn gmp_entries(h: &mut Handle) -> u64
     h.get().history().len() as u64
 }
 
-/// What goroutine g does, by its number; 7 where that is unknown.
+/// What goroutine g does, by its number; 6 where there is no goroutine g.
 #[unsafe(no_mangle)]
 pub extern "C" fn gmp_status(h: &mut Handle, g: u16) -> u32
-    ensures status { (result ≡ 7) ⊎ (result ≡ doing_number (doing_at h.old.value.core.system.book.state.table.goroutines (record { 0 = g }))) }
+    ensures status { result ≡ option_map_or status_number (status_at h.old.value.core.system.book.state.table (record { 0 = g })) 6 }
+    ensures headline { HeadlineOf h.old.value.core.system }
     ensures same { h.new.value ≡ h.old.value }
 {
-    number_of_doing(h.get().doing(GNo(g)))
+    match h.get().status(GNo(g)) {
+        Some(status) => number_of_status(status),
+        None => NOBODY,
+    }
+}
+
+/// Writes what goroutine g does, in words, into the buffer, as much as there is room for, and how long it is: 0, where there is no goroutine
+/// g. Answers 0, or 28 for want of memory: then nothing is written.
+#[unsafe(no_mangle)]
+pub extern "C" fn gmp_status_text(h: &mut Handle, g: u16, buffer: &mut [u8], len: &mut u64) -> u32
+    ensures words { result ≡ 0 → IsWritten (option_map_or doing_text (status_at h.old.value.core.system.book.state.table (record { 0 = g })) []) buffer.old buffer.new len.new }
+    ensures refused { result ≢ 0 → (result ≡ 28) × (buffer.new ≡ buffer.old) × (len.new ≡ len.old) }
+    ensures headline { HeadlineOf h.old.value.core.system }
+    ensures same { h.new.value ≡ h.old.value }
+{
+    match h.get().status_text(GNo(g)) {
+        Ok(Some(words)) => *len = copied(words.as_bytes(), buffer) as u64,
+        Ok(None) => *len = copied(&[], buffer) as u64,
+        Err(_) => return OUT_OF_MEMORY,
+    }
+    0
 }
 
 /// Hands out the entries since the last time, as a piece, so that the history has room again. Answers 0, or 28 for want of memory.

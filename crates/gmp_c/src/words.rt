@@ -1,10 +1,10 @@
 //! What C and the library say to each other, in numbers.
 ghost use Rattle.std.specs.Prelude.{◌≡◌, ◌≤◌, length, map, min};
-ghost use Rattle.gmp_c.specs.Words.{answer_of, ask_of, case_of, channel_of, doing_number, event_words, handed_of, limits_of, outcome_number, plain_words, select_of, until_of, woke_words};
+ghost use Rattle.gmp_c.specs.Words.{answer_of, ask_of, case_of, channel_of, event_words, handed_of, limits_of, outcome_number, plain_words, select_of, status_number, until_of, woke_words};
 
 use gmp_base::{Ask, CNo, Case, Cases, GNo, Woke};
-use gmp_seq::{Limits, Outcome};
-use gmp_stand::{Doing, Event, Handed};
+use gmp_seq::{Limits, Outcome, Status};
+use gmp_stand::{Event, Handed};
 
 /// How large a run may be.
 #[repr(C)]
@@ -236,17 +236,15 @@ pub(crate) fn number_of(outcome: Option<Outcome>) -> u32
 }
 
 /// The number of what a goroutine does.
-pub(crate) fn number_of_doing(doing: Doing) -> u32
-    ensures { result ≡ doing_number doing }
+pub(crate) fn number_of_status(status: &Status) -> u32
+    ensures { result ≡ status_number status.now }
 {
-    match doing {
-        Doing::Dormant => 0,
-        Doing::Ready => 1,
-        Doing::Runs => 2,
-        Doing::Calls => 3,
-        Doing::Waits => 4,
-        Doing::Dead => 5,
-        Doing::Nobody => 6,
-        Doing::Unknown => 7,
+    match status {
+        Status::Dormant => 0,
+        Status::Ready(_, _) => 1,
+        Status::Running(_) => 2,
+        Status::Calling(_) => 3,
+        Status::Waiting(_) => 4,
+        Status::Dead => 5,
     }
 }

@@ -2,7 +2,7 @@
 //! The calls that machines made have no list here: they are those of the history, each with the reply that its machine was told. A list
 //! beside it would copy each call once more.
 ghost use Rattle.std.specs.Borrow.{sem};
-ghost use Rattle.std.specs.Prelude.{ℕ, ◌≡◌, ◌↔◌, ◌≤◌, ◌<◌, ◌+◌, ◌*◌, [], ◌∷◌, All, IsTrue, Some, false, true, is_some, length, map, slice_get, take, IfErr, IfOk, IfSome, IsSome, OnOk};
+ghost use Rattle.std.specs.Prelude.{ℕ, ◌≡◌, ◌↔◌, ◌≤◌, ◌<◌, ◌+◌, ◌*◌, [], ◌∷◌, All, IsTrue, Some, false, true, is_some, length, map, option_copied, slice_get, take, IfErr, IfOk, IfSome, IsSome, OnOk};
 ghost use Rattle.std.specs.Option.{option_map_or};
 ghost use Rattle.gmp_base.specs.declared.number.MNo.{MNo};
 ghost use Rattle.gmp_base.specs.declared.number.Readiness.{Readiness};
@@ -25,7 +25,7 @@ use gmp_base::{GNo, MNo, Refusal, Refused, Woke};
 use gmp_book::{Book, Unopened};
 use gmp_driver::{Act, Driver, Frequent};
 use gmp_history::History;
-use gmp_seq::{Limits, Outcome};
+use gmp_seq::{Goroutine, Limits, Outcome};
 use std::alloc::Global;
 use std::marker::Model;
 
@@ -349,6 +349,13 @@ impl<T> Core<T> {
         ensures { result ≡ least_deadline self.now.system.book.state.table }
     {
         self.book.goroutines().least_deadline()
+    }
+
+    /// What the goroutine of this number does, and how often it became ready. None where there is no such goroutine.
+    pub fn goroutine(&self, g: GNo) -> Option<&Goroutine>
+        ensures { option_copied result ≡ slice_get self.now.system.book.state.table.goroutines g.0 }
+    {
+        self.book.goroutines().get(g)
     }
 
     /// Every call that the book accepted since the last hand-out with its reply, in order: each machine's are those that it made, with the

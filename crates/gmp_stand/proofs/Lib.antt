@@ -1,5 +1,4 @@
 pub mod Turning
-pub mod Ending
 pub mod Bits
 pub mod Numbers
 pub mod Opening

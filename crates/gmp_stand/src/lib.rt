@@ -11,17 +11,16 @@
 //! **Invariant** (`HeadlineOf`, `NoWorkIsAsleep`): that of a core (gmp_core), whose acts a turn makes and no others.
 //!
 //! `Stand::open` refuses limits that don't fit and want of memory. A turn refuses nothing: an ask or an answer that the machine doesn't want
-//! is let go. `hand_out` makes room in a full history. Only `open`, the first `hand_out`, `doing` and a make take memory.
+//! is let go. `hand_out` makes room in a full history. Only `open`, the first `hand_out`, what
+//! tells a text, and a make take memory.
 #![tactic(auto)]
 
 mod dealing;
-mod doing;
 mod event;
 mod parting;
 mod stand;
 mod telling;
 
-pub use doing::Doing;
 pub use event::{Event, Handed};
 pub use parting::PartText;
 pub use stand::Stand;

@@ -1,8 +1,9 @@
 //! The core with what an act of it reads, as one value: turns of machines, and what is told of them.
-ghost use Rattle.std.specs.Prelude.{◌≡◌, ◌⊎◌, ◌<◌, ◌↔◌, ℕ, All, IfErr, IfOk, IfSome, IsSome, None, OnErr, OnOk, Some, [], length, map, true, false};
+ghost use Rattle.std.specs.Prelude.{◌≡◌, ◌<◌, ◌↔◌, ℕ, All, IfErr, IfOk, IfSome, IsSome, None, OnErr, OnOk, Some, [], length, map, option_copied, true, false};
 ghost use Rattle.std.specs.Int.{bit_at};
+ghost use Rattle.std.specs.Option.{option_map};
 ghost use Rattle.gmp_seq.specs.Fits.{AreLimits, Fits};
-ghost use Rattle.gmp_seq.specs.Table.{least_deadline};
+ghost use Rattle.gmp_seq.specs.Table.{least_deadline, status_at};
 ghost use Rattle.gmp_book.specs.Book.{WhyUnopened};
 ghost use Rattle.gmp_acts.specs.Headline.{SameOpening};
 ghost use Rattle.gmp_acts.specs.Lookouts.{NoWorkIsAsleep};
@@ -13,22 +14,21 @@ ghost use Rattle.gmp_core.specs.Stage.{parked};
 ghost use Rattle.gmp_core.specs.Waits.{PassesNobodyOver};
 ghost use Rattle.gmp_core.specs.Whole.{HeadlineOf, IsKept, IsWhole, emptied, goroutine_in_hand};
 ghost use Rattle.gmp_stand.specs.Standing.{numbers, opening_standing};
-ghost use Rattle.gmp_stand.specs.declared.doing.Doing.TheVariants.{Unknown};
 ghost use Rattle.gmp_trace.specs.Text.{text};
-ghost use Rattle.gmp_stand.specs.Replayed.{doing_at};
+ghost use Rattle.gmp_waits.specs.Doing.{doing_text};
 ghost use Rattle.gmp_stand.specs.Told.{trace_of};
 ghost use Rattle.gmp_stand.specs.Turns.{Advances, EndsAt, GoesOn, Resumes, Suffices, TakesTurn, wanted_at};
 
 use crate::dealing::deal;
-use crate::doing::{Doing, doing_of};
 use crate::event::{Event, Handed};
 use crate::telling::{TextError, text_of};
 use gmp_acts::Choice;
 use gmp_base::{GNo, MNo, Refusal, Refused};
 use gmp_core::{Core, Want};
 use gmp_history::History;
-use gmp_seq::{Limits, Outcome};
+use gmp_seq::{Limits, Outcome, Status};
 use gmp_trace::is_whole;
+use gmp_waits::Doing;
 use std::alloc::{AllocError, Global};
 use std::marker::Model;
 
@@ -275,22 +275,28 @@ impl Stand {
         self.core.history()
     }
 
-    /// What the goroutine does. It replays the history, in time and memory for each goroutine, so it is for a person who asks.
-    /// Where memory is refused, and once entries were handed out, it is unknown.
-    pub fn doing(&self, g: GNo) -> Doing
-        ensures { (result ≡ Unknown) ⊎ (result ≡ doing_at self.now.core.system.book.state.table.goroutines g) }
+    /// What the goroutine does. None where there is no goroutine of this number.
+    pub fn status(&self, g: GNo) -> Option<&Status>
+        ensures status { option_copied result ≡ status_at self.now.core.system.book.state.table g }
+        ensures headline { HeadlineOf self.now.core.system }
     {
-        if self.piece.is_some() {
-            return Doing::Unknown;
+        let _ = self.core.history();
+        match self.core.goroutine(g) {
+            Some(row) => Some(&row.status),
+            None => None,
         }
-        doing_of(
-            self.alloc,
-            self.limits,
-            self.goroutines,
-            &self.capacities,
-            self.core.history(),
-            g,
-        )
+    }
+
+    /// What the goroutine does, in the words of `gmp explain`, as `waits to receive from channel 2`. None where there is no goroutine of this
+    /// number.
+    pub fn status_text(&self, g: GNo) -> Result<Option<String>, AllocError>
+        ensures words { IfOk result (λ told. option_map (λ x. x.bytes.items) told ≡ option_map doing_text (status_at self.now.core.system.book.state.table g)) }
+        ensures headline { HeadlineOf self.now.core.system }
+    {
+        match self.status(g) {
+            Some(status) => Ok(Some(format!(in self.alloc; "{}", Doing(status))?)),
+            None => Ok(None),
+        }
     }
 
     /// The run so far as the text of a trace, from the opening on. Its history is to be kept whole: there is room for as many entries as there
