@@ -22,8 +22,9 @@
  *     }
  *
  * The examples beside this file: pingpong.c resumes bodies by function pointers, and writes the log of a run in parts; locks.c searches
- * seeds for a deadlock; judge.c checks a log that it reads from a file in chunks. `./gmp lib DIR` at the top of the repository proves
- * and builds the library; libgmp_c.a takes memory by three functions, which are in liblibc_c.a beside it. In DIR/c, in this order:
+ * seeds for a deadlock, and says who waits for what; timeout.c has a clock of its own; judge.c checks a log that it reads from a file in
+ * chunks. `./gmp lib DIR` at the top of the repository proves and builds the library; libgmp_c.a takes memory by three functions, which are
+ * in liblibc_c.a beside it. In DIR/c, in this order:
  *
  *     gcc -std=c11 -I . pingpong.c ../lib/libgmp_c.a ../lib/liblibc_c.a -o pingpong
  *
@@ -189,8 +190,7 @@ enum {
     GMP_CALLING = 3, /* it is in its blocking call */
     GMP_WAITING = 4, /* for a channel, a moment, or another goroutine */
     GMP_DEAD = 5,    /* it ended */
-    GMP_NOBODY = 6,  /* there is no goroutine of this number */
-    GMP_UNKNOWN = 7  /* memory was refused, or entries were handed out: the answer is read from the whole history */
+    GMP_NOBODY = 6   /* there is no goroutine of this number */
 };
 
 /* Opens a run of so many goroutines, with channels of these n capacities, numbered from 0. Machines that are fair look at each queue from
@@ -225,8 +225,13 @@ uint32_t gmp_outcome(gmp *h);
 /* How many entries the history holds since the last hand-out. */
 uint64_t gmp_entries(gmp *h);
 
-/* What goroutine g does. It reads the history from its beginning, so it is for the end, or for a person who asks. */
+/* What goroutine g does. */
 uint32_t gmp_status(gmp *h, uint16_t g);
+
+/* The same in the words of `gmp explain`, as "waits to receive from channel 2": as many bytes as there is room for, and in *len how many it
+ * has; with room 0 only that. No byte 0 ends it. Where there is no goroutine g it has no byte. Answers 0; or GMP_OUT_OF_MEMORY, and then
+ * writes nothing. */
+uint32_t gmp_status_text(gmp *h, uint16_t g, uint8_t *buffer, size_t room, uint64_t *len);
 
 /* Takes the entries since the last hand-out out of the history, so that it has room again. Answers 0, or GMP_OUT_OF_MEMORY, and then
  * nothing changed; it takes memory the first time alone. They are one piece of the run: what was handed out, in order, and what is left are
@@ -236,9 +241,8 @@ uint32_t gmp_hand_out(gmp *h);
 /* How many entries the piece has that was handed out last; 0 before the first. */
 uint64_t gmp_piece_len(gmp *h);
 
-/* The text of the run so far as a trace, which gmp_check_text and the commands read: as many of its bytes as there is room for, and in *len
- * how many it has; with room 0 only that. No byte 0 ends it. Answers 0; or GMP_NOT_WHOLE, where limits.room is less than limits.entries or
- * a piece was handed out, or GMP_OUT_OF_MEMORY, and then writes nothing. */
+/* The text of the run so far as a trace, which gmp_check_text and the commands read, in the manner of gmp_status_text. Answers 0; or
+ * GMP_NOT_WHOLE, where limits.room is less than limits.entries or a piece was handed out, or GMP_OUT_OF_MEMORY, and then writes nothing. */
 uint32_t gmp_text(gmp *h, uint8_t *buffer, size_t room, uint64_t *len);
 
 /* The text of a run whose history is handed out: each piece as a part, which is a trace by itself. The parts one behind another, or in files
@@ -252,7 +256,7 @@ uint32_t gmp_parts_open(const gmp_limits *limits, uint16_t goroutines, const uin
  * on where the last part stops, or GMP_OUT_OF_MEMORY. Then there is no text, and each later call answers the same. */
 uint32_t gmp_parts_write(gmp_parts *p, gmp *h);
 
-/* The text of the part that was written last, in the manner of gmp_text; it has no byte before the first. Answers 0. */
+/* The text of the part that was written last, in the manner of gmp_status_text; it has no byte before the first. Answers 0. */
 uint32_t gmp_parts_text(gmp_parts *p, uint8_t *buffer, size_t room, uint64_t *len);
 
 /* Lets the writer go. */

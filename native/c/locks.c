@@ -1,5 +1,6 @@
 /* A search through seeds for a deadlock. Two goroutines take two locks, each the other's first; a lock is a channel with
- * room for one value. Which machine acts next is drawn from the seed, so a seed makes the same run again. */
+ * room for one value. Which machine acts next is drawn from the seed, so a seed makes the same run again. With the name of a file the log of
+ * the run is written there, for `gmp explain`. */
 #include "gmp.h"
 
 #include <stdio.h>
@@ -27,38 +28,55 @@ static gmp_ask asks(uint32_t goroutine, unsigned step) {
     return step < 5 ? other_asks[step] : (gmp_ask){GMP_EXIT, 0, 0};
 }
 
-/* One run by the seed: its outcome, and what each goroutine does at the end. */
-static uint32_t run(uint64_t seed, uint32_t status[GOROUTINES]) {
-    const gmp_limits limits = {.procs = 2, .machines = MACHINES, .channels = 3, .room = 1000, .entries = 1000};
-    const uint32_t capacities[] = {1, 1, 2};
+/* Goes through the run by the seed; answers its outcome. */
+static uint32_t run(gmp *h, uint64_t seed) {
     unsigned steps[GOROUTINES] = {0};
     gmp_ask next[MACHINES] = {{GMP_NONE, 0, 0}, {GMP_NONE, 0, 0}, {GMP_NONE, 0, 0}};
-    gmp h;
 
-    if (gmp_open(&limits, GOROUTINES, capacities, 3, true, &h.at) != 0) return GMP_BOOK_FULL;
-    while (gmp_outcome(&h) == GMP_RUNS) {
+    while (gmp_outcome(h) == GMP_RUNS) {
         gmp_event event;
         uint8_t m = (uint8_t)(drawn(&seed) % MACHINES);
-        if (gmp_parked(&h) >> m & 1) continue;
-        gmp_turn(&h, m, &next[m], NULL, 0, 0, drawn(&seed), &event);
+        if (gmp_parked(h) >> m & 1) continue;
+        gmp_turn(h, m, &next[m], NULL, 0, 0, drawn(&seed), &event);
         next[m] = (gmp_ask){GMP_NONE, 0, 0};
         if (event.kind == GMP_RESUME) next[m] = asks(event.goroutine, steps[event.goroutine]++);
     }
-    for (uint16_t g = 0; g < GOROUTINES; g++) status[g] = gmp_status(&h, g);
-    uint32_t outcome = gmp_outcome(&h);
-    gmp_close(h);
-    return outcome;
+    return gmp_outcome(h);
 }
 
-int main(void) {
-    uint32_t status[GOROUTINES], again[GOROUTINES];
+/* Says what each goroutine does. */
+static bool tell(gmp *h) {
+    uint8_t words[100];
+    uint64_t length = 0;
+    for (uint16_t g = 0; gmp_status(h, g) != GMP_NOBODY; g++) {
+        if (gmp_status_text(h, g, words, sizeof words, &length) != 0 || length > sizeof words) return false;
+        printf("goroutine %u: %.*s\n", g, (int)length, (const char *)words);
+    }
+    return true;
+}
+
+/* Writes the log of the run to the file. */
+static bool save(gmp *h, const char *path) {
+    static uint8_t text[1u << 16];
+    uint64_t length = 0;
+    FILE *file = fopen(path, "wb");
+    if (file == NULL) return false;
+    bool whole = gmp_text(h, text, sizeof text, &length) == 0 && length <= sizeof text;
+    bool written = whole && fwrite(text, 1, length, file) == length;
+    return fclose(file) == 0 && written;
+}
+
+int main(int argc, char **argv) {
+    const gmp_limits limits = {.procs = 2, .machines = MACHINES, .channels = 3, .room = 1000, .entries = 1000};
+    const uint32_t capacities[] = {1, 1, 2};
     for (uint64_t seed = 0; seed < SEEDS; seed++) {
-        if (run(seed, status) != GMP_ALL_ASLEEP) continue;
-        printf("seed %llu: all goroutines are asleep\n", (unsigned long long)seed);
-        for (unsigned g = 0; g < GOROUTINES; g++) {
-            if (status[g] == GMP_WAITING) printf("goroutine %u waits\n", g);
-        }
-        return run(seed, again) == GMP_ALL_ASLEEP ? 0 : 1;
+        gmp h;
+        if (gmp_open(&limits, GOROUTINES, capacities, 3, true, &h.at) != 0) return 1;
+        bool is_found = run(&h, seed) == GMP_ALL_ASLEEP;
+        if (is_found) printf("seed %llu: all goroutines are asleep\n", (unsigned long long)seed);
+        bool is_told = is_found && tell(&h) && (argc < 2 || save(&h, argv[1]));
+        gmp_close(h);
+        if (is_found) return is_told ? 0 : 1;
     }
     printf("no deadlock in %d runs\n", SEEDS);
     return 1;

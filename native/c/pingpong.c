@@ -58,8 +58,8 @@ struct log {
 static bool hand_out(gmp *h, struct log *log) {
     static uint8_t text[1u << 20];
     uint64_t length = 0;
-    log->entries += gmp_entries(h);
     if (gmp_hand_out(h) != 0) return false;
+    log->entries += gmp_piece_len(h);
     if (log->file == NULL) return true;
     if (gmp_parts_write(&log->parts, h) != 0 || gmp_parts_text(&log->parts, text, sizeof text, &length) != 0) return false;
     return length <= sizeof text && fwrite(text, 1, length, log->file) == length;

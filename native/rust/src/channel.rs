@@ -2,7 +2,7 @@
 use crate::ends::{Receiver, Sender};
 use crate::fault::{Fault, SendError};
 use crate::hand::Hand;
-use crate::run::{locked, Held, Offer, Part, Place, Run, Waits};
+use crate::run::{locked, Held, Offer, Part, Place, Run};
 use crate::slab::Slab;
 use crate::words::{ask, woke, Ask, Case, Event, MAX_CAPACITY, NIL};
 use std::rc::Rc;
@@ -156,11 +156,8 @@ impl<T: Send + 'static> Inner<T> {
 
     pub(crate) fn offer(self: &Arc<Inner<T>>, key: Option<u64>, place: Place) -> Offer {
         let (case, part) = self.case(key);
-        let (kind, waits) = match case.sends {
-            true => (ask::SEND, Waits::Send(self.number)),
-            false => (ask::RECV, Waits::Receive(self.number)),
-        };
-        let mut offer = Offer::of(Ask::on(kind, case.channel, case.value), waits, place);
+        let kind = if case.sends { ask::SEND } else { ask::RECV };
+        let mut offer = Offer::of(Ask::on(kind, case.channel, case.value), place);
         offer.parts = vec![part];
         offer
     }

@@ -1,8 +1,8 @@
 //! How a run ended.
 use crate::fault::Fault;
-use crate::run::{locked, Goroutine, Place, Run, State, Waits};
+use crate::run::{locked, Aim, Goroutine, Offer, Place, Run, State};
 use crate::time::Moment;
-use crate::words::{outcome, status, NIL, OUT_OF_MEMORY};
+use crate::words::{ask, outcome, status, Case, NIL, OUT_OF_MEMORY};
 use std::fmt;
 use std::panic::{catch_unwind, AssertUnwindSafe};
 
@@ -75,7 +75,7 @@ pub struct Told {
 ///     let (_tx, rx) = channel::<u8>(0).unwrap();
 ///     rx.recv().await;
 /// });
-/// assert_eq!(ended.left[0].waits, "to receive from channel 0");
+/// assert_eq!(ended.left[0].what, "waits to receive from channel 0");
 /// assert!(ended.left[0].is_stuck);
 /// ```
 #[derive(Clone, Debug, PartialEq, Eq)]
@@ -84,13 +84,15 @@ pub struct Left {
     pub goroutine: u32,
     /// Where it was started, if it isn't main.
     pub started: Option<String>,
-    /// What it waits for, as in `to send on channel 3`.
-    pub waits: String,
+    /// What it does, as the scheduler says it, in the words of `gmp explain`: as `waits to receive from channel 3`, or
+    /// `waits to send 0 on channel 3`, where the number stands for the value.
+    pub what: String,
+    /// What the scheduler doesn't say of it: the cases of its select, whose end it waits for, or that it awaits a future of
+    /// another crate.
+    pub besides: Option<String>,
     /// Where it waits.
     pub place: String,
-    /// Whether it waits for good: of a deadlock all do; where main ended, who waits with no deadline. Of a run whose
-    /// history was handed out, as one of more than 61,440 entries may be, or of 12,288 if it is written in parts, the second
-    /// isn't known, and this is false.
+    /// Whether it waits for good: of a deadlock all do; where main ended, who waits with no deadline.
     pub is_stuck: bool,
 }
 
@@ -120,7 +122,7 @@ pub struct Ended {
     pub panics: Vec<Panicked>,
     /// Which faults were told: those where Go panics.
     pub faults: Vec<Told>,
-    /// Who had not ended, and what for.
+    /// Who had not ended, and what each does.
     pub left: Vec<Left>,
     /// How many entries the history of the run has.
     pub entries: u64,
@@ -244,31 +246,34 @@ impl fmt::Display for Ended {
 
 impl fmt::Display for Left {
     fn fmt(&self, f: &mut fmt::Formatter<'_>) -> fmt::Result {
-        let Left { goroutine, waits, place, .. } = self;
+        let Left { goroutine, what, place, .. } = self;
         match &self.started {
             Some(started) => write!(f, "goroutine {goroutine}, started at {started}")?,
             None => write!(f, "main")?,
         }
+        write!(f, ": {what}")?;
+        if let Some(besides) = &self.besides {
+            write!(f, ": {besides}")?;
+        }
         let rest = if self.is_stuck { "" } else { ", and may go on" };
-        write!(f, ": waits {waits}, at {place}{rest}")
+        write!(f, ", at {place}{rest}")
     }
 }
 
 /// Who has not ended.
 fn left_of(state: &mut State, outcome: Outcome) -> Vec<Left> {
     let mut left = vec![];
-    let is_in_pieces = state.is_in_pieces();
     for (g, goroutine) in state.goroutines.iter().enumerate() {
         let Some(wait) = &goroutine.wait else { continue };
-        let knows = !is_in_pieces && !wait.waits.has_deadline();
-        let is_stuck =
-            outcome == Outcome::Deadlock || knows && state.core.status(g as u16) == status::WAITING;
+        let waits = state.core.status(g as u16) == status::WAITING;
+        let what = state.core.status_text(g as u16);
         left.push(Left {
             goroutine: g as u32,
             started: goroutine.place.map(text_of),
-            waits: wait.waits.text(),
+            what: what.unwrap_or_else(|| "there is no memory to tell what it does".into()),
+            besides: wait.besides(waits),
             place: text_of(wait.place),
-            is_stuck,
+            is_stuck: outcome == Outcome::Deadlock || waits && !wait.has_deadline(),
         });
     }
     left
@@ -279,44 +284,25 @@ pub(crate) fn text_of(place: Place) -> String {
     format!("{}:{}", place.file(), place.line())
 }
 
-fn channel(number: u32) -> String {
-    match number {
-        NIL => "a nil channel".into(),
-        n => format!("channel {n}"),
-    }
-}
-
-impl Waits {
-    /// Whether a deadline ends it.
-    pub fn has_deadline(&self) -> bool {
-        matches!(self, Waits::Sleep(_) | Waits::Select(_, Some(_)))
-    }
-
-    pub fn text(&self) -> String {
-        match self {
-            Waits::Send(c) => format!("to send on {}", channel(*c)),
-            Waits::Receive(c) => format!("to receive from {}", channel(*c)),
-            Waits::Select(cases, until) => select_text(cases, *until),
-            Waits::Sleep(until) => format!("until {until}"),
-            Waits::Turn => "for its turn".into(),
-            Waits::End(g) => format!("for goroutine {g} to end"),
-            Waits::Call => "for a blocking call".into(),
-            Waits::Other => "for a future that is none of this crate".into(),
+impl Offer {
+    /// What the scheduler doesn't say of the wait, or of what follows it.
+    fn besides(&self, waits: bool) -> Option<String> {
+        match self.aim {
+            Some(Aim::End(g)) => Some(format!("the end of goroutine {g}")),
+            Some(Aim::Other) => Some("a future that is none of this crate".into()),
+            None if waits && self.ask.kind == ask::SELECT => cases_text(&self.cases),
+            None => None,
         }
     }
 }
 
-fn select_text(cases: &[(bool, u32)], until: Option<Moment>) -> String {
-    let named = cases.iter().map(|(sends, c)| match sends {
-        true => format!("to send on {}", channel(*c)),
-        false => format!("to receive from {}", channel(*c)),
+/// What the cases would do, in the words of `gmp explain`. On nil none ever does anything.
+fn cases_text(cases: &[Case]) -> Option<String> {
+    let named = cases.iter().enumerate().filter(|(_, case)| case.channel != NIL);
+    let texts = named.map(|(i, &Case { sends, channel, value })| match sends {
+        true => format!("case {i} would send {value} on channel {channel}"),
+        false => format!("case {i} would receive from channel {channel}"),
     });
-    let mut named: Vec<String> = named.collect();
-    if let Some(until) = until {
-        named.push(format!("until {until}"));
-    }
-    match named.is_empty() {
-        true => "in a select without cases".into(),
-        false => format!("in a select, {}", named.join(", or ")),
-    }
+    let texts: Vec<String> = texts.collect();
+    (!texts.is_empty()).then(|| texts.join(", "))
 }

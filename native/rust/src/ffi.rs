@@ -32,7 +32,9 @@ unsafe extern "C" {
     fn gmp_outcome(h: *mut Handle) -> u32;
     fn gmp_entries(h: *mut Handle) -> u64;
     fn gmp_status(h: *mut Handle, g: u16) -> u32;
+    fn gmp_status_text(h: *mut Handle, g: u16, buffer: *mut u8, n: usize, len: *mut u64) -> u32;
     fn gmp_hand_out(h: *mut Handle) -> u32;
+    fn gmp_piece_len(h: *mut Handle) -> u64;
     fn gmp_text(h: *mut Handle, buffer: *mut u8, n: usize, len: *mut u64) -> u32;
     fn gmp_check_text(text: *const u8, n: usize, line: *mut u64) -> u32;
     fn gmp_parts_open(
@@ -105,10 +107,25 @@ impl Core {
         unsafe { gmp_status(&mut self.0, g) }
     }
 
+    /// What a goroutine does, in words, if there is memory.
+    pub fn status_text(&mut self, g: u16) -> Option<String> {
+        // SAFETY: the handle is open, and this is the only call on it; the buffer has as many bytes as its count says.
+        whole(|buffer, len| unsafe {
+            gmp_status_text(&mut self.0, g, buffer.as_mut_ptr(), buffer.len(), len)
+        })
+        .ok()
+    }
+
     /// Takes the entries out of the history; answers whether there was memory for it.
     pub fn hand_out(&mut self) -> bool {
         // SAFETY: the handle is open, and this is the only call on it.
         unsafe { gmp_hand_out(&mut self.0) == 0 }
+    }
+
+    /// How many entries went out of the history the last time.
+    pub fn piece_len(&mut self) -> u64 {
+        // SAFETY: the handle is open, and this is the only call on it.
+        unsafe { gmp_piece_len(&mut self.0) }
     }
 
     /// The text of the run's trace, if the history is whole and there is memory.
@@ -184,7 +201,7 @@ fn whole(mut write: impl FnMut(&mut [u8], &mut u64) -> u32) -> Result<String, u3
         // The first time it is only told how long the text is.
         text.resize(usize::try_from(len).map_err(|_| OUT_OF_MEMORY)?, 0);
     }
-    Ok(String::from_utf8(text).expect("a trace is ASCII"))
+    Ok(String::from_utf8(text).expect("the texts of the library are ASCII"))
 }
 
 /// Where the proved library gets its memory: from C's malloc.

@@ -1,7 +1,7 @@
 //! What a thread does for a run: which goroutine it polls, what that asks, and what it is told.
 use crate::ended::Told;
 use crate::fault::Fault;
-use crate::run::{locked, Goroutine, Offer, Part, Place, Run, State, Waits};
+use crate::run::{locked, Goroutine, Offer, Part, Place, Run, State};
 use crate::words::{ask, Ask, Case, Event};
 use std::cell::{Cell, RefCell};
 use std::future::Future;
@@ -168,8 +168,8 @@ impl Asking {
     }
 
     /// An ask of nobody's channel.
-    pub fn of(ask: Ask, waits: Waits, place: Place) -> Asking {
-        Asking::new(Offer::of(ask, waits, place))
+    pub fn of(ask: Ask, place: Place) -> Asking {
+        Asking::new(Offer::of(ask, place))
     }
 
     /// Who waits by which ask, once it does.

@@ -1,7 +1,7 @@
 //! Goroutines, and how to wait for their ends.
 use crate::fault::Fault;
 use crate::hand::{Asking, Hand};
-use crate::run::{locked, Ends, Goroutine, Job, Offer, Run, Waits};
+use crate::run::{locked, Aim, Ends, Goroutine, Job, Offer, Run};
 use crate::words::{ask, Ask};
 use std::fmt;
 use std::future::Future;
@@ -155,7 +155,7 @@ impl<T> Future for JoinHandle<T> {
         assert!(!end.finished, "a result is taken once");
         drop(end);
         let number = task.number.get().copied().unwrap_or_default();
-        let begin = || Asking::of(Ask::of(ask::PARK), Waits::End(number), place);
+        let begin = || Asking::new(Offer::of(Ask::of(ask::PARK), place).to(Aim::End(number)));
         let waiting = waiting.get_or_insert_with(begin);
         let polled = Pin::new(&mut *waiting).poll(context);
         let mut end = locked(&task.end);
@@ -235,7 +235,7 @@ pub fn spawn_blocking<R: Send + 'static>(
     async move {
         let (told, answer) = mpsc::channel();
         let job: Job = Box::new(move || drop(told.send(catch_unwind(AssertUnwindSafe(job)))));
-        let mut offer = Offer::of(Ask::of(ask::BLOCK), Waits::Call, place);
+        let mut offer = Offer::of(Ask::of(ask::BLOCK), place);
         offer.job = Some(job);
         Asking::new(offer).await;
         match answer.recv() {

@@ -30,6 +30,8 @@ enum Does {
 pub struct Core {
     ready: VecDeque<Event>,
     does: Vec<Does>,
+    /// For each goroutine what it asked last.
+    asks: Vec<Ask>,
     /// For each goroutine how many waits began before its last one; and how many began.
     began: Vec<u64>,
     arrivals: u64,
@@ -74,6 +76,7 @@ impl Core {
         Ok(Core {
             ready: VecDeque::from([told(0, woke::FIRST, false, 0)]),
             does,
+            asks: vec![Ask::NONE; goroutines.into()],
             began: vec![u64::MAX; goroutines.into()],
             arrivals: 0,
             channels: vec![],
@@ -220,6 +223,7 @@ impl Core {
 
     /// What the ask is answered, if its goroutine goes on at once.
     fn asked(&mut self, g: u32, ask: &Ask, cases: &[Case], word: u64) -> Option<Event> {
+        self.asks[g as usize] = *ask;
         let c = ask.channel as usize;
         let plain = Case { sends: ask.kind == ask::SEND, channel: ask.channel, value: ask.value };
         let done = match ask.kind {
@@ -227,7 +231,7 @@ impl Core {
             ask::MAKE => Some(self.make(g, ask.value)),
             ask::CLOSE if ask.channel == NIL => Some(told(g, woke::FAULT, false, 6)),
             ask::CLOSE => Some(self.close(g, c)),
-            ask::LEN => Some(told(g, 6, false, self.channels[c].values.len() as u64)),
+            ask::LEN => Some(told(g, 6, false, self.channels.get(c).map_or(0, |c| c.values.len() as u64))),
             ask::READY => Some(self.ready(g, ask.value)),
             ask::SEND if ask.channel != NIL => self.send(g, c, ask.value, PLAIN),
             ask::RECV if ask.channel != NIL => self.recv(g, c, PLAIN),
@@ -343,10 +347,34 @@ impl Core {
         }
     }
 
+    pub fn status_text(&mut self, g: u16) -> Option<String> {
+        let Ask { kind, channel, value } = self.asks[g as usize];
+        let text = match self.does[g as usize] {
+            Does::Nothing => "ended".into(),
+            Does::Ready => "ready, its ticket on the shelf".into(),
+            Does::Runs => "runs on machine 0".into(),
+            Does::Calls => "in a blocking call of machine 0".into(),
+            Does::Waits { .. } => match kind {
+                ask::SEND | ask::RECV if channel == NIL => "waits on nil".into(),
+                ask::SEND => format!("waits to send {value} on channel {channel}"),
+                ask::RECV => format!("waits to receive from channel {channel}"),
+                ask::SLEEP => format!("sleeps until {value}"),
+                ask::SELECT if value != NEVER => format!("waits in a select until {value}"),
+                ask::SELECT => "waits in a select".into(),
+                _ => "waits for a ready".into(),
+            },
+        };
+        Some(text)
+    }
+
     pub fn hand_out(&mut self) -> bool {
         self.piece = std::mem::take(&mut self.entries);
         self.handed_out += self.piece;
         true
+    }
+
+    pub fn piece_len(&mut self) -> u64 {
+        self.piece
     }
 
     pub fn text(&mut self) -> Option<String> {

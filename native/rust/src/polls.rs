@@ -1,7 +1,7 @@
 //! Polls of goroutines: what one is told goes in, what it asks then comes out.
 use crate::hand::Hand;
 use crate::join::message_of;
-use crate::run::{Bell, Body, Offer, State, Waits};
+use crate::run::{Aim, Bell, Body, Offer, State};
 use crate::words::{ask, woke, Ask, Case, Event};
 use std::panic::{catch_unwind, AssertUnwindSafe, Location};
 use std::sync::atomic::AtomicU64;
@@ -36,7 +36,7 @@ impl State {
         if goroutine.readied == offer.id && offer.ask.kind == ask::PARK {
             offer.ask = Ask::of(ask::YIELD);
         }
-        let made = (offer.ask, std::mem::take(&mut offer.cases));
+        let made = (offer.ask, offer.cases.clone());
         (goroutine.body, goroutine.bell) = (Some(body), Some(bell));
         goroutine.wait = Some(offer);
         made
@@ -102,7 +102,7 @@ impl Hand {
 /// The goroutine awaits a future of another crate: a blocking call, until its waker is called.
 fn foreign(bell: &Bell) -> Offer {
     let kind = if bell.is_rung() { ask::YIELD } else { ask::BLOCK };
-    Offer::of(Ask::of(kind), Waits::Other, Location::caller())
+    Offer::of(Ask::of(kind), Location::caller()).to(Aim::Other)
 }
 
 /// Drops the values of an answer that nobody took.

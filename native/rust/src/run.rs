@@ -4,8 +4,8 @@ use crate::fault::Fault;
 use crate::hand::Hand;
 use crate::parts::Written;
 use crate::random::Random;
-use crate::time::{Clock, Moment};
-use crate::words::{ask, event, woke, Ask, Case, Event, Limits};
+use crate::time::Clock;
+use crate::words::{ask, event, woke, Ask, Case, Event, Limits, NEVER};
 use crate::Core;
 use std::collections::{BTreeMap, BTreeSet};
 use std::future::Future;
@@ -34,16 +34,12 @@ pub(crate) trait Held: Send + Sync {
     fn discard(&self, key: u64);
 }
 
-/// What a goroutine waits for.
-pub(crate) enum Waits {
-    Send(u32),
-    Receive(u32),
-    /// The channels, by whether it sends; and the deadline.
-    Select(Vec<(bool, u32)>, Option<Moment>),
-    Sleep(Moment),
-    Turn,
+/// What a goroutine waits for that the scheduler doesn't know of.
+#[derive(Clone, Copy)]
+pub(crate) enum Aim {
+    /// The end of the goroutine of this number.
     End(u32),
-    Call,
+    /// A future of another crate.
     Other,
 }
 
@@ -58,7 +54,7 @@ pub(crate) struct Offer {
     pub id: u64,
     pub ask: Ask,
     pub cases: Vec<Case>,
-    pub waits: Waits,
+    pub aim: Option<Aim>,
     pub place: Place,
     pub parts: Vec<Part>,
     pub job: Option<Job>,
@@ -66,8 +62,22 @@ pub(crate) struct Offer {
 
 impl Offer {
     /// An ask of nobody's channel.
-    pub fn of(ask: Ask, waits: Waits, place: Place) -> Offer {
-        Offer { id: 0, ask, cases: vec![], waits, place, parts: vec![], job: None }
+    pub fn of(ask: Ask, place: Place) -> Offer {
+        Offer { id: 0, ask, cases: vec![], aim: None, place, parts: vec![], job: None }
+    }
+
+    /// The same, of one that waits for this.
+    pub fn to(self, aim: Aim) -> Offer {
+        Offer { aim: Some(aim), ..self }
+    }
+
+    /// Whether a deadline ends the wait.
+    pub fn has_deadline(&self) -> bool {
+        match self.ask.kind {
+            ask::SLEEP => true,
+            ask::SELECT => self.ask.value != NEVER,
+            _ => false,
+        }
     }
 }
 
@@ -181,10 +191,9 @@ impl State {
 
     /// Hands the history out, and writes it, if the trace is written. Answers whether there was memory to hand it out.
     fn hand_out(&mut self) -> bool {
-        let entries = self.core.entries();
         let is_out = self.core.hand_out();
         if is_out {
-            self.handed_out += entries;
+            self.handed_out += self.core.piece_len();
             if let Some(written) = &mut self.written {
                 written.piece(&mut self.core);
             }
@@ -214,11 +223,6 @@ impl State {
     /// How many entries the run has.
     pub fn entries(&mut self) -> u64 {
         self.handed_out + self.core.entries()
-    }
-
-    /// Whether the history was handed out, so that the core can't tell any more who does what.
-    pub fn is_in_pieces(&self) -> bool {
-        self.handed_out > 0
     }
 }
 

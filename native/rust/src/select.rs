@@ -2,7 +2,7 @@
 use crate::ends::{Receiver, Sender};
 use crate::fault::{Fault, SendError};
 use crate::hand::{Asking, Hand};
-use crate::run::{Offer, Part, Place, Waits};
+use crate::run::{Offer, Part, Place};
 use crate::time::Moment;
 use crate::words::{ask, woke, Ask, Case, Event, MAX_CASES, NEVER, NIL};
 use std::future::Future;
@@ -344,10 +344,8 @@ impl<'a, R: 'a> Select<'a, R> {
 
     fn offer(&mut self, place: Place) -> Offer {
         let (cases, parts): (Vec<_>, Vec<_>) = self.arms.iter_mut().map(|arm| arm.begin()).unzip();
-        let until = self.until.as_ref().map(|(moment, _)| *moment);
-        let named = cases.iter().map(|case| (case.sends, case.channel)).collect();
-        let ask = Ask::on(ask::SELECT, self.default.is_some().into(), until.map_or(NEVER, |m| m.0));
-        let mut offer = Offer::of(ask, Waits::Select(named, until), place);
+        let until = self.until.as_ref().map_or(NEVER, |(moment, _)| moment.0);
+        let mut offer = Offer::of(Ask::on(ask::SELECT, self.default.is_some().into(), until), place);
         (offer.cases, offer.parts) = (cases, parts);
         offer
     }

@@ -3,6 +3,15 @@
 //! Which machine acts next, and which case a select takes, is drawn from the seed. The clock is virtual: it moves to the next
 //! deadline only where nobody can go on, so an hour takes no time. So a run is made again by its seed, as long as what
 //! the goroutines do depends on nothing else: no other clock, no threads, no addresses, no `HashMap` with a random state.
+//!
+//! ```
+//! use kuvendyra::{sim, sleep};
+//! use std::time::Duration;
+//!
+//! let hour = || async { sleep(Duration::from_secs(3600)).await };
+//! assert_eq!(sim::run(5, hour), sim::run(5, hour));
+//! assert_eq!(sim::search(0..10, hour), None);
+//! ```
 use crate::ended::Ended;
 use crate::runtime::{Answer, Builder, Runtime, Traces};
 use std::future::Future;
@@ -70,7 +79,8 @@ impl Found {
 }
 
 /// Runs by one seed after the other, until a run isn't clean: a deadlock, a fault, a panic, an error of main, or a goroutine
-/// that main leaves waiting for good. It prints that seed, and who waits for what; [`Found::save`] writes the trace.
+/// that main leaves waiting for good. It prints that seed, and who waits for what, in the words of `gmp explain`;
+/// [`Found::save`] writes the trace.
 ///
 /// ```
 /// use kuvendyra::{channel, go, sim};

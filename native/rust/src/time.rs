@@ -1,6 +1,5 @@
 //! Moments of a run's clock, and sleep.
 use crate::hand::{Asking, Hand};
-use crate::run::Waits;
 use crate::words::{ask, Ask, LAST};
 use std::fmt;
 use std::future::Future;
@@ -114,7 +113,7 @@ pub fn sleep_until(moment: Moment) -> impl Future<Output = ()> {
 }
 
 async fn sleep_from(moment: Moment, place: &'static Location<'static>) {
-    Asking::of(Ask::with(ask::SLEEP, moment.0), Waits::Sleep(moment), place).await;
+    Asking::of(Ask::with(ask::SLEEP, moment.0), place).await;
 }
 
 /// Lets others go first.
@@ -132,6 +131,6 @@ async fn sleep_from(moment: Moment, place: &'static Location<'static>) {
 pub fn yield_now() -> impl Future<Output = ()> {
     let place = Location::caller();
     async move {
-        Asking::of(Ask::of(ask::YIELD), Waits::Turn, place).await;
+        Asking::of(Ask::of(ask::YIELD), place).await;
     }
 }

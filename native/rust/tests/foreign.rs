@@ -79,5 +79,6 @@ fn one_goroutine_wakes_another_by_its_waker() {
         drunk(Cup::default()).await;
     });
     assert_eq!(ended.outcome, Outcome::Deadlock);
-    assert_eq!(ended.left[0].waits, "for a future that is none of this crate");
+    assert!(ended.left[0].what.starts_with("in a blocking call of machine "), "{ended}");
+    assert_eq!(ended.left[0].besides.as_deref(), Some("a future that is none of this crate"));
 }

@@ -232,3 +232,21 @@ fn a_search_writes_nothing() {
     assert_eq!(builder.search(0..3, || mixed(2)), None);
     assert_eq!(paper.text(), "");
 }
+
+#[test]
+fn who_waits_is_told_of_a_run_in_parts() {
+    // A sender that is there behind the run, so the channel isn't closed in it.
+    let kept = Arc::new(Mutex::new(None));
+    let inside = Arc::clone(&kept);
+    let (ended, _) = written(small(), async move {
+        let (tx, rx) = channel::<u8>(0).unwrap();
+        go(async move { rx.recv().await });
+        for _ in 0..20_000 {
+            yield_now().await;
+        }
+        *inside.lock().unwrap() = Some(tx);
+    });
+    assert!(ended.entries > 20_000 && ended.unwritten.is_none(), "{ended}");
+    let leaks: Vec<&str> = ended.leaks().map(|left| left.what.as_str()).collect();
+    assert_eq!(leaks, ["waits to receive from channel 0"]);
+}

@@ -117,6 +117,22 @@ fn those_who_wait_first_are_served_first() {
 }
 
 #[test]
+fn of_those_who_wait_to_send_the_first_is_received_first() {
+    let ended = Runtime::builder().block_on(async {
+        let (tx, rx) = channel(1).unwrap();
+        for i in 1..=4 {
+            let tx = tx.clone();
+            go(async move { tx.send(i).await });
+            yield_now().await;
+        }
+        for i in 1..=4 {
+            assert_eq!(rx.recv().await, Some(i));
+        }
+    });
+    assert!(ended.is_clean(), "{ended}");
+}
+
+#[test]
 fn what_was_sent_is_received_after_close() {
     clean(|| async {
         let (tx, rx) = channel(2).unwrap();
@@ -161,6 +177,42 @@ fn close_wakes_a_sender_with_a_fault() {
 }
 
 #[test]
+fn close_ends_a_select_by_its_first_case_on_the_channel() {
+    clean(|| async {
+        let ((_a, from_a), (b, from_b)) = (channel::<u8>(0).unwrap(), channel::<u8>(0).unwrap());
+        let other = from_b.clone();
+        let waits = go(async move {
+            let select = Select::new().recv(&from_a, |_| 0).recv(&other, |got| 1 + got.unwrap_or(0));
+            select.recv(&other, |_| 9).wait().await
+        });
+        sleep(Duration::from_millis(1)).await;
+        b.close().unwrap();
+        assert_eq!(waits.await, Ok(1));
+        drop(from_b);
+    });
+}
+
+#[test]
+fn close_tells_a_select_that_waits_to_send_a_fault() {
+    let main = || async {
+        let ((_a, from_a), (b, from_b)) = (channel::<u8>(0).unwrap(), channel(0).unwrap());
+        let other = b.clone();
+        let waits = go(async move {
+            let select = Select::new().recv(&from_a, |_| None).send(&other, 5, |sent| sent.err());
+            select.wait().await.map(|error| (error.value, error.fault))
+        });
+        sleep(Duration::from_millis(1)).await;
+        b.close().unwrap();
+        assert_eq!(waits.await, Ok(Some((5, Fault::SendOnClosed))));
+        drop(from_b);
+    };
+    each(main, |ended| {
+        assert_eq!((ended.outcome, ended.faults.len()), (Outcome::MainEnded, 1), "{ended}");
+        assert!(ended.panics.is_empty(), "{ended}");
+    });
+}
+
+#[test]
 fn faults_are_told_where_go_panics() {
     let main = || async {
         let (tx, _rx) = channel(1).unwrap();
@@ -186,6 +238,11 @@ fn nil_waits_for_good() {
     deadlock(|| async { assert_eq!(nil::<u8>().1.recv().await, None) });
     deadlock(|| async { nil().0.send(1).await.unwrap() });
     deadlock(|| async { Select::new().recv(&nil::<u8>().1, |_| ()).wait().await });
+}
+
+#[test]
+fn nil_has_no_value_and_no_room() {
+    clean(|| async { assert_eq!((nil::<u8>().1.len(), nil::<u8>().1.capacity()), (0, 0)) });
 }
 
 #[test]
@@ -266,6 +323,17 @@ fn a_deadline_ends_a_select() {
 }
 
 #[test]
+fn a_deadline_beside_a_default_has_no_effect() {
+    clean(|| async {
+        let (_tx, rx) = channel::<u8>(0).unwrap();
+        let (begun, late) = (now(), now() + Duration::from_secs(3600));
+        let select = Select::new().recv(&rx, |_| 0).until(late, || 1).or_default(|| 2);
+        assert_eq!(select.wait().await, 2);
+        assert!(now() - begun < Duration::from_secs(60));
+    });
+}
+
+#[test]
 fn a_select_does_not_receive_what_it_sends() {
     deadlock(|| async {
         let (tx, rx) = channel(0).unwrap();
@@ -322,6 +390,16 @@ fn sleepers_wake_by_their_moments() {
             handle.await.unwrap();
         }
         log.is(&[1, 5, 9]);
+    });
+}
+
+#[test]
+fn a_sleep_until_a_moment_that_is_past_ends() {
+    clean(|| async {
+        let begun = now();
+        sleep(Duration::from_millis(2)).await;
+        sleep_until(begun).await;
+        assert!(now() - begun < Duration::from_secs(60));
     });
 }
 
@@ -388,7 +466,8 @@ fn a_deadlock_tells_who_waits() {
         drop(tx);
     });
     assert_eq!(ended.outcome, Outcome::Deadlock);
-    let waits: Vec<&str> = ended.left.iter().map(|left| left.waits.as_str()).collect();
-    assert_eq!(waits, ["for goroutine 1 to end", "to receive from channel 0"]);
+    let what: Vec<&str> = ended.left.iter().map(|left| left.what.as_str()).collect();
+    assert_eq!(what, ["waits for a ready", "waits to receive from channel 0"]);
+    assert_eq!(ended.left[0].besides.as_deref(), Some("the end of goroutine 1"));
     assert!(ended.left[1].started.as_ref().is_some_and(|place| place.contains("rules.rs")));
 }

@@ -29,8 +29,8 @@ fn an_order_of_locks_that_deadlocks_is_found() {
     assert_eq!(again, found.ended);
     let right = found.ended.trace.as_ref().map(|trace| check(trace));
     assert!(right == Some(Ok(())) || cfg!(feature = "mock"), "{right:?}");
-    let waits = |text: &str| again.left.iter().filter(|left| left.waits.starts_with(text)).count();
-    assert_eq!((waits("to send on channel"), waits("for goroutine")), (2, 1));
+    let waits = |text: &str| again.left.iter().filter(|left| left.what.starts_with(text)).count();
+    assert_eq!((waits("waits to send "), waits("waits for a ready")), (2, 1));
 }
 
 #[test]

@@ -285,8 +285,8 @@ fn a_deadlock_is_told() {
             drop(tx);
         });
         assert_eq!(ended.outcome, Outcome::Deadlock, "{ended}");
-        let waits: Vec<&str> = ended.left.iter().map(|left| left.waits.as_str()).collect();
-        assert_eq!(waits, ["for goroutine 1 to end", "to receive from channel 0"]);
+        let what: Vec<&str> = ended.left.iter().map(|left| left.what.as_str()).collect();
+        assert_eq!(what, ["waits for a ready", "waits to receive from channel 0"]);
         judged(&ended);
     }
 }
