@@ -10,14 +10,19 @@
 //! the wrong place: a channel or the clock behind a body, a command before one. A bad line leaves the script as it was; who says so, and
 //! how much is read, is the program's. Limits are not looked at here.
 //!
-//! `lines` reads a line, with `lines/selects` and `lines/clocks`; `commands` is what a body asks, `scripts` the script as a whole.
+//! `lines` reads a line, with `lines/selects` and `lines/clocks`; `commands` is what a body asks, `scripts` the script as a
+//! whole. `misfits` and `strays` tell a person what is wrong with a bad line, and what a good one names that isn't there.
 #![tactic(auto)]
 
 mod commands;
 mod digits;
 mod lines;
+mod misfits;
 mod scripts;
+mod strays;
 
 pub use commands::{Command, ScriptBody};
 pub use digits::number;
+pub use misfits::{Misfit, Operand, misfit_of};
 pub use scripts::Script;
+pub use strays::{Stray, first_stray};

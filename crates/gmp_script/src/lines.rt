@@ -40,7 +40,7 @@ fn words<'a>(alloc: Global, line: &'a [u8]) -> Result<Vec<&'a [u8]>, AllocError>
 }
 
 /// The number that a word writes in 1 to 20 digits.
-fn value(word: &[u8]) -> Option<u64>
+pub(crate) fn value(word: &[u8]) -> Option<u64>
     ensures { result ≡ value word.now }
 {
     if word.len() > 20 {
@@ -50,7 +50,7 @@ fn value(word: &[u8]) -> Option<u64>
 }
 
 /// The number of a goroutine or a channel.
-fn narrow(word: &[u8]) -> Option<u16>
+pub(crate) fn narrow(word: &[u8]) -> Option<u16>
     ensures { result ≡ below 65536 (value word.now) }
 {
     u16::try_from(value(word)?).ok()
@@ -64,21 +64,21 @@ fn goroutine(word: &[u8]) -> Option<GNo>
 }
 
 /// The capacity that a word writes. Whether it is within the limits the opening says.
-fn capacity(word: &[u8]) -> Option<u32>
+pub(crate) fn capacity(word: &[u8]) -> Option<u32>
     ensures { result ≡ capacity word.now }
 {
     u32::try_from(value(word)?).ok()
 }
 
 /// The number of processors that a word writes.
-fn processors(word: &[u8]) -> Option<u8>
+pub(crate) fn processors(word: &[u8]) -> Option<u8>
     ensures { result ≡ processors word.now }
 {
     u8::try_from(value(word)?).ok()
 }
 
 /// The channel that a word names, nil too.
-fn channel(word: &[u8]) -> Option<Option<CNo>>
+pub(crate) fn channel(word: &[u8]) -> Option<Option<CNo>>
     ensures { result ≡ channel word.now }
 {
     if word == b"nil".as_slice() {

@@ -59,11 +59,12 @@ abbrev pub cut : Shape
 cut = command (codes "cut") (numeric (codes "at") 0 18446744073709551615 ∷ [])
 
 abbrev pub explain : Shape
-explain = command (codes "explain") (flag (codes "json") ∷ [])
+explain = command (codes "explain") (flag (codes "json") ∷ flag (codes "all") ∷ [])
 
 abbrev pub draw : Shape
 draw = command (codes "draw")
-    (numeric (codes "from") 0 18446744073709551615 ∷ numeric (codes "to") 0 18446744073709551615 ∷ option (codes "by") ∷ [])
+    (numeric (codes "from") 0 18446744073709551615 ∷ numeric (codes "to") 0 18446744073709551615 ∷ option (codes "by")
+    ∷ flag (codes "perfetto") ∷ [])
 
 abbrev pub explore : Shape
 explore = command (codes "explore")

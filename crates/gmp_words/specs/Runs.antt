@@ -11,7 +11,7 @@ use Rattle.gmp_trace.specs.declared.trace.End.TheVariants.{MainEnded, AllAsleep,
 use Rattle.gmp_trace.specs.Text.{Content, end_of}
 use Rattle.gmp_trace.specs.Text.Begins.{AtOpening}
 use Rattle.gmp_words.specs.declared.ended.Verdict.{Verdict}
-use Rattle.gmp_words.specs.declared.ended.Verdict.TheVariants.{Safe, Deadlock, Fault, Leak, Unknown}
+use Rattle.gmp_words.specs.declared.ended.Verdict.TheVariants.{Safe, Deadlock, Fault, Leak, Stranded, Unknown}
 use Rattle.gmp_words.specs.declared.options.Segments.{Segments}
 use Rattle.gmp_words.specs.declared.options.Settings.{Settings}
 
@@ -37,6 +37,7 @@ status_of_verdict Deadlock = 2
 status_of_verdict Fault = 7
 status_of_verdict Leak = 8
 status_of_verdict Unknown = 9
+status_of_verdict Stranded = 10
 
 -- The trace of a run that was opened with these limits and capacities: its entries are a legal run from the opening state, and its end is
 -- the outcome of the state that they lead to, or says that there is none.

@@ -35,10 +35,10 @@ text_of (NoTrace why) = untraced_text why
 text_of (Usage text) = string_bytes text
 
 -- the program may end so with this status: 0 main ended, the check passed, or no run has what is not wanted, 2 all asleep, 3 book full, 4 no
--- end yet, 7 a fault, 8 a leak, 9 not known; 1 input, output, script or trace, 5 memory, 6 a count of calls that is not that of the history,
--- parts that are no run, a run that is none of the script, or no trace, 64 limits or command line; help that was asked for is 0
+-- end yet, 7 a fault, 8 a leak, 9 not known, 10 main can't end; 1 input, output, script or trace, 5 memory, 6 a count of calls that is not that of
+-- the history, parts that are no run, a run that is none of the script, or no trace, 64 limits or command line; help that was asked for is 0
 abbrev pub goes_with : Said → ℕ → Bool
-goes_with Nothing status = status == 0 || (status == 2 || (status == 3 || (status == 4 || (status == 7 || (status == 8 || status == 9)))))
+goes_with Nothing status = status == 0 || (status == 2 || (status == 3 || (status == 4 || (status == 7 || (status == 8 || (status == 9 || status == 10))))))
 goes_with (BadLine line) status = status == 1
 goes_with (BadTrace bad) status = status == 1
 goes_with (BadPart part bad) status = status == 1

@@ -47,6 +47,7 @@ is_given rows flag = option_map_or (λ text. bytes_eq text (codes "true")) (give
 -- a name of what can be wanted
 abbrev pub is_name : Text → Bool
 is_name name = bytes_eq name (codes "no-deadlock") || bytes_eq name (codes "no-fault") || bytes_eq name (codes "no-leak")
+    || bytes_eq name (codes "main-ends")
 
 -- the names that an option gives, parted by commas, or no-deadlock alone where it isn't given
 abbrev pub names_in : Option Text → List Text
@@ -62,6 +63,7 @@ pub record AreWanted (rows : List Row) (w : Wanted) : Type 0 where
   pub no_deadlock : w.no_deadlock ≡ list_any (λ name. bytes_eq name (codes "no-deadlock")) (names_wanted rows)
   pub no_fault : w.no_fault ≡ list_any (λ name. bytes_eq name (codes "no-fault")) (names_wanted rows)
   pub no_leak : w.no_leak ≡ list_any (λ name. bytes_eq name (codes "no-leak")) (names_wanted rows)
+  pub main_ends : w.main_ends ≡ list_any (λ name. bytes_eq name (codes "main-ends")) (names_wanted rows)
 
 -- what has a lane in a picture, which is a machine where nothing else is named
 abbrev pub by_name : Option Text → Option By
@@ -78,10 +80,11 @@ lanes_by rows = by_name (given rows (codes "by"))
 abbrev pub names_folder : List Row → Bool
 names_folder rows = is_some (given rows (codes "segments"))
 
--- `--room` goes with `--segments` alone, and `--trace` and `--scripted` don't
+-- `--room` goes with `--segments` alone, and `--trace` and `--scripted` don't; nor does `--by` with `--perfetto`
 abbrev pub go_together : List Row → Bool
 go_together rows =
-    (if names_folder rows then not (is_given rows (codes "trace")) && not (is_given rows (codes "scripted"))
+    (if is_given rows (codes "perfetto") && is_some (given rows (codes "by")) then false
+    else if names_folder rows then not (is_given rows (codes "trace")) && not (is_given rows (codes "scripted"))
     else not (is_some (given rows (codes "room"))))
 
 -- the most entries of a history that is kept whole, or of one in segments, of which no more are kept than it may have
@@ -109,7 +112,9 @@ pub record AreGiven (rows : List Row) (s : Settings) : Type 0 where
   pub fair : s.fair ≡ is_given rows (codes "fair")
   pub at : number_given rows (codes "at") 0 ≡ Some s.at
   pub json : s.json ≡ is_given rows (codes "json")
+  pub all : s.all ≡ is_given rows (codes "all")
   pub by : lanes_by rows ≡ Some s.by
+  pub perfetto : s.perfetto ≡ is_given rows (codes "perfetto")
   pub from : number_given rows (codes "from") 0 ≡ Some s.from
   pub to : number_given rows (codes "to") 18446744073709551615 ≡ Some s.to
   pub states : number_given rows (codes "states") 1000000 ≡ Some s.states

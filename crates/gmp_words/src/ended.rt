@@ -41,6 +41,8 @@ pub enum Verdict {
     Fault,
     /// A run leaves a goroutine or a value behind.
     Leak,
+    /// A run comes to where main can't end any more.
+    Stranded,
     /// None of these: there are more states than may be looked at.
     Unknown,
 }
@@ -55,6 +57,7 @@ fn status_of_verdict(verdict: Verdict) -> u8
         Verdict::Fault => 7,
         Verdict::Leak => 8,
         Verdict::Unknown => 9,
+        Verdict::Stranded => 10,
     }
 }
 

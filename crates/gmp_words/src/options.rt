@@ -42,6 +42,8 @@ pub struct Wanted {
     pub no_fault: bool,
     /// Leave a goroutine that waits for good, or a value on a channel, behind at main's end.
     pub no_leak: bool,
+    /// Come to where main can't end any more.
+    pub main_ends: bool,
 }
 
 /// How long a run is whose history is handed out in segments, and how much of it is kept.
@@ -88,8 +90,12 @@ pub struct Settings {
     pub at: u64,
     /// Whether facts are told as one JSON object, and not as lines.
     pub json: bool,
+    /// Whether facts of machines and processors are told too.
+    pub all: bool,
     /// What has a lane in a picture.
     pub by: By,
+    /// Whether the Trace Event format is written, and no picture.
+    pub perfetto: bool,
     /// The first entry of a picture.
     pub from: u64,
     /// The entry before which a picture ends.

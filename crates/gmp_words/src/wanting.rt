@@ -1,11 +1,11 @@
-//! The option `--want`: names of what no run of a script is to do, parted by commas.
+//! The option `--want`: names of what is wanted of all runs of a script, parted by commas.
 
 ghost use Rattle.std.specs.Prelude.{◌≡◌, ◌==◌, IfNone, IfSome, codes, false};
 ghost use Rattle.std.specs.List.{list_all, list_any, slice_split};
 ghost use Rattle.std.specs.Str.{bytes_eq};
 ghost use Rattle.clap.specs.Words.{found_of, rows_of, rule_of};
 ghost use Rattle.gmp_words.specs.Program.{option};
-ghost use Rattle.gmp_words.specs.Words.{AreWanted, is_name};
+ghost use Rattle.gmp_words.specs.Words.{AreWanted, is_name, names_wanted};
 
 use crate::numeric::given;
 use crate::options::Wanted;
@@ -19,6 +19,8 @@ const NO_FAULT: &[u8] = b"no-fault";
 
 const NO_LEAK: &[u8] = b"no-leak";
 
+const MAIN_ENDS: &[u8] = b"main-ends";
+
 /// The option as `clap` has it, which takes any text: the names are parted and judged here.
 pub fn arg<'a>(alloc: Global) -> Arg<'a>
     ensures rule { rule_of result ≡ option (codes "want") }
@@ -28,7 +30,7 @@ pub fn arg<'a>(alloc: Global) -> Arg<'a>
         .long("want")
         .action(ArgAction::Set)
         .help(
-            "What no run is to have, parted by commas: no-deadlock, no-fault, no-leak [default: no-deadlock]",
+            "What is wanted of all runs, parted by commas: no-deadlock, no-fault, no-leak, main-ends [default: no-deadlock]",
         )
 }
 
@@ -36,7 +38,7 @@ pub fn arg<'a>(alloc: Global) -> Arg<'a>
 fn is_name(text: &[u8]) -> bool
     ensures { result ≡ is_name text.now }
 {
-    text == NO_DEADLOCK || text == NO_FAULT || text == NO_LEAK
+    text == NO_DEADLOCK || text == NO_FAULT || text == NO_LEAK || text == MAIN_ENDS
 }
 
 /// Whether each part of the list is such a name.
@@ -53,6 +55,16 @@ fn has(list: &[u8], name: &[u8]) -> bool
     list.split(|byte| *byte == b',').any(|one| one == name)
 }
 
+/// The names that the option gives, parted by commas.
+fn names_of<'a>(matches: &'a ArgMatches) -> &'a [u8]
+    ensures { slice_split (λ b. b == 44) result.now ≡ names_wanted (rows_of (found_of matches.now)) }
+{
+    match given(matches, "want") {
+        Some(names) => names.as_bytes(),
+        None => NO_DEADLOCK,
+    }
+}
+
 /// What the option names.
 ///
 /// None where something is no name of what can be wanted.
@@ -60,10 +72,7 @@ pub fn wanted(matches: &ArgMatches) -> Option<Wanted>
     ensures some { IfSome result (AreWanted (rows_of (found_of matches.now))) }
     ensures none { IfNone result ((w : Wanted) → AreWanted (rows_of (found_of matches.now)) w → ⊥) }
 {
-    let list = match given(matches, "want") {
-        Some(names) => names.as_bytes(),
-        None => NO_DEADLOCK,
-    };
+    let list = names_of(matches);
     if !are_names(list) {
         return None;
     }
@@ -71,5 +80,6 @@ pub fn wanted(matches: &ArgMatches) -> Option<Wanted>
         no_deadlock: has(list, NO_DEADLOCK),
         no_fault: has(list, NO_FAULT),
         no_leak: has(list, NO_LEAK),
+        main_ends: has(list, MAIN_ENDS),
     })
 }

@@ -70,6 +70,8 @@ fn is_given(options: &ArgMatches, flag: &str) -> bool
 struct OfTrace {
     at: u64,
     json: bool,
+    all: bool,
+    perfetto: bool,
     from: u64,
     to: u64,
 }
@@ -80,6 +82,8 @@ struct OfTrace {
 fn of_trace(options: &ArgMatches) -> Option<OfTrace>
     ensures at { IfSome result (λ x. number_given (rows_of (found_of options.now)) (codes "at") 0 ≡ Some x.at) }
     ensures json { IfSome result (λ x. x.json ≡ is_given (rows_of (found_of options.now)) (codes "json")) }
+    ensures all { IfSome result (λ x. x.all ≡ is_given (rows_of (found_of options.now)) (codes "all")) }
+    ensures perfetto { IfSome result (λ x. x.perfetto ≡ is_given (rows_of (found_of options.now)) (codes "perfetto")) }
     ensures from { IfSome result (λ x. number_given (rows_of (found_of options.now)) (codes "from") 0 ≡ Some x.from) }
     ensures to { IfSome result (λ x. number_given (rows_of (found_of options.now)) (codes "to") 18446744073709551615 ≡ Some x.to) }
     ensures none { IfNone result ((s : Settings) → AreGiven (rows_of (found_of options.now)) s → ⊥) }
@@ -87,6 +91,8 @@ fn of_trace(options: &ArgMatches) -> Option<OfTrace>
     Some(OfTrace {
         at: AT.read(options)?,
         json: is_given(options, "json"),
+        all: is_given(options, "all"),
+        perfetto: is_given(options, "perfetto"),
         from: FROM.read(options)?,
         to: TO.read(options)?,
     })
@@ -103,6 +109,9 @@ fn names_folder(options: &ArgMatches) -> bool
 fn go_together(options: &ArgMatches) -> bool
     ensures { result ≡ go_together (rows_of (found_of options.now)) }
 {
+    if is_given(options, "perfetto") && given(options, "by").is_some() {
+        return false;
+    }
     if names_folder(options) {
         !is_given(options, "trace") && !is_given(options, "scripted")
     } else {
@@ -194,7 +203,9 @@ fn settings_of(task: Task, wanted: Wanted, by: By, options: &ArgMatches) -> Opti
         fair: is_given(options, "fair"),
         at: of_trace.at,
         json: of_trace.json,
+        all: of_trace.all,
         by,
+        perfetto: of_trace.perfetto,
         from: of_trace.from,
         to: of_trace.to,
         states: STATES.read(options)? as u32,
@@ -217,7 +228,7 @@ const NO_COMMAND: Refusal = Refusal {
 
 const NO_NAME: Refusal = Refusal {
     kind: ErrorKind::InvalidValue,
-    text: "--want takes no-deadlock, no-fault and no-leak, parted by commas",
+    text: "--want takes no-deadlock, no-fault, no-leak and main-ends, parted by commas",
 };
 
 const NO_LANE: Refusal = Refusal {
@@ -227,7 +238,7 @@ const NO_LANE: Refusal = Refusal {
 
 const APART: Refusal = Refusal {
     kind: ErrorKind::ArgumentConflict,
-    text: "--room goes with --segments, and --trace and --scripted do not",
+    text: "--room goes with --segments, and --trace and --scripted do not; nor does --by with --perfetto",
 };
 
 const NO_NUMBER: Refusal = Refusal {

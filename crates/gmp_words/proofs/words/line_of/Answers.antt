@@ -30,3 +30,14 @@ returns-in_err-settings-clause-err c =
     let refused : (line : Line) → AreSaid (subcommand_rows_of c.args.matches.now) line → ⊥ =
     λ line said. none line.settings (subst (λ (r : List Row). AreGiven r line.settings) rows said.options) in
     search (rules, tests)
+
+pub returns-clause-ok : goal.returns-clause-ok
+returns-clause-ok c =
+    let rows : options_of (subcommand_rows_of c.args.matches.now) ≡ rows_of (found_of c.in-Some.options.now) = search (rules, tests) in
+    let given : AreGiven (rows_of (found_of c.in-Some.options.now)) c.in_ok-settings.settings = search (rules, tests) in
+    record {
+      task = search (rules, tests);
+      options = subst (λ (r : List Row). AreGiven r c.in_ok-settings.settings) (sym rows) given;
+      folder = search (rules, tests);
+      file = search (rules, tests);
+    }
