@@ -194,6 +194,7 @@ impl Stage {
             Verdict::Deadlock => self.outcome() == Some(Outcome::AllAsleep),
             Verdict::Fault => self.ends_in_fault(),
             Verdict::Leak => self.outcome() == Some(Outcome::MainEnded),
+            Verdict::Stranded => self.outcome() == None,
             Verdict::Safe | Verdict::Unknown => false,
         }
     }

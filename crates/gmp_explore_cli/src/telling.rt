@@ -13,19 +13,25 @@ use gmp_script::{Script, ScriptBody};
 use std::alloc::{AllocError, Global};
 use std::fmt;
 
-/// A goroutine that waits at the end, and whether it is left behind.
+/// What a goroutine does at the end, in words, and what it asks.
 #[derive(Clone, Copy)]
-struct Waiting<'a>(GNo, Asking<'a>, bool);
+struct Ending<'a>(GNo, &'static str, Asking<'a>);
 
-impl fmt::Display for Waiting<'_> {
+impl fmt::Display for Ending<'_> {
     fn fmt<W: fmt::Write>(&self, f: &mut fmt::Formatter<W>) -> fmt::Result {
-        let Waiting(g, asking, is_left) = self;
-        let waits = if *is_left {
-            "is left, and waits"
-        } else {
-            "waits"
-        };
-        write!(f, "goroutine {} {waits}: {asking}", g.0)
+        let Ending(g, does, asking) = self;
+        write!(f, "goroutine {} {does}: {asking}", g.0)
+    }
+}
+
+/// What a goroutine that asks something does at such an end, where it waits for good or does not. None where that is not told.
+fn does_at(badness: Badness, waits: bool) -> Option<&'static str> {
+    match badness {
+        Badness::Deadlock => Some("waits"),
+        Badness::Leak if waits => Some("is left, and waits"),
+        Badness::Stranded if waits => Some("waits"),
+        Badness::Stranded => Some("goes on"),
+        Badness::Fault | Badness::Leak => None,
     }
 }
 
@@ -57,6 +63,7 @@ impl fmt::Display for Heading {
             Badness::Deadlock => "deadlock",
             Badness::Fault => "fault",
             Badness::Leak => "leak",
+            Badness::Stranded => "main can't end",
         };
         let (states, steps) = (size.states, size.steps);
         write!(
@@ -83,13 +90,13 @@ impl<'a> Teller<'a> {
         }
     }
 
-    /// Each goroutine that asks something in the scene, where all of them wait, or where those wait that are left behind.
-    fn put_waiting(&mut self, scene: &Scene, is_left: bool) -> Result<(), AllocError> {
+    /// What each goroutine of the scene does that asks something, as far as that is told of such an end.
+    fn put_goroutines(&mut self, scene: &Scene, badness: Badness) -> Result<(), AllocError> {
         for g in 0..self.script.len() {
             let g = goroutine_at(g);
             if let Some(asking) = Asking::of(self.script, scene, g) {
-                if !is_left || is_abandoned(scene, asking) {
-                    self.lines.put(&Waiting(g, asking, is_left))?;
+                if let Some(does) = does_at(badness, is_abandoned(scene, asking)) {
+                    self.lines.put(&Ending(g, does, asking))?;
                 }
             }
         }
@@ -146,10 +153,9 @@ impl<'a> Teller<'a> {
     fn put_end(&mut self, scene: &Scene, badness: Badness) -> Result<(), AllocError> {
         match badness {
             Badness::Fault => self.put_fault(scene),
-            Badness::Deadlock | Badness::Leak => {
-                let is_left = badness == Badness::Leak;
-                self.put_waiting(scene, is_left)?;
-                self.put_channels(scene, is_left)
+            Badness::Deadlock | Badness::Leak | Badness::Stranded => {
+                self.put_goroutines(scene, badness)?;
+                self.put_channels(scene, badness == Badness::Leak)
             }
         }
     }

@@ -74,6 +74,7 @@ fn choose<'a>(
 
 /// Plays what comes behind the path.
 fn end<'a>(
+    alloc: Global,
     script: &'a Script,
     bounds: Bounds,
     found: Verdict,
@@ -85,6 +86,7 @@ fn end<'a>(
     match found {
         Verdict::Deadlock => player.fall_asleep(&script.bodies, scene),
         Verdict::Fault => player.fault(&script.bodies, bounds, scene),
+        Verdict::Stranded => player.stay_behind(alloc, &script.bodies, scene),
         Verdict::Leak | Verdict::Safe | Verdict::Unknown => Ok(()),
     }
 }
@@ -124,7 +126,7 @@ fn lead<'a>(
 {
     let mut scene = Scene::opening(alloc, &script.bodies, &script.capacities)?;
     walk(alloc, script, bounds, found, path, &mut scene, player)?;
-    end(script, bounds, found, &scene, player)
+    end(alloc, script, bounds, found, &scene, player)
 }
 
 /// The run has come to what was found, and is known to be one of the script.
