@@ -1,2 +1,1 @@
 pub mod Position
-pub mod Shown

@@ -1,3 +1,2 @@
 pub mod Svg
 pub mod Position
-pub mod Shown

@@ -3,8 +3,8 @@
 ghost use Rattle.std.specs.Prelude.{◌≡◌, ℕ, ◌≤◌, ◌+◌, ◌-◌};
 ghost use Rattle.gmp_draw.specs.Position.{position};
 
-use crate::range::Range;
 use crate::svg::digits;
+use gmp_lanes::Range;
 
 /// A picture is at least so wide.
 const WIDTH: u64 = 1_280;

@@ -5,23 +5,11 @@ ghost use Rattle.gmp_words.specs.Said.{is_of_check};
 ghost use Rattle.gmp_words.specs.declared.said.Said.TheVariants.{Nothing, OutputFailed};
 
 use crate::drawing::picture;
-use crate::range::Range;
 use gmp_judge::{Progress, right_trace};
-use gmp_trace::Trace;
-use gmp_walk::first_number;
+use gmp_lanes::Range;
 use gmp_words::{By, Ended};
 use std::alloc::Global;
 use std::io::{Read, Write};
-
-/// The entries that are drawn: from this one on to before that, or as many as are drawn where nobody says to which.
-fn range_of(trace: &Trace, from: u64, to: u64) -> Range {
-    let from = from.max(first_number(trace.view().beginning));
-    if to == u64::MAX {
-        Range::beginning_at(from)
-    } else {
-        Range { from, to }
-    }
-}
 
 /// Reads a trace, checks it, and writes the picture of its entries from `from` on to before `to`; where `to` is the greatest number, of
 /// 5,000 at most. A lane is a machine's or a goroutine's. What is told of its progress ends before anything is written.
@@ -51,7 +39,7 @@ pub fn draw<R: Read, W: Write, P: Progress>(
         Ok(trace) => trace,
         Err(ended) => return ended,
     };
-    let range = range_of(&trace, from, to);
+    let range = Range::asked(trace.view().beginning.first_number(), from, to);
     let Ok(svg) = picture(alloc, trace.view(), by, range, &mut ()) else {
         return Ended::out_of_memory();
     };

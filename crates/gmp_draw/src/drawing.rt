@@ -10,33 +10,14 @@ use crate::frame::{open_picture, put_axis, put_heading, put_legend};
 use crate::lanes::{put_arrows, put_blanks, put_lanes, put_spans};
 use crate::layout::Layout;
 use crate::levels::put_channels;
-use crate::machines::shown_machines;
 use crate::moments::put_moments;
 use crate::pen::Pen;
-use crate::range::Range;
 use crate::rows::{Rows, longest_name};
-use crate::scene::Scene;
 use crate::svg::digits;
-use gmp_trace::{Bad, End, TraceView, Watch, Why};
-use gmp_walk::walk;
+use gmp_lanes::{Range, Scene, scene_of};
+use gmp_trace::{Bad, TraceView, Watch, Why};
 use gmp_words::By;
 use std::alloc::{AllocError, Global};
-
-/// Which machines or goroutines have a lane: of goroutines those that did something in the entries that are drawn.
-fn shown(alloc: Global, trace: TraceView, scene: &Scene) -> Result<Vec<bool>, AllocError> {
-    match scene.by {
-        By::Machine => shown_machines(alloc, trace.limits.machines, &scene.acted),
-        By::Goroutine => {
-            let mut shown = vec![in alloc; false; usize::from(trace.bodies)]?;
-            for span in &scene.spans.closed {
-                if let Some(is_shown) = shown.get_mut(usize::from(span.lane)) {
-                    *is_shown = true;
-                }
-            }
-            Ok(shown)
-        }
-    }
-}
 
 /// How many letters the longest name of a machine's or goroutine's lane has.
 fn letters(by: By, bodies: u16) -> u64 {
@@ -44,11 +25,6 @@ fn letters(by: By, bodies: u16) -> u64 {
         By::Machine => 11,
         By::Goroutine => digits(u64::from(bodies)).saturating_add(10),
     }
-}
-
-/// Whether who waits at the end waits for good.
-fn is_over(end: End) -> bool {
-    matches!(end, End::MainEnded | End::AllAsleep)
 }
 
 /// Writes all that is drawn.
@@ -79,22 +55,20 @@ fn put_all(
 }
 
 /// The SVG of what a walk told.
-fn drawn(alloc: Global, trace: TraceView, mut scene: Scene) -> Result<Vec<u8>, AllocError> {
-    scene.spans.finish(scene.told.to, is_over(trace.end))?;
-    scene.channels.finish(scene.told.to)?;
+fn drawn(alloc: Global, trace: TraceView, scene: &Scene) -> Result<Vec<u8>, AllocError> {
     let by = scene.by;
     let has_moments = matches!(by, By::Goroutine) && !scene.moments.list.is_empty();
     let list = &scene.channels.list;
     let layout = Layout {
         by,
         columns: Columns::new(
-            scene.range.and(scene.told),
+            scene.entries(),
             longest_name(letters(by, trace.bodies), list),
         ),
-        rows: Rows::new(alloc, has_moments, &shown(alloc, trace, &scene)?, list)?,
+        rows: Rows::new(alloc, has_moments, &scene.shown(alloc, trace)?, list)?,
     };
     let mut pen = Pen::new(alloc, trace.entries, scene.told.from);
-    put_all(&mut pen, &layout, trace, &scene)?;
+    put_all(&mut pen, &layout, trace, scene)?;
     Ok(pen.finish())
 }
 
@@ -110,16 +84,12 @@ pub fn picture<W: Watch>(
 ) -> Result<Vec<u8>, Bad>
     ensures wrong { IfErr result (λ bad. bad.why ≢ OutOfMemory → IsFirstBad (content_of trace.entry) bad) }
 {
-    let no_memory = Bad {
-        line: 0,
-        why: Why::OutOfMemory,
-    };
-    let Ok(mut scene) = Scene::new(alloc, trace, by, range) else {
-        return Err(no_memory);
-    };
-    walk(alloc, trace, &mut scene, watch)?;
-    match drawn(alloc, trace, scene) {
+    let scene = scene_of(alloc, trace, by, range, watch)?;
+    match drawn(alloc, trace, &scene) {
         Ok(svg) => Ok(svg),
-        Err(_) => Err(no_memory),
+        Err(_) => Err(Bad {
+            line: 0,
+            why: Why::OutOfMemory,
+        }),
     }
 }

@@ -2,15 +2,15 @@
 
 ghost use Rattle.std.specs.Prelude.{◌+◌, ◌*◌, ◌≤◌, ◌↔◌, IsTrue};
 
-use crate::arrows::{Arrow, Spot};
 use crate::colours::{bands, colour, text_on};
 use crate::columns::LETTER;
 use crate::layout::Layout;
+use crate::moments::mark_edges;
 use crate::pen::Pen;
 use crate::rows::{GUTTER, SPAN};
-use crate::spans::{Doing, Reason, Span};
 use crate::svg::{Area, digits, open_text, put_point, put_rect};
 use gmp_base::GNo;
+use gmp_lanes::{Arrow, Doing, Span, Spot};
 use gmp_words::By;
 use std::alloc::AllocError;
 
@@ -71,15 +71,21 @@ pub fn put_blanks(pen: &mut Pen, layout: &Layout, spans: &[Span]) -> Result<(), 
     Ok(())
 }
 
-/// The upper edge of the spans of an arrow's end.
-fn end_of(layout: &Layout, spot: Spot) -> Option<u64> {
-    layout.rows.lane(spot.lane?)
+/// The upper and the lower edge of what an arrow's end stands at: its lane's spans, or the mark of a tick that no goroutine made.
+fn edges_of(layout: &Layout, spot: Spot) -> Option<(u64, u64)> {
+    match spot.lane {
+        Some(lane) => {
+            let y = layout.rows.lane(lane)?;
+            Some((y, y.saturating_add(SPAN)))
+        }
+        None => Some(mark_edges(layout.rows.moments?)),
+    }
 }
 
 /// Arrows from who made a goroutine ready to its claim.
 pub fn put_arrows(pen: &mut Pen, layout: &Layout, arrows: &[Arrow]) -> Result<(), AllocError> {
     for arrow in arrows {
-        let ends = (end_of(layout, arrow.from), end_of(layout, arrow.to));
+        let ends = (edges_of(layout, arrow.from), edges_of(layout, arrow.to));
         if let (Some(from), Some(to)) = ends {
             put_arrow(pen, layout, arrow, from, to)?;
         }
@@ -87,33 +93,25 @@ pub fn put_arrows(pen: &mut Pen, layout: &Layout, arrows: &[Arrow]) -> Result<()
     Ok(())
 }
 
-/// One arrow. It leaves a lane where the other one is, and bends in the room beside the lanes.
+/// One arrow, between what has these edges. It leaves a lane where the other one is, and bends in the room beside the lanes.
 fn put_arrow(
     pen: &mut Pen,
     layout: &Layout,
     arrow: &Arrow,
-    from: u64,
-    to: u64,
+    from: (u64, u64),
+    to: (u64, u64),
 ) -> Result<(), AllocError> {
     let bend = GUTTER * 3 / 4;
     let (x1, x2) = (
         layout.columns.middle(arrow.from.number),
         layout.columns.middle(arrow.to.number),
     );
-    let is_down = from < to;
-    let y1 = if is_down {
-        from.saturating_add(SPAN)
-    } else {
-        from
-    };
-    let y2 = if from > to {
-        to.saturating_add(SPAN)
-    } else {
-        to
-    };
+    let is_down = from.0 < to.0;
+    let y1 = if is_down { from.1 } else { from.0 };
+    let y2 = if from.0 > to.0 { to.1 } else { to.0 };
     let (c1, c2) = if is_down {
         (y1.saturating_add(bend), y2.saturating_sub(bend))
-    } else if from > to {
+    } else if from.0 > to.0 {
         (y1.saturating_sub(bend), y2.saturating_add(bend))
     } else {
         (y1.saturating_sub(bend), y2.saturating_sub(bend))
@@ -153,12 +151,14 @@ pub fn put_spans(pen: &mut Pen, layout: &Layout, spans: &[Span]) -> Result<(), A
 /// What a span is, its entries, and the lines of its first entry and of the goroutine's first call.
 fn put_title(pen: &mut Pen, by: By, span: &Span) -> Result<(), AllocError> {
     pen.put(b"<title>")?;
-    match by {
-        By::Machine => put_done(pen, span.doing)?,
-        By::Goroutine => {
-            pen.put_named(b"goroutine ", u64::from(span.lane))?;
-            put_lived(pen, span.doing)?;
-        }
+    if matches!(by, By::Goroutine) {
+        pen.put_named(b"goroutine ", u64::from(span.lane))?;
+        pen.put(b": ")?;
+    }
+    let words = pen.words(by, span.doing)?;
+    pen.put(words.as_bytes())?;
+    if matches!(span.doing, Doing::Stuck(_)) {
+        pen.put(b", to the end")?;
     }
     let first = span.opening.map(|_| span.entries.from);
     pen.put_entries(first, span.entries.to)?;
@@ -167,34 +167,6 @@ fn put_title(pen: &mut Pen, by: By, span: &Span) -> Result<(), AllocError> {
         pen.put_line(span.call)?;
     }
     pen.put(b"</title>")
-}
-
-/// What a machine does.
-fn put_done(pen: &mut Pen, doing: Doing) -> Result<(), AllocError> {
-    match doing {
-        Doing::Runs(g, _) => pen.put_named(b"goroutine ", u64::from(g.0)),
-        Doing::Calls(g, _) => pen.put_named(b"blocking call of goroutine ", u64::from(g.0)),
-        Doing::Spins => pen.put(b"spinning"),
-        _ => pen.put(b"parked"),
-    }
-}
-
-/// What a goroutine does, in the words of `gmp explain`.
-fn put_lived(pen: &mut Pen, doing: Doing) -> Result<(), AllocError> {
-    match doing {
-        Doing::Runs(_, m) => pen.put_named(b": runs on machine ", u64::from(m.0)),
-        Doing::Calls(_, m) => pen.put_named(b": in a blocking call of machine ", u64::from(m.0)),
-        Doing::Waits(reason) => {
-            pen.put(b": ")?;
-            pen.put_reason(reason)
-        }
-        Doing::Stuck(reason) => {
-            pen.put(b": ")?;
-            pen.put_reason(reason)?;
-            pen.put(b", to the end")
-        }
-        _ => pen.put(b": ready"),
-    }
 }
 
 /// The shape of a span.
@@ -212,15 +184,15 @@ fn put_span(pen: &mut Pen, by: By, span: &Span, area: Area) -> Result<(), AllocE
         Doing::Spins => put_rect(&mut pen.out, b"s", thin(area)),
         Doing::Parked => put_rect(&mut pen.out, b"q", area),
         Doing::Ready => put_rect(&mut pen.out, b"y", thin(area)),
-        Doing::Waits(reason) => put_waiting(pen, b"u", reason, area),
-        Doing::Stuck(reason) => put_waiting(pen, b"z", reason, area),
+        Doing::Waits(_) => put_waiting(pen, b"u", span.doing, area),
+        Doing::Stuck(_) => put_waiting(pen, b"z", span.doing, area),
     }
 }
 
 /// A goroutine that waits, and for what, where that fits.
-fn put_waiting(pen: &mut Pen, class: &[u8], reason: Reason, area: Area) -> Result<(), AllocError> {
+fn put_waiting(pen: &mut Pen, class: &[u8], doing: Doing, area: Area) -> Result<(), AllocError> {
     put_rect(&mut pen.out, class, area)?;
-    let words = pen.words(reason)?;
+    let words = pen.words(By::Goroutine, doing)?;
     if fits(words.len() as u64, area.width) {
         open_label(pen, b"g", area)?;
         pen.put(words.as_bytes())?;

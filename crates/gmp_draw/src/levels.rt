@@ -2,11 +2,11 @@
 
 ghost use Rattle.std.specs.Prelude.{◌≤◌};
 
-use crate::channels::{Channel, Channels, Event, Happening, Level};
 use crate::layout::Layout;
 use crate::pen::Pen;
 use crate::rows::LEVELS;
 use crate::svg::{Area, open_text, put_point, put_rect};
+use gmp_lanes::{Channel, Channels, Event, Happening, Level};
 use std::alloc::AllocError;
 
 /// The lanes of the channels.
@@ -19,7 +19,9 @@ pub fn put_channels(pen: &mut Pen, layout: &Layout, channels: &Channels) -> Resu
     for level in &channels.levels {
         let c = usize::from(level.channel.0);
         if let (Some(y), Some(channel)) = (layout.rows.channel(c), channels.list.get(c)) {
-            put_level(pen, layout, level, u64::from(channel.capacity), y)?;
+            if level.values > 0 {
+                put_level(pen, layout, level, u64::from(channel.capacity), y)?;
+            }
         }
     }
     for event in &channels.events {

@@ -1,11 +1,10 @@
 //! Who writes the picture: `Pen` has the bytes so far, and the entries that titles cite.
 
-use crate::spans::Reason;
 use crate::svg::{put, put_escaped, put_number};
 use gmp_history::History;
-use gmp_seq::Status;
+use gmp_lanes::Doing;
 use gmp_trace::{call_name, call_place, put_entry};
-use gmp_waits::Doing;
+use gmp_words::By;
 use std::alloc::{AllocError, Global};
 
 /// The picture as far as it is written.
@@ -48,16 +47,12 @@ impl<'a> Pen<'a> {
         self.put_number(n)
     }
 
-    /// What a goroutine waits for, in words.
-    pub fn words(&self, reason: Reason) -> Result<String, AllocError> {
-        let waits = Status::Waiting(reason.wait());
-        format!(in self.alloc; "{}", Doing(&waits))
-    }
-
-    /// Writes that.
-    pub fn put_reason(&mut self, reason: Reason) -> Result<(), AllocError> {
-        let words = self.words(reason)?;
-        self.put(words.as_bytes())
+    /// What a machine or goroutine does, in words.
+    pub fn words(&self, by: By, doing: Doing) -> Result<String, AllocError> {
+        match by {
+            By::Machine => doing.of_machine(self.alloc),
+            By::Goroutine => doing.of_goroutine(self.alloc),
+        }
     }
 
     /// Writes a line feed and the line of an entry, where there is one.

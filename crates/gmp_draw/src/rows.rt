@@ -1,7 +1,7 @@
 //! Where lanes are from top to bottom: one for each machine or goroutine, and below them one for each channel.
 
-use crate::channels::Channel;
 use crate::svg::digits;
+use gmp_lanes::Channel;
 use std::alloc::{AllocError, Global};
 
 /// Where the lanes begin.

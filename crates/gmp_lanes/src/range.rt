@@ -1,9 +1,9 @@
-//! Which entries are drawn.
+//! Which entries are shown.
 
 ghost use Rattle.std.specs.Prelude.{◌≡◌, ◌+◌, ◌-◌, ◌^◌, ◌<◌, ◌≤◌, ◌↔◌, IsTrue, IfSome, IfNone, min, max};
 
-/// So many entries are drawn at most, where nobody says which.
-pub const MOST: u64 = 5_000;
+/// So many entries are shown at most, where nobody says which.
+const MOST: u64 = 5_000;
 
 /// Entries by their numbers in the run.
 #[derive(Clone, Copy)]
@@ -15,14 +15,20 @@ pub struct Range {
 }
 
 impl Range {
-    /// As many as are drawn at most, from this one on.
-    pub fn beginning_at(first: u64) -> Self
-        ensures { result ≡ record { from = first; to = min (first + 5000) (2 ^ 64 - 1) } }
+    /// Those that are asked for of a trace whose first entry has this number: from this one on to before that, or as many as are shown
+    /// at most where nobody says to which, by the greatest number.
+    pub fn asked(first: u64, from: u64, to: u64) -> Self
+        ensures from { result.from ≡ max from first }
+        ensures to { to < 2 ^ 64 - 1 → result.to ≡ to }
+        ensures most { to ≡ 2 ^ 64 - 1 → result.to ≡ min (max from first + 5000) (2 ^ 64 - 1) }
     {
-        Range {
-            from: first,
-            to: first.saturating_add(MOST),
-        }
+        let from = from.max(first);
+        let to = if to == u64::MAX {
+            from.saturating_add(MOST)
+        } else {
+            to
+        };
+        Range { from, to }
     }
 
     /// Whether an entry is one of them.

@@ -4,7 +4,7 @@ ghost use Rattle.std.specs.Prelude.{◌≡◌, OnOk};
 
 use crate::range::Range;
 use gmp_base::{GNo, MNo};
-use gmp_seq::{Call, Kind, Offer, Offers, Wait};
+use gmp_seq::{Call, Kind, Offer};
 use std::alloc::{AllocError, Global};
 
 /// What a goroutine waits for: as much of a `Wait` as its words say.
@@ -67,31 +67,6 @@ pub fn is_asked(call: &Call) -> bool {
     }
 }
 
-impl Reason {
-    /// That of a wait.
-    pub fn of(wait: &Wait) -> Self {
-        Reason {
-            kind: wait.kind,
-            offer: wait.offers.as_slice().first().copied(),
-            until: wait.until,
-        }
-    }
-
-    /// A wait with the same words.
-    pub fn wait(self) -> Wait {
-        let mut offers = Offers::new();
-        if let Some(offer) = self.offer {
-            offers.push(offer);
-        }
-        Wait {
-            arrival: 0,
-            kind: self.kind,
-            offers,
-            until: self.until,
-        }
-    }
-}
-
 impl Span {
     /// One that begins before this entry.
     pub fn new(lane: u16, doing: Doing, from: u64, opening: Option<u64>) -> Self
@@ -142,7 +117,7 @@ impl Spans {
         }
     }
 
-    /// Keeps a span that ends before this entry, if a part of it is drawn.
+    /// Keeps a span that ends before this entry, if a part of it is shown.
     pub fn keep(&mut self, span: Option<Span>, to: u64) -> Result<(), AllocError>
         ensures current { OnOk result (self.new.current.items ≡ self.old.current.items) }
     {

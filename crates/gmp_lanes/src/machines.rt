@@ -118,7 +118,7 @@ impl Spans {
     }
 }
 
-/// Which of so many machines have a lane, where these have an entry that is drawn.
+/// Which of so many machines have a lane, where these have an entry that is shown.
 pub fn shown_machines(
     alloc: Global,
     machines: u8,

@@ -215,14 +215,14 @@ impl Channels {
         Ok(())
     }
 
-    /// Ends the level of a channel before an entry. It is kept if a part of it is drawn, and no level of 0.
+    /// Ends the level of a channel before an entry. It is kept if a part of it is shown.
     fn end_level(&mut self, channel: CNo, to: u64) -> Result<(), AllocError> {
         if let Some(now) = self.list.get(usize::from(channel.0)) {
             let entries = Range {
                 from: now.since,
                 to,
             };
-            if now.values > 0 && !entries.and(self.range).is_empty() {
+            if !entries.and(self.range).is_empty() {
                 self.levels.push(Level {
                     channel,
                     values: now.values,
@@ -234,7 +234,7 @@ impl Channels {
         Ok(())
     }
 
-    /// Notes an event, if its entry is drawn.
+    /// Notes an event, if its entry is shown.
     fn note(&mut self, channel: CNo, number: u64, happening: Happening) -> Result<(), AllocError> {
         if self.range.contains(number) {
             self.events.push(Event {

@@ -1,6 +1,6 @@
 use Rattle.std.proofs.Common.{◌≤◌, length}
-use Rattle.gmp_draw.specs.Shown.{AreShown}
-use Rattle.gmp_draw.proofs.spans.Spans.hear_goroutines.Given as goal
+use Rattle.gmp_lanes.specs.Shown.{AreShown}
+use Rattle.gmp_lanes.proofs.spans.Spans.hear_goroutines.Given as goal
 
 -- the goroutines so far are on their lanes
 abbrev pub invariant-loop-g : goal.invariant-loop-g

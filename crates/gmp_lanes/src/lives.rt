@@ -1,7 +1,7 @@
 //! What each goroutine does from its start to its end, as a walk tells it.
 
 ghost use Rattle.std.specs.Prelude.{◌≡◌, ◌≤◌, ◌<◌, ◌^◌, ℕ, None, true, OnOk, get_or, length};
-ghost use Rattle.gmp_draw.specs.Shown.{AreShown, shows};
+ghost use Rattle.gmp_lanes.specs.Shown.{AreShown, shows};
 
 use crate::spans::{Doing, Reason, Span, Spans, is_asked};
 use gmp_base::GNo;

@@ -3,9 +3,9 @@ use Rattle.std.specs.Prelude.{◌≡◌, ◌<◌, ◌^◌, ◌==◌, ◌&&◌, �
 use Rattle.gmp_seq.specs.declared.status.Goroutine.{Goroutine}
 use Rattle.gmp_seq.specs.declared.status.Status.{Status}
 use Rattle.gmp_seq.specs.declared.status.Status.TheVariants as status
-use Rattle.gmp_draw.specs.declared.spans.Doing.{Doing}
-use Rattle.gmp_draw.specs.declared.spans.Doing.TheVariants as doing
-use Rattle.gmp_draw.specs.declared.spans.Span.{Span}
+use Rattle.gmp_lanes.specs.declared.spans.Doing.{Doing}
+use Rattle.gmp_lanes.specs.declared.spans.Doing.TheVariants as doing
+use Rattle.gmp_lanes.specs.declared.spans.Span.{Span}
 
 -- goroutine g, which is not over, does this
 abbrev pub does : ℕ → Doing → Status → Bool

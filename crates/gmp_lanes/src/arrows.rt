@@ -72,7 +72,7 @@ impl Arrows {
     }
 
     /// Whether both ends are among the entries. A goroutine that made itself ready has no arrow on its own lane.
-    fn is_drawn(&self, from: Spot, to: Spot) -> bool {
+    fn is_shown(&self, from: Spot, to: Spot) -> bool {
         let is_own = matches!(self.by, By::Goroutine) && from.lane == to.lane;
         !is_own && self.range.contains(from.number) && self.range.contains(to.number)
     }
@@ -87,7 +87,7 @@ impl Arrows {
         if let Some(source) = self.sources.get_mut(usize::from(g.0)) {
             if let Some(from) = *source {
                 *source = None;
-                if self.is_drawn(from, to) {
+                if self.is_shown(from, to) {
                     self.closed.push(Arrow { g, from, to })?;
                 }
             }

@@ -1,7 +1,7 @@
 use Rattle.std.proofs.Common.{◌≡◌, Some, arith, length, refl, slice_get}
 use Rattle.std.proofs.lemmas.Option.{slice_get_read}
-use Rattle.gmp_draw.proofs.Shown.{shown_more}
-use Rattle.gmp_draw.proofs.spans.Spans.hear_goroutines.Goals as goal
+use Rattle.gmp_lanes.proofs.Shown.{shown_more}
+use Rattle.gmp_lanes.proofs.spans.Spans.hear_goroutines.Goals as goal
 
 pub loop-g-preserved : goal.loop-g-preserved
 loop-g-preserved c =

@@ -2,8 +2,8 @@
 use Rattle.std.proofs.Common.{◌≡◌, ◌∙◌, ◌+◌, ◌^◌, ◌<◌, ℕ, true, inl, inr, List, None, Option, Some, ap, arith, get_or, slice_get, subst, sym}
 use Rattle.std.proofs.lemmas.Bool.{cases_lt}
 use Rattle.gmp_seq.specs.declared.status.Goroutine.{Goroutine}
-use Rattle.gmp_draw.specs.declared.spans.Span.{Span}
-use Rattle.gmp_draw.specs.Shown.{AreShown, shows}
+use Rattle.gmp_lanes.specs.declared.spans.Span.{Span}
+use Rattle.gmp_lanes.specs.Shown.{AreShown, shows}
 
 some_one : {A : Type 0} (a b : A) → Some a ≡ Some b → a ≡ b
 some_one a b same = cc
