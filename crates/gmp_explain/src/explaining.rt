@@ -63,7 +63,12 @@ fn tell_next<S: Sink>(
 }
 
 /// The facts of a right trace, or why the first wrong line of another is wrong.
-fn tell<S: Sink>(alloc: Global, judgement: &Judgement, sink: &mut S) -> Result<(), OutOfMemory>
+fn tell<S: Sink>(
+    alloc: Global,
+    all: bool,
+    judgement: &Judgement,
+    sink: &mut S,
+) -> Result<(), OutOfMemory>
     ensures right { OnOk result (judgement.now.wrong ≡ None → TellsState S.told (content judgement.now.trace) sink.old sink.new) }
     ensures riddle { OnOk result ((bad : Bad) → judgement.now.wrong ≡ Some bad → bad.why ≡ why.Step → TellsRiddle S.told (content judgement.now.trace) sink.old sink.new) }
     ensures leads { OnOk result ((bad : Bad) → judgement.now.wrong ≡ Some bad → bad.why ≡ why.Outcome → TellsEnd S.told (content judgement.now.trace) sink.old sink.new) }
@@ -72,7 +77,7 @@ fn tell<S: Sink>(alloc: Global, judgement: &Judgement, sink: &mut S) -> Result<(
         return Err(OutOfMemory);
     };
     match judgement.wrong {
-        None => Ok(tell_story(alloc, &story, sink)?),
+        None => Ok(tell_story(alloc, all, &story, sink)?),
         Some(bad) if bad.why == Why::Step => tell_next(alloc, &judgement.trace, &story, sink),
         Some(_) => Ok(sink.tell(&Fact::Leads(End::of(story.replay.outcome())))?),
     }
@@ -88,8 +93,8 @@ fn has_facts(judgement: &Judgement) -> bool
     }
 }
 
-/// The facts, as lines or as one JSON object.
-fn facts(alloc: Global, json: bool, judgement: &Judgement) -> Result<String, OutOfMemory>
+/// The facts, as lines or as one JSON object; with `all` also those of machines and processors.
+fn facts(alloc: Global, json: bool, all: bool, judgement: &Judgement) -> Result<String, OutOfMemory>
     ensures told { IfOk result (λ text. json ≡ false → judgement.now.wrong ≡ None → TellsTrace (content judgement.now.trace) (string_bytes text)) }
     ensures riddle { IfOk result (λ text. json ≡ false → (bad : Bad) → judgement.now.wrong ≡ Some bad → bad.why ≡ why.Step
         → SaysRiddle (content judgement.now.trace) (string_bytes text)) }
@@ -102,16 +107,16 @@ fn facts(alloc: Global, json: bool, judgement: &Judgement) -> Result<String, Out
     }
     if json {
         let mut object = Json::new(alloc);
-        tell(alloc, judgement, &mut object)?;
+        tell(alloc, all, judgement, &mut object)?;
         return Ok(object.text()?);
     }
     let mut lines = Lines::new(alloc);
-    tell(alloc, judgement, &mut lines)?;
+    tell(alloc, all, judgement, &mut lines)?;
     Ok(lines.text)
 }
 
 /// How it ends on a trace, and the facts. A wrong line is named even where there is no memory to say why it is wrong.
-fn explain_trace(alloc: Global, json: bool, judgement: &Judgement) -> Explained
+fn explain_trace(alloc: Global, json: bool, all: bool, judgement: &Judgement) -> Explained
     ensures said { (result.ended.said ≡ said_of judgement.now.wrong) ⊎ (result.ended.said ≡ said.OutOfMemory) }
     ensures status { result.ended.status ≡ 0 ↔ result.ended.said ≡ Nothing }
     ensures there { result.ended.said ≡ Nothing → IsOk result.facts }
@@ -122,7 +127,7 @@ fn explain_trace(alloc: Global, json: bool, judgement: &Judgement) -> Explained
         → SaysEnd (content judgement.now.trace) (string_bytes text)) }
     ensures none { IfOk result.facts (λ text. has_facts result.ended.said ≡ false → string_bytes text ≡ []) }
 {
-    let facts = facts(alloc, json, judgement);
+    let facts = facts(alloc, json, all, judgement);
     let ended = match (judgement.wrong, &facts) {
         (Some(bad), _) => Ended::bad_trace(bad),
         (None, Ok(_)) => Ended::passed(),
@@ -131,7 +136,7 @@ fn explain_trace(alloc: Global, json: bool, judgement: &Judgement) -> Explained
     Explained { ended, facts }
 }
 
-/// Reads a trace, checks it, and tells its facts, as lines or as one JSON object.
+/// Reads a trace, checks it, and tells its facts, as lines or as one JSON object; with `all` also how many entries each machine and processor has.
 ///
 /// It ends as `check` does, but for the output, which it doesn't write: the facts of a right trace, and those that say why a step or an end
 /// is none, are to be written behind what is said of the end. What is told of its progress ends before that.
@@ -140,6 +145,7 @@ fn explain_trace(alloc: Global, json: bool, judgement: &Judgement) -> Explained
 pub fn explain<R: Read, P: Progress>(
     alloc: Global,
     json: bool,
+    all: bool,
     reader: &mut R,
     progress: &mut P,
 ) -> Explained
@@ -166,7 +172,7 @@ pub fn explain<R: Read, P: Progress>(
     ensures says { SaysOfTrace (R.remaining reader.old) result.ended.said }
 {
     match read_trace(alloc, reader, progress) {
-        Ok(judgement) => explain_trace(alloc, json, &judgement),
+        Ok(judgement) => explain_trace(alloc, json, all, &judgement),
         Err(ended) => Explained {
             ended,
             facts: Ok(String::new(alloc)),

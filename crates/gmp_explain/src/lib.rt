@@ -1,6 +1,6 @@
 //! What a trace tells of its run, in words: how it ended; what each goroutine does and since when; of each channel that somebody waits on or
-//! that holds values what it is, its values, who waits, and who ever dealt on it; who waits for whom in a circle; what each machine and processor
-//! did. Of an entry that is no step of the scheduler it says what was before it, and which replies are allowed there, or what is missing.
+//! that holds values what it is, its values, who waits, and who ever dealt on it; who waits for whom in a circle; with
+//! `--all` what each machine and processor did. Of an entry that is no step of the scheduler it says what was before it, and which replies are allowed there, or what is missing.
 //!
 //! **Invariant**: the text is the lines of the facts that are told, one after another, each in its own words (`Lines`: `told`). Some facts are
 //! remarks on a state or on an entry that is no step (`remark`), and of these the text has, in order, just what is to be said. Of the state to

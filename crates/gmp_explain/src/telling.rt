@@ -1,5 +1,5 @@
-//! The facts of a story, in order: the end, each goroutine, each channel that somebody waits on or that holds values, cycles, machines,
-//! processors, and the longest way of a ticket.
+//! The facts of a story, in order: the end, each goroutine, each channel that somebody waits on or that holds values, cycles, machines
+//! and processors where all is told, and the longest way of a ticket.
 ghost use Rattle.std.specs.Prelude.{◌≡◌, ◌<◌, ◌^◌, [], None, OnOk, length};
 ghost use Rattle.gmp_start.specs.Start.{state_of, table_of};
 ghost use Rattle.gmp_explain.specs.Spoken.{TellsOf};
@@ -115,24 +115,50 @@ fn tell_counts<S: Sink>(
     Ok(())
 }
 
-/// Machines, processors, and the longest way of a ticket.
-fn tell_units<S: Sink>(alloc: Global, heard: &Heard, sink: &mut S) -> Result<(), AllocError>
+/// Machines and processors, where all is told.
+fn tell_callers<S: Sink>(
+    alloc: Global,
+    all: bool,
+    heard: &Heard,
+    sink: &mut S,
+) -> Result<(), AllocError>
     ensures { OnOk result (TellsOf S.told [] sink.old sink.new) }
 {
+    if !all {
+        return Ok(());
+    }
     for (m, counts) in heard.machines.iter().enumerate() {
         tell_counts(alloc, Caller::Machine(machine_at(m)), counts, sink)?;
     }
     for (p, counts) in heard.processors.iter().enumerate() {
         tell_counts(alloc, Caller::Processor(processor_at(p)), counts, sink)?;
     }
+    Ok(())
+}
+
+/// Machines and processors where all is told, and the longest way of a ticket.
+fn tell_units<S: Sink>(
+    alloc: Global,
+    all: bool,
+    heard: &Heard,
+    sink: &mut S,
+) -> Result<(), AllocError>
+    ensures { OnOk result (TellsOf S.told [] sink.old sink.new) }
+{
+    tell_callers(alloc, all, heard, sink)?;
     match heard.longest {
         Some(way) => sink.tell(&Fact::Longest(way)),
         None => Ok(()),
     }
 }
 
-/// All facts of the story: what is to be said of the state, and what was heard of the past.
-pub fn tell_story<S: Sink>(alloc: Global, story: &Story, sink: &mut S) -> Result<(), AllocError>
+/// The facts of the story: what is to be said of the state, and what was heard of the past, of machines and processors where all is told.
+pub fn tell_story<S: Sink>(
+    alloc: Global,
+    all: bool,
+    story: &Story,
+    sink: &mut S,
+) -> Result<(), AllocError>
     requires few { length story.now.last.goroutines.items < 2 ^ 16 }
     requires same { state_of story.now.last ≡ record story.now.replay.state { outcome = None } }
     ensures { OnOk result (TellsOf S.told (state_said story.now.steps story.now.replay.state) sink.old sink.new) }
@@ -145,5 +171,5 @@ pub fn tell_story<S: Sink>(alloc: Global, story: &Story, sink: &mut S) -> Result
     tell_goroutines(story, sink)?;
     tell_channels(alloc, story, sink)?;
     tell_cycles(alloc, story, sink)?;
-    tell_units(alloc, &story.heard, sink)
+    tell_units(alloc, all, &story.heard, sink)
 }

@@ -1,6 +1,6 @@
 use Rattle.std.proofs.Common.{[]}
 use Rattle.gmp_explain.specs.Spoken.{TellsOf}
-use Rattle.gmp_explain.proofs.telling.tell_units.Given as goal
+use Rattle.gmp_explain.proofs.telling.tell_callers.Given as goal
 
 -- nothing of what goroutines do was told so far
 abbrev pub invariant-loop-m : goal.invariant-loop-m
