@@ -15,6 +15,8 @@ pub struct Folder<'a, R: Files> {
     name: &'a str,
     /// That of the part that was begun last.
     part: Option<R::File>,
+    /// What the error was, if a file could not be made.
+    pub failed: Option<ErrorKind>,
 }
 
 impl<'a, R: Files> Folder<'a, R> {
@@ -25,6 +27,7 @@ impl<'a, R: Files> Folder<'a, R> {
             alloc,
             name,
             part: None,
+            failed: None,
         }
     }
 }
@@ -48,7 +51,15 @@ impl<R: Files> Write for Folder<'_, R> {
 impl<R: Files> Outlet for Folder<'_, R> {
     fn begin(&mut self, number: u64) -> io::Result<()> {
         let path = format!(in self.alloc; "{}/part-{number:09}.trace", self.name)?;
-        self.part = Some(fs::create(self.files, path.as_str())?);
-        Ok(())
+        match fs::create(self.files, path.as_str()) {
+            Ok(file) => {
+                self.part = Some(file);
+                Ok(())
+            }
+            Err(error) => {
+                self.failed = Some(error.kind());
+                Err(error)
+            }
+        }
     }
 }
