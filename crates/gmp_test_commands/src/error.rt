@@ -20,6 +20,8 @@ pub enum PlayError {
     Counts(usize),
     #[error("it tells of its progress {0}")]
     Tells(String),
+    #[error("at a terminal it tells besides {0}")]
+    Tips(String),
     #[error("it ends otherwise where a read behind {0} bytes fails")]
     Reads(usize),
     #[error("it ends otherwise where there is room for {0} bytes")]

@@ -2,9 +2,10 @@
 
 use crate::block::{Block, Printed};
 use crate::error::PlayError;
-use crate::running::{Ran, run_on};
+use crate::running::{Ran, run_on, settings_of};
 use crate::streams::{Pieces, Room};
 use crate::words::{first, range};
+use gmp_words::tip_of;
 use std::alloc::{AllocError, Global};
 
 /// A command that was run.
@@ -47,6 +48,7 @@ pub fn holds(played: &Played, line: &str) -> Result<(), PlayError> {
             rest,
         ),
         "tells" => played.tells(rest),
+        "tips" => played.tips(rest),
         _ => Err(PlayError::Unreadable),
     }
 }
@@ -104,6 +106,21 @@ impl Played<'_> {
             Ok(())
         } else {
             Err(PlayError::Tells(String::from_str(self.alloc, told)?))
+        }
+    }
+
+    /// A person at a terminal is told this besides, without the spaces before it.
+    fn tips(&self, rest: &str) -> Result<(), PlayError> {
+        let Ok(settings) = settings_of(self.alloc, self.command) else {
+            return Err(PlayError::Unreadable);
+        };
+        let tip = tip_of(self.alloc, &settings, &self.ran.end, self.input);
+        let text = format!(in self.alloc; "{tip}")?;
+        let text = text.trim();
+        if text == rest {
+            Ok(())
+        } else {
+            Err(PlayError::Tips(String::from_str(self.alloc, text)?))
         }
     }
 

@@ -12,7 +12,7 @@ use crate::words::{first, range, words_of};
 use gmp_check_cli::{check, cut};
 use gmp_cli::step;
 use gmp_join_cli::join;
-use gmp_words::{Ended, MAX_TRACE, Task, command_line, input};
+use gmp_words::{Ended, MAX_TRACE, Said, Settings, Task, command_line, input};
 use std::alloc::{AllocError, Global};
 use std::io::Write;
 
@@ -22,6 +22,8 @@ pub struct Ran {
     pub status: u8,
     /// The text, which is empty where nothing is wrong.
     pub said: String,
+    /// What it is of.
+    pub end: Said,
     pub written: Vec<u8>,
     /// What it told of its progress.
     pub told: String,
@@ -42,9 +44,11 @@ pub fn run_on(
         Err(ended) => ended,
     };
     let Room { written, .. } = output;
+    let Ended { status, said, .. } = ended;
     Ok(Ran {
-        status: ended.status,
-        said: format!(in alloc; "{}", ended.said)?,
+        status,
+        said: format!(in alloc; "{said}")?,
+        end: said,
         written,
         told: notes.text(alloc, bytes)?,
     })
@@ -89,6 +93,12 @@ fn ended(
     }
 }
 
+/// The settings of a command of `gmp`.
+pub fn settings_of(alloc: Global, command: &str) -> Result<Settings, Ended> {
+    let words = words_of(alloc, command)?;
+    Ok(command_line(alloc, &words)?.settings)
+}
+
 /// How a command of `gmp` ends.
 fn by_line(
     alloc: Global,
@@ -97,8 +107,7 @@ fn by_line(
     output: &mut Room,
     notes: &mut Notes,
 ) -> Result<Ended, Ended> {
-    let words = words_of(alloc, command)?;
-    let settings = command_line(alloc, &words)?.settings;
+    let settings = settings_of(alloc, command)?;
     match settings.task {
         Task::Step => Ok(step(alloc, &settings, reader, output)),
         Task::Check => Ok(check(alloc, reader, output, notes)),
@@ -121,6 +130,7 @@ fn prints(
         "settings" => lines::settings(alloc, rest, out),
         "refused" => lines::refused(alloc, rest, text, out),
         "script" => lines::script(alloc, text, out),
+        "misfits" => lines::misfits(alloc, rest, text, out),
         "joined" => traces::joined(alloc, text, out),
         "thirds" => thirds::thirds(alloc, text, out),
         "replay" => replays::replay(alloc, text, out),

@@ -191,7 +191,7 @@ fn held<R: Threads + Wait + Sync>(rt: &R, alloc: Global, output: &mut &mut [u8])
 
 /// What `explain` tells goes to `output`.
 fn told(alloc: Global, output: &mut &mut [u8]) -> Ended {
-    let explained = explain(alloc, false, &mut TRACE.as_bytes(), &mut ());
+    let explained = explain(alloc, false, true, &mut TRACE.as_bytes(), &mut ());
     match output.write_all(explained.text().as_bytes()) {
         Ok(()) => explained.ended,
         Err(_) => Ended::output_failed(),

@@ -5,6 +5,7 @@ use gmp_cli::step;
 use gmp_draw::draw;
 use gmp_explain::explain;
 use gmp_explore_cli::explore;
+use gmp_perfetto::perfetto;
 use gmp_words::{By, Said, Settings, command_line};
 use std::alloc::{AllocError, Global};
 
@@ -69,9 +70,9 @@ pub fn checked(alloc: Global, trace: &[u8]) -> Result<Ran, AllocError> {
     done(alloc, written, ended.status, &ended.said)
 }
 
-/// `gmp explain` on a trace, or with `--json`.
-pub fn explained(alloc: Global, trace: &[u8], json: bool) -> Result<Ran, AllocError> {
-    let explained = explain(alloc, json, &mut &trace[..], &mut ());
+/// `gmp explain` on a trace, or with `--json` or `--all`.
+pub fn explained(alloc: Global, trace: &[u8], json: bool, all: bool) -> Result<Ran, AllocError> {
+    let explained = explain(alloc, json, all, &mut &trace[..], &mut ());
     let written = explained.text().as_bytes().to_vec(alloc)?;
     done(
         alloc,
@@ -81,18 +82,20 @@ pub fn explained(alloc: Global, trace: &[u8], json: bool) -> Result<Ran, AllocEr
     )
 }
 
-/// `gmp draw` on a trace, with these lanes.
-pub fn drawn(alloc: Global, by: By, trace: &[u8]) -> Result<Ran, AllocError> {
-    let mut written = Vec::new(alloc);
-    let ended = draw(
-        alloc,
-        by,
-        0,
-        u64::MAX,
-        &mut &trace[..],
-        &mut written,
-        &mut (),
-    );
+/// What `gmp draw` makes of a trace: a picture with these lanes, or by `--perfetto` no picture.
+#[derive(Clone, Copy)]
+pub enum Drawing {
+    Picture(By),
+    Perfetto,
+}
+
+/// `gmp draw` on a trace.
+pub fn drawn(alloc: Global, drawing: Drawing, trace: &[u8]) -> Result<Ran, AllocError> {
+    let (mut written, reader) = (Vec::new(alloc), &mut &trace[..]);
+    let ended = match drawing {
+        Drawing::Picture(by) => draw(alloc, by, 0, u64::MAX, reader, &mut written, &mut ()),
+        Drawing::Perfetto => perfetto(alloc, 0, u64::MAX, reader, &mut written, &mut ()),
+    };
     done(alloc, written, ended.status, &ended.said)
 }
 

@@ -4,7 +4,7 @@
 ghost use Rattle.std.specs.Prelude.{◌≡◌, All};
 
 use crate::error::ScriptError;
-use crate::program::{Ran, checked, drawn, explained, explored, stepped};
+use crate::program::{Drawing, Ran, checked, drawn, explained, explored, stepped};
 use crate::reasons::judge_reasons;
 use gmp_follow::follows;
 use gmp_script::Script;
@@ -20,6 +20,13 @@ const WIDTH: usize = 120;
 
 /// A trace is cut at so many entries at most.
 const MOST_CUTS: usize = 2_000;
+
+/// What is drawn, and how the names of its files end.
+static DRAWINGS: [(Drawing, &str); 3] = [
+    (Drawing::Picture(By::Machine), ".svg"),
+    (Drawing::Picture(By::Goroutine), ".goroutines.svg"),
+    (Drawing::Perfetto, ".perfetto.json"),
+];
 
 /// The number of the first line in which two texts differ, if they do.
 fn differs(got: &[u8], want: &[u8]) -> Option<usize> {
@@ -156,29 +163,32 @@ fn is_told_beside(
     is_beside(rt, stem, end, got.as_bytes(), said)
 }
 
-/// `gmp explain` on a trace tells what lies beside it, if that does. Does it?
+/// `gmp explain` on a trace tells what lies beside it, if that does: what ends with `.explained` is told without options, with `.all` by
+/// `--all`, with `.json` by both. Does it?
 fn judge_explained(
     rt: &HostRuntime,
     stem: &str,
     trace: &[u8],
-    json: bool,
+    end: &str,
 ) -> Result<bool, ScriptError> {
-    let ran = explained(rt.alloc(), trace, json)?;
+    let (json, all) = (end == ".json", end != ".explained");
+    let ran = explained(rt.alloc(), trace, json, all)?;
     if !json {
         judge_width(rt.alloc(), &ran.written)?;
     }
-    let end = if json { ".json" } else { ".explained" };
     is_told_beside(rt, stem, end, &ran, "gmp explain wrote another line")
 }
 
-/// `gmp draw` draws the trace with these lanes as the picture beside it, if one is.
-fn judge_drawn(rt: &HostRuntime, stem: &str, trace: &[u8], by: By) -> Result<(), ScriptError> {
-    let ran = drawn(rt.alloc(), by, trace)?;
+/// `gmp draw` draws the trace as what lies beside it with this end, if that does.
+fn judge_drawn(
+    rt: &HostRuntime,
+    stem: &str,
+    trace: &[u8],
+    drawing: Drawing,
+    end: &str,
+) -> Result<(), ScriptError> {
+    let ran = drawn(rt.alloc(), drawing, trace)?;
     judge_status(rt.alloc(), &ran, 0)?;
-    let end = match by {
-        By::Machine => ".svg",
-        By::Goroutine => ".goroutines.svg",
-    };
     is_beside(rt, stem, end, &ran.written, "gmp draw wrote another line")?;
     Ok(())
 }
@@ -206,7 +216,7 @@ fn judge_right(alloc: Global, trace: &[u8]) -> Result<(), ScriptError> {
 
 /// No line of what `gmp explain` tells of the trace is too wide.
 fn judge_telling(alloc: Global, trace: &[u8]) -> Result<(), ScriptError> {
-    let told = explained(alloc, trace, false)?;
+    let told = explained(alloc, trace, false, true)?;
     judge_width(alloc, &told.written)
 }
 
@@ -254,8 +264,8 @@ fn judge_explored(rt: &HostRuntime, name: &str, stem: &str) -> Result<(), Script
 
 /// `gmp explain` tells what lies beside the trace.
 fn judge_reason(rt: &HostRuntime, stem: &str, trace: &[u8]) -> Result<(), ScriptError> {
-    judge_explained(rt, stem, trace, true)?;
-    if judge_explained(rt, stem, trace, false)? {
+    judge_explained(rt, stem, trace, ".json")?;
+    if judge_explained(rt, stem, trace, ".explained")? {
         Ok(())
     } else {
         Err(ScriptError::line(rt.alloc(), 0, "nothing says why it is wrong"))
@@ -297,10 +307,12 @@ fn judge_tellings(
     stem: &str,
     trace: &[u8],
 ) -> Result<(), ScriptError> {
-    judge_explained(rt, stem, trace, false)?;
-    judge_explained(rt, stem, trace, true)?;
-    judge_drawn(rt, stem, trace, By::Machine)?;
-    judge_drawn(rt, stem, trace, By::Goroutine)?;
+    judge_explained(rt, stem, trace, ".explained")?;
+    judge_explained(rt, stem, trace, ".all")?;
+    judge_explained(rt, stem, trace, ".json")?;
+    for (drawing, end) in DRAWINGS {
+        judge_drawn(rt, stem, trace, drawing, end)?;
+    }
     judge_explored(rt, name, stem)?;
     judge_reasons(rt.alloc(), trace)
 }

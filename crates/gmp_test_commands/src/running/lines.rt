@@ -1,18 +1,20 @@
 //! What is read of command lines and scripts, as text.
 
 use crate::words::{put_line, words_of};
-use gmp_script::Script;
+use gmp_script::{Script, misfit_of};
 use gmp_words::{By, Ended, Said, Task, command_line};
 use std::alloc::{AllocError, Global};
 
-/// The options of a command line that its command has: of `explore`, of `run`, of `draw`, or of `step`; of `check` the file.
+/// The options of a command line that its command has: of `explore`, of `run`, of `draw`, of `explain`, or of `step`; of `check`
+/// the file.
 pub fn settings(alloc: Global, line: &str, out: &mut Vec<u8>) -> Result<(), Ended> {
     let words = words_of(alloc, line)?;
     let said = command_line(alloc, &words)?;
     let s = said.settings;
     let text = match s.task {
         Task::Explore => {
-            let wanted = (s.wanted.no_deadlock, s.wanted.no_fault, s.wanted.no_leak);
+            let w = s.wanted;
+            let wanted = (w.no_deadlock, w.no_fault, w.no_leak, w.main_ends);
             format!(in alloc; "{:?}", (s.has_procs, s.procs, s.states, s.trace, wanted))?
         }
         Task::Run => {
@@ -24,8 +26,9 @@ pub fn settings(alloc: Global, line: &str, out: &mut Vec<u8>) -> Result<(), Ende
                 By::Machine => "machine",
                 By::Goroutine => "goroutine",
             };
-            format!(in alloc; "{by} {} {}", s.from, s.to)?
+            format!(in alloc; "{by} {} {} {}", s.perfetto, s.from, s.to)?
         }
+        Task::Explain => format!(in alloc; "{:?}", (s.json, s.all))?,
         Task::Check => format!(in alloc; "{:?}", said.file)?,
         _ => format!(in alloc;
             "{:?}",
@@ -80,4 +83,13 @@ pub fn script(alloc: Global, text: &[u8], out: &mut Vec<u8>) -> Result<(), Ended
     let mut reader = text;
     let script = gmp_words::script(alloc, &mut reader)?;
     Ok(put_line(out, &[script_text(alloc, &script)?.as_str()])?)
+}
+
+/// What is wrong with each of the lines, which are bad ones in a body, or before the first.
+pub fn misfits(alloc: Global, place: &str, text: &[u8], out: &mut Vec<u8>) -> Result<(), Ended> {
+    for line in text.split(|byte| *byte == b'\n') {
+        let misfit = misfit_of(line, place == "body");
+        put_line(out, &[format!(in alloc; "{misfit}")?.as_str()])?;
+    }
+    Ok(())
 }
