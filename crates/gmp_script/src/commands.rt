@@ -1,6 +1,7 @@
 //! What a body of a script says: `Command` is one ask, `ScriptBody` the body with its list.
 ghost use Rattle.std.specs.Prelude.{◌≡◌};
 
+use crate::reader::Reader;
 use gmp_base::{Ask, Body, CNo, Cases, GNo, Woke};
 use std::alloc::{AllocError, Global};
 use std::marker::Model;
@@ -13,7 +14,8 @@ pub enum Command {
     /// A channel of this capacity.
     Make(u32),
     Send(Option<CNo>, u64),
-    Recv(Option<CNo>),
+    /// The channel, and how many of the commands behind it are skipped where it is closed and empty.
+    Recv(Option<CNo>, u16),
     Close(Option<CNo>),
     Len(Option<CNo>),
     Cap(Option<CNo>),
@@ -33,7 +35,8 @@ pub enum Command {
     Again,
 }
 
-/// A body of a script. It passes over every answer that it gets, and asks `Exit` once its commands are spent.
+/// A body of a script. It asks `Exit` once its commands are spent. Of what it is told it minds one thing: where a receive found its channel closed
+/// and empty, the commands that this one skips are passed over.
 ///
 /// A contract sees its commands and the place of the next one. The first command is never `Again`.
 #[derive(Debug, Drop)]
@@ -58,7 +61,7 @@ impl Command {
             Command::Go(g) => *out = Ask::Go(*g),
             Command::Make(capacity) => *out = Ask::Make(*capacity),
             Command::Send(c, value) => *out = Ask::Send(*c, *value),
-            Command::Recv(c) => *out = Ask::Recv(*c),
+            Command::Recv(c, _) => *out = Ask::Recv(*c),
             Command::Close(c) => *out = Ask::Close(*c),
             Command::Len(c) => *out = Ask::Len(*c),
             Command::Cap(c) => *out = Ask::Cap(*c),
@@ -83,7 +86,7 @@ impl Command {
             Command::Go(g) => Command::Go(*g),
             Command::Make(capacity) => Command::Make(*capacity),
             Command::Send(c, value) => Command::Send(*c, *value),
-            Command::Recv(c) => Command::Recv(*c),
+            Command::Recv(c, skip) => Command::Recv(*c, *skip),
             Command::Close(c) => Command::Close(*c),
             Command::Len(c) => Command::Len(*c),
             Command::Cap(c) => Command::Cap(*c),
@@ -122,7 +125,8 @@ impl Model for ScriptBody {
 
 impl ScriptBody {
     ghost use Rattle.std.specs.Prelude.{◌≡◌, ◌++◌, ◌∷◌, ◌<◌, [], false, length, IfOk, OnOk, OnErr, IsTrue, ◌↔◌};
-    ghost use Rattle.gmp_script.specs.Script.{begins_again, place_of};
+    ghost use Rattle.gmp_script.specs.Read.{body_of};
+    ghost use Rattle.gmp_script.specs.Script.{begins_again};
 
     /// A body with no command.
     pub fn new(alloc: Global) -> Self
@@ -140,6 +144,16 @@ impl ScriptBody {
         ensures begin { begins_again self.now.commands ≡ false }
     {
         &self.commands
+    }
+
+    /// The body, to be read on from where it is.
+    pub fn reader(&self) -> Reader<'_>
+        ensures { body_of result ≡ self.now }
+    {
+        Reader {
+            commands: &self.commands,
+            next: self.next,
+        }
     }
 
     /// Whether the command may come next: `Again` may not come first.
@@ -172,25 +186,14 @@ impl ScriptBody {
             next: self.next,
         })
     }
-
-    /// The place of the command that is asked next: after the last one before `Again` comes the first.
-    fn place(&self) -> usize
-        ensures { result ≡ place_of self.now }
-    {
-        match self.commands.get(self.next) {
-            Some(Command::Again) => 0,
-            _ => self.next,
-        }
-    }
 }
 
 impl Body for ScriptBody {
-    ghost use Rattle.std.specs.Prelude.{◌≡◌};
-    ghost use Rattle.gmp_script.specs.Script.{AsksNext, asked_last};
+    ghost use Rattle.gmp_script.specs.Script.{AsksTold, BringsLast};
 
-    ghost resumed = { λ before _ ask after. AsksNext before ask after };
+    ghost resumed = { λ before woke ask after. AsksTold before woke ask after };
 
-    ghost blocked = { λ before n after. (n ≡ asked_last before) × (after ≡ before) };
+    ghost blocked = { λ before n after. BringsLast before n after };
 
     fn resume(&mut self, woke: Woke) -> Ask {
         let mut ask = Ask::Exit;
@@ -198,26 +201,19 @@ impl Body for ScriptBody {
         ask
     }
 
-    // Whatever it is told: a fault, too, is passed over.
-    fn resume_into(&mut self, _woke: Woke, out: &mut Ask) {
-        let place = self.place();
-        self.next = place;
-        match self.commands.get(place) {
-            Some(command) => {
-                self.next += 1;
-                command.ask(out);
-            }
+    // A fault, too, is passed over. Where a machine resumes it, nothing is copied of what it is told.
+    #[inline(always)]
+    fn resume_into(&mut self, woke: Woke, out: &mut Ask) {
+        let mut reader = self.reader();
+        reader.hear(woke);
+        match reader.go_on() {
+            Some(command) => command.ask(out),
             None => *out = Ask::Exit,
         }
+        self.next = reader.next;
     }
 
     fn blocking(&mut self) -> u64 {
-        let Some(place) = self.next.checked_sub(1) else {
-            return 0;
-        };
-        match self.commands.get(place) {
-            Some(Command::Block(number)) => *number,
-            _ => 0,
-        }
+        self.reader().asked_last()
     }
 }

@@ -2,7 +2,7 @@
 //! looked at, so it may hold any bytes.
 
 ghost use Rattle.std.specs.Prelude.{◌≡◌, IfOk, map};
-ghost use Rattle.gmp_script.specs.Lines.{words, value, below, goroutine_named, capacity, processors, channel, said_alone, said_with, said_with_two, said_by_few, said_by_words, said_by};
+ghost use Rattle.gmp_script.specs.Lines.{words, value, below, goroutine_named, capacity, processors, channel, said_alone, said_with, said_with_two, said_with_else, said_by_few, said_by_words, said_by};
 
 mod clocks;
 mod selects;
@@ -49,7 +49,7 @@ pub(crate) fn value(word: &[u8]) -> Option<u64>
     number(word)
 }
 
-/// The number of a goroutine or a channel.
+/// The number of a goroutine or a channel, or how many commands are skipped.
 pub(crate) fn narrow(word: &[u8]) -> Option<u16>
     ensures { result ≡ below 65536 (value word.now) }
 {
@@ -117,7 +117,7 @@ fn with(word: &[u8], k: &[u8]) -> Option<Line>
     } else if word == b"make".as_slice() {
         Some(Line::Command(Command::Make(capacity(k)?)))
     } else if word == b"recv".as_slice() {
-        Some(Line::Command(Command::Recv(channel(k)?)))
+        Some(Line::Command(Command::Recv(channel(k)?, 0)))
     } else if word == b"close".as_slice() {
         Some(Line::Command(Command::Close(channel(k)?)))
     } else if word == b"len".as_slice() {
@@ -148,7 +148,18 @@ fn with_two(word: &[u8], c: &[u8], v: &[u8]) -> Option<Line>
     }
 }
 
-/// What a line of up to three words says.
+/// What a line of four words says.
+fn with_else(word: &[u8], c: &[u8], other: &[u8], n: &[u8]) -> Option<Line>
+    ensures { result ≡ said_with_else word.now c.now other.now n.now }
+{
+    if word == b"recv".as_slice() && other == b"else".as_slice() {
+        Some(Line::Command(Command::Recv(channel(c)?, narrow(n)?)))
+    } else {
+        None
+    }
+}
+
+/// What a line of up to four words says.
 fn by_few(words: &[&[u8]]) -> Option<Line>
     ensures { result ≡ said_by_few (map (λ word. word.now) words.now) }
 {
@@ -157,6 +168,7 @@ fn by_few(words: &[&[u8]]) -> Option<Line>
         [word] => alone(word),
         [word, k] => with(word, k),
         [word, c, v] => with_two(word, c, v),
+        [word, c, other, n] => with_else(word, c, other, n),
         _ => None,
     }
 }

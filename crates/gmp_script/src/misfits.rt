@@ -14,6 +14,8 @@ pub enum Operand {
     Value,
     Number,
     Moment,
+    /// How many commands are skipped.
+    Skip,
     /// Moments, one or more.
     Moments,
     /// What stands behind `select`.
@@ -24,7 +26,7 @@ impl Operand {
     /// Whether the word is one. Of those that are many it is not asked: the line is bad, so one of them is.
     fn is(self, word: &[u8]) -> bool {
         match self {
-            Operand::Goroutine => narrow(word).is_some(),
+            Operand::Goroutine | Operand::Skip => narrow(word).is_some(),
             Operand::Channel => channel(word).is_some(),
             Operand::Capacity => capacity(word).is_some(),
             Operand::Processors => processors(word).is_some(),
@@ -43,6 +45,7 @@ impl Operand {
             Operand::Value => "V is a number from 0 to 18446744073709551615",
             Operand::Number => "N is a number from 0 to 18446744073709551615",
             Operand::Moment => "D is a number from 0 to 18446744073709551615",
+            Operand::Skip => "N is a number from 0 to 65535",
             Operand::Moments =>
                 "each N is a number from 0 to 18446744073709551615, and there is one or more",
             Operand::Cases =>
@@ -65,6 +68,8 @@ struct Form {
     place: Place,
     usage: &'static str,
     operands: &'static [Operand],
+    /// What stands behind the word `else`, where that may follow.
+    otherwise: Option<Operand>,
 }
 
 /// A form in a body.
@@ -73,6 +78,7 @@ const fn in_body(usage: &'static str, operands: &'static [Operand]) -> Form {
         place: Place::Body,
         usage,
         operands,
+        otherwise: None,
     }
 }
 
@@ -83,22 +89,30 @@ fn form_of(word: &[u8]) -> Option<Form> {
             place: Place::Opening,
             usage: "chan CAP",
             operands: &[Operand::Capacity],
+            otherwise: None,
         },
         b"clock" => Form {
             place: Place::Opening,
             usage: "clock N ..",
             operands: &[Operand::Moments],
+            otherwise: None,
         },
         b"body" => Form {
             place: Place::Anywhere,
             usage: "body",
             operands: &[],
+            otherwise: None,
         },
         b"yield" => in_body("yield", &[]),
         b"go" => in_body("go K", &[Operand::Goroutine]),
         b"make" => in_body("make CAP", &[Operand::Capacity]),
         b"send" => in_body("send C V", &[Operand::Channel, Operand::Value]),
-        b"recv" => in_body("recv C", &[Operand::Channel]),
+        b"recv" => Form {
+            place: Place::Body,
+            usage: "recv C[ else N]",
+            operands: &[Operand::Channel],
+            otherwise: Some(Operand::Skip),
+        },
         b"close" => in_body("close C", &[Operand::Channel]),
         b"len" => in_body("len C", &[Operand::Channel]),
         b"cap" => in_body("cap C", &[Operand::Channel]),
@@ -188,7 +202,16 @@ pub fn misfit_of(line: &[u8], in_body: bool) -> Misfit {
             _ => return Misfit::Operand(form.usage, *operand),
         }
     }
-    match words.next() {
+    let mut rest = words.next();
+    if let Some(operand) = form.otherwise
+        && rest.is_some_and(|word| word == b"else".as_slice())
+    {
+        match words.next() {
+            Some(word) if operand.is(word) => rest = words.next(),
+            _ => return Misfit::Operand(form.usage, operand),
+        }
+    }
+    match rest {
         Some(word) if word.starts_with(b"#") => Misfit::Comment,
         Some(_) => Misfit::More(form.usage),
         None => Misfit::First(form.usage),
