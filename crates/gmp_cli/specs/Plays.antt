@@ -3,18 +3,18 @@ use Rattle.std.specs.Prelude.{◌≡◌, ℕ, Bool, List, Option}
 use Rattle.gmp_base.specs.declared.ask.Ask.{Ask}
 use Rattle.gmp_base.specs.declared.ask.Woke.{Woke}
 use Rattle.gmp_seq.specs.declared.call.Limits.{Limits}
-use Rattle.gmp_script.specs.Script.{AsksNext, Commands, asked_last}
+use Rattle.gmp_script.specs.Script.{AsksTold, BringsLast, Commands}
 use Rattle.gmp_core.specs.Plays as rounds
 use Rattle.gmp_core.specs.Stage as stage
 use Rattle.gmp_cli.specs.Clock.{ClockState, clock_after, reading, unread}
 
--- a body asks what its next command asks, whatever it is told, and the clock stays
+-- a body, told this, asks what its next command asks, and the clock stays
 abbrev pub AsksCommand : ClockState → Commands → Woke → Ask → ClockState → Commands → Type 0
-AsksCommand clock before told asked clock' after = AsksNext before asked after × (clock' ≡ clock)
+AsksCommand clock before told asked clock' after = AsksTold before told asked after × (clock' ≡ clock)
 
 -- a blocking call answers by its command; body and clock stay
 abbrev pub AnswersCommand : ClockState → Commands → ℕ → ClockState → Commands → Type 0
-AnswersCommand clock before number clock' after = (number ≡ asked_last before) × (after ≡ before) × (clock' ≡ clock)
+AnswersCommand clock before number clock' after = BringsLast before number after × (clock' ≡ clock)
 
 -- the clock reads so
 abbrev pub Reads : ClockState → Option ℕ → ℕ → ClockState → Type 0

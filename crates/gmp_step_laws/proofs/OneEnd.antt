@@ -4,6 +4,7 @@ use Rattle.std.proofs.Math.Nat.{mod-lt}
 use Rattle.std.proofs.lemmas.Bool.{cases_lt}
 use Rattle.std.specs.List.{slice_get, slice_set}
 use Rattle.gmp_base.specs.declared.ask.Ask.{Ask}
+use Rattle.gmp_base.specs.declared.ask.Woke.{Woke}
 use Rattle.gmp_base.specs.declared.number.GNo.{GNo}
 use Rattle.gmp_base.specs.declared.number.MNo.{MNo}
 use Rattle.gmp_seq.specs.declared.call.Limits.{Limits}
@@ -20,7 +21,7 @@ use Rattle.gmp_core.specs.declared.want.Want.TheVariants as want
 use Rattle.gmp_core.specs.Whole.{TakesFixed, Whole, wanted_by}
 use Rattle.gmp_core.specs.Plays.{IsDealt, IsSettled, PlaysOne}
 use Rattle.gmp_core.specs.Stage.{AreParked, HasTurn, IsOver, machines_of, parked}
-use Rattle.gmp_script.specs.Script.{AsksNext, Commands, asked_last}
+use Rattle.gmp_script.specs.Script.{AsksNext, AsksTold, Commands, asked_last, heard}
 use Rattle.gmp_cli.specs.Clock.{ClockState}
 use Rattle.gmp_cli.specs.Plays.{AnswersCommand, AsksCommand, IsPlayed, Plays, Reads, Stage, opening_stage}
 use Rattle.gmp_step_laws.specs.Played.{MakesAll}
@@ -64,11 +65,14 @@ same_body : (stock : List (Option Commands)) (g h : GNo) (x y : Commands) → g 
 same_body stock g h x y same one two =
     let e : Some (Some x) ≡ Some (Some y) = sym one ∙ ap (λ (i : GNo). slice_get stock i.0) same ∙ two in let is : x ≡ y = cc in is
 
--- a body asks in one way
-asks_once : (before too : Commands) (asked asked_too : Ask) (after after_too : Commands) → before ≡ too → AsksNext before asked after → AsksNext too asked_too after_too
-    → (asked ≡ asked_too) × (after ≡ after_too)
-asks_once before too asked asked_too after after_too same h k =
-    let first = subst (λ (b : Commands). AsksNext b asked after) same h in
+same_woke : (o : Option Woke) (x y : Woke) → o ≡ Some x → o ≡ Some y → x ≡ y
+same_woke o x y one two = let e : Some x ≡ Some y = sym one ∙ two in let same : x ≡ y = cc in same
+
+-- a body asks in one way by what it is told
+asks_once : (before too : Commands) (told told_too : Woke) (asked asked_too : Ask) (after after_too : Commands) → before ≡ too → told ≡ told_too → AsksTold before told asked after
+    → AsksTold too told_too asked_too after_too → (asked ≡ asked_too) × (after ≡ after_too)
+asks_once before too told told_too asked asked_too after after_too same alike h k =
+    let first : AsksTold too told_too asked after = subst (λ (b : Commands). AsksNext b asked after) (ap (λ (b : Commands). heard told b) same ∙ ap (λ (w : Woke). heard w too) alike) h in
     (first.asks ∙ sym k.asks, λ i. record { commands = (first.same ∙ sym k.same) i; next = (first.goes ∙ sym k.goes) i })
 
 dealt_alike : (w : Want) (k : Whole Commands) (clock : ClockState) (m : MNo) (x y : Choice) (stock too : List (Option Commands)) (clock' clock_too : ClockState)
@@ -77,7 +81,8 @@ dealt_alike : (w : Want) (k : Whole Commands) (clock : ClockState) (m : MNo) (x 
 dealt_alike want.Ask k clock m x y stock too clock' clock_too d e =
     let g = same_goroutine _ d.g e.g d.in_hand e.in_hand in
     let body = same_body k.stock d.g e.g d.before e.before g d.has e.has in
-    let asks = asks_once d.before e.before x.ask y.ask d.after e.after body d.asks_so.0 e.asks_so.0 in
+    let told = same_woke _ d.told e.told d.holds e.holds in
+    let asks = asks_once d.before e.before d.told e.told x.ask y.ask d.after e.after body told d.asks_so.0 e.asks_so.0 in
     record {
       reads = asks.0;
       stock_is = d.stock ∙ (λ i. slice_set k.stock (g i).0 (Some (asks.1 i))) ∙ sym e.stock;
@@ -86,11 +91,11 @@ dealt_alike want.Ask k clock m x y stock too clock' clock_too d e =
 dealt_alike want.Number k clock m x y stock too clock' clock_too d e =
     let g = same_goroutine _ d.g e.g d.in_hand e.in_hand in
     let body = same_body k.stock d.g e.g d.before e.before g d.has e.has in
-    let after : d.after ≡ e.after = d.answers_so.1 ∙ body ∙ sym e.answers_so.1 in
+    let after : d.after ≡ e.after = d.answers_so.0.1 ∙ body ∙ sym e.answers_so.0.1 in
     record {
-      reads = d.answers_so.0 ∙ ap asked_last body ∙ sym e.answers_so.0;
+      reads = d.answers_so.0.0 ∙ ap asked_last body ∙ sym e.answers_so.0.0;
       stock_is = d.stock ∙ (λ i. slice_set k.stock (g i).0 (Some (after i))) ∙ sym e.stock;
-      clock_is = d.answers_so.2 ∙ sym e.answers_so.2;
+      clock_is = d.answers_so.1 ∙ sym e.answers_so.1;
     }
 dealt_alike (want.Moment minded) k clock m x y stock too clock' clock_too d e =
     record { reads = d.shows_so.0 ∙ sym e.shows_so.0; stock_is = d.stock ∙ sym e.stock; clock_is = d.shows_so.1 ∙ sym e.shows_so.1 }

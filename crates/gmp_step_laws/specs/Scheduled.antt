@@ -1,12 +1,14 @@
 -- Acts of machines with a script's bodies, under any scheduling: any machine acts next, with any choice, but that a body that is resumed asks
--- what its next command asks, and that one in a blocking call answers what its last command says.
+-- what its next command asks by what it is told, and that one in a blocking call answers what its last command says.
 use Rattle.std.specs.Prelude.{◌≡◌, ℕ, ◌<◌, Option, Some, None, List, [], ◌∷◌, length, slice_get, slice_set}
 use Rattle.gmp_base.specs.declared.ask.Ask.{Ask}
+use Rattle.gmp_base.specs.declared.ask.Woke.{Woke}
 use Rattle.gmp_base.specs.declared.number.GNo.{GNo}
 use Rattle.gmp_base.specs.declared.number.MNo.{MNo}
 use Rattle.gmp_seq.specs.declared.call.Call.{Call}
 use Rattle.gmp_seq.specs.Needs.{WantsMemory}
 use Rattle.gmp_driver.specs.declared.act.Act.TheVariants as act
+use Rattle.gmp_driver.specs.Machine.{held_at}
 use Rattle.gmp_driver.specs.Table.{next_act}
 use Rattle.gmp_acts.specs.declared.choice.Choice.{Choice}
 use Rattle.gmp_acts.specs.Acts.{Acts}
@@ -14,16 +16,18 @@ use Rattle.gmp_acts.specs.System.{System, machine_at}
 use Rattle.gmp_core.specs.declared.want.Want.{Want}
 use Rattle.gmp_core.specs.declared.want.Want.TheVariants as want
 use Rattle.gmp_core.specs.Whole.{goroutine_in_hand, wanted_by}
-use Rattle.gmp_script.specs.Script.{AsksNext, Commands, asked_last}
+use Rattle.gmp_script.specs.Script.{AsksTold, Commands, asked_last}
 
--- the body in machine m's hand asks so, and goes on
+-- the body in machine m's hand, told what it waits for, asks so and goes on
 pub record TakesAsk (k : System) (m : MNo) (asked : Ask) (stock stock' : List (Option Commands)) : Type 0 where
   pub g : GNo
   pub in_hand : goroutine_in_hand k m ≡ Some g
   pub before : Commands
   pub has : slice_get stock g.0 ≡ Some (Some before)
+  pub told : Woke
+  pub holds : held_at (machine_at k m).place (machine_at k m).hand.held ≡ Some told
   pub after : Commands
-  pub asks : AsksNext before asked after
+  pub asks : AsksTold before told asked after
   pub goes : stock' ≡ slice_set stock g.0 (Some after)
 
 -- the body in machine m's hand, which is in its blocking call, answers so, and stays
