@@ -75,7 +75,7 @@ pub(crate) fn rests(scene: &Scene, asking: Asking) -> bool {
     let cases = asking.cases();
     let cases = cases.as_slice();
     let may_wait = match asking.command() {
-        Some(Command::Send(_, _) | Command::Recv(_) | Command::Park) => true,
+        Some(Command::Send(_, _) | Command::Recv(_, _) | Command::Park) => true,
         Some(Command::Select(_, has_default, _)) => !*has_default,
         _ => false,
     };
@@ -179,7 +179,7 @@ pub(crate) fn fault_by_itself(scene: &Scene, bounds: Bounds, asking: Asking) -> 
         Command::Close(c) => fault_of_close(scene, *c),
         Command::Len(c) | Command::Cap(c) => fault_of_name(scene, *c),
         Command::Procs(n) if *n == 0 || *n > bounds.procs => Some(Fault::BadProcs),
-        Command::Send(_, _) | Command::Recv(_) | Command::Select(_, _, _) => {
+        Command::Send(_, _) | Command::Recv(_, _) | Command::Select(_, _, _) => {
             let cases = asking.cases();
             cases
                 .as_slice()

@@ -1,10 +1,9 @@
 //! The trace of a run that follows the path to what was found.
 
-ghost use Rattle.std.specs.Prelude.{◌≡◌, ◌≤◌, List, OnOk, length, true};
-ghost use Rattle.gmp_explore.specs.Fresh.{AreFresh};
+ghost use Rattle.std.specs.Prelude.{◌≡◌, ◌≤◌, OnOk, length, true};
 ghost use Rattle.gmp_explore_cli.specs.Played.{HasComeTo, IsOpened, Keeps, WritesPlayed, is_of_trace};
 ghost use Rattle.gmp_scene.specs.Reached.{IsRunOf};
-ghost use Rattle.gmp_script.specs.Script.{Commands};
+ghost use Rattle.gmp_scene.specs.Scripted.{Speakers};
 ghost use Rattle.gmp_seq.specs.Fits.{AreLimits};
 ghost use Rattle.gmp_seq.specs.State.{State};
 ghost use Rattle.gmp_trace.specs.Pieces.{is_whole};
@@ -137,9 +136,8 @@ fn is_shown(
     found: Verdict,
     stage: &Stage,
 ) -> Result<(), Unplayed>
-    requires { AreFresh script.now.bodies.items }
     ensures come { OnOk result (HasComeTo found stage.now.journal.history stage.now.journal.state) }
-    ensures runs { OnOk result ((s : State) × (after : List Commands)
+    ensures runs { OnOk result ((s : State) × (after : Speakers)
         × IsRunOf limits script.now.capacities.items script.now.bodies.items stage.now.journal.history s after) }
 {
     expect(stage.shows(found))?;
@@ -158,11 +156,10 @@ fn show<'a>(
     path: &[Move],
     player: &mut Player<'a>,
 ) -> Result<(), Unplayed>
-    requires fresh { AreFresh script.now.bodies.items }
     requires few { length script.now.bodies.items ≤ 65536 }
     ensures keeps { Keeps player.old.stage.journal player.new.stage.journal }
     ensures come { OnOk result (HasComeTo found player.new.stage.journal.history player.new.stage.journal.state) }
-    ensures runs { OnOk result ((s : State) × (after : List Commands)
+    ensures runs { OnOk result ((s : State) × (after : Speakers)
         × IsRunOf limits script.now.capacities.items script.now.bodies.items player.new.stage.journal.history s after) }
 {
     player.begin(limits.machines)?;
@@ -183,7 +180,7 @@ fn write_run<W: Write>(
     requires opened { IsOpened limits (length script.now.bodies.items) script.now.capacities.items stage.now.journal }
     requires within { AreLimits limits (length script.now.bodies.items) script.now.capacities.items }
     requires come { HasComeTo found stage.now.journal.history stage.now.journal.state }
-    requires runs { (s : State) × (after : List Commands)
+    requires runs { (s : State) × (after : Speakers)
         × IsRunOf limits script.now.capacities.items script.now.bodies.items stage.now.journal.history s after }
     ensures { OnOk result
         (WritesPlayed limits.channels limits.procs script.now.capacities.items script.now.bodies.items found (W.contents writer.old) (W.contents writer.new)) }
@@ -209,7 +206,6 @@ fn write_shown<'a, W: Write>(
     player: &mut Player<'a>,
     writer: &mut W,
 ) -> Ended
-    requires fresh { AreFresh script.now.bodies.items }
     requires whole { is_whole limits ≡ true }
     requires asked { (limits.channels ≡ bounds.channels) × (limits.procs ≡ bounds.procs) }
     requires opened { IsOpened limits (length script.now.bodies.items) script.now.capacities.items player.old.stage.journal }
@@ -238,7 +234,6 @@ pub(crate) fn traced<W: Write>(
     path: &[Move],
     writer: &mut W,
 ) -> Ended
-    requires { AreFresh script.now.bodies.items }
     ensures traced { result.said ≡ Nothing
         → WritesPlayed bounds.channels bounds.procs script.now.capacities.items script.now.bodies.items found (W.contents writer.old) (W.contents writer.new) }
     ensures status { result.said ≡ Nothing → result.status ≡ status_of_verdict found }

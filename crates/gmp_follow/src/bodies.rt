@@ -1,100 +1,93 @@
-//! The bodies of a script, each with its place: `Reader` is one, `Bodies` the list by goroutine.
-ghost use Rattle.std.specs.Prelude.{◌≡◌, All, IfNone, IfOk, IfSome, Some, false, true};
+//! The bodies of a script as the entries so far left them: `Speaker` is one, with what it is told next, `Bodies` the list by goroutine.
+ghost use Rattle.std.specs.Prelude.{◌≡◌, IfNone, IfOk, IfSome, map};
 ghost use Rattle.gmp_base.specs.declared.number.GNo.{GNo};
 ghost use Rattle.gmp_check.specs.Decides.{Decides};
-ghost use Rattle.gmp_follow.specs.Follows.{AsksCall};
-ghost use Rattle.gmp_scene.specs.Scripted.{Brings, LeadsBodies, is_asked};
-ghost use Rattle.gmp_script.specs.Script.{asked_last, place_of};
-ghost use Rattle.gmp_seq.specs.Table.{IsCalling, IsRunning};
+ghost use Rattle.gmp_follow.specs.Follows.{AsksCall, BringsNumber};
+ghost use Rattle.gmp_said.specs.Said.{AsksFor, Brings, TakesUp, unheard};
+ghost use Rattle.gmp_scene.specs.Scripted.{LeadsBodies};
+ghost use Rattle.gmp_script.specs.Script.{AsksTold, BringsLast};
+ghost use Rattle.gmp_seq.specs.Table.{IsCalling, IsRunning, stored_at};
 
-use crate::calls::{asks_for, brought, is_asked};
-use gmp_base::MNo;
+use crate::calls::{Part, is_next, part_of};
+use gmp_base::{GNo, MNo, Readiness, Woke};
 use gmp_check::Replay;
-use gmp_script::{Command, ScriptBody};
-use gmp_seq::Call;
+use gmp_script::{Reader, ScriptBody};
+use gmp_seq::{Call, Reply};
 use std::alloc::{AllocError, Global};
 use std::marker::Model;
 
-/// The commands of a body, and the place of the next one.
+/// A body, and what it is told when it is resumed next.
 #[derive(Drop)]
-struct Reader<'a> {
-    commands: &'a [Command],
-    next: usize,
+struct Speaker<'a> {
+    body: Reader<'a>,
+    woke: Woke,
 }
 
-impl<'a> Model for Reader<'a> {
+impl<'a> Model for Speaker<'a> {
+    ghost use Rattle.gmp_said.specs.Said.{Speaker as SpeakerValue};
+    ghost use Rattle.gmp_script.specs.Read.{body_of};
     ghost use Rattle.gmp_script.specs.Script.{Commands};
 
-    ghost Value = { Commands };
+    ghost Value = { SpeakerValue Commands };
 
-    ghost view = { λ r. record { commands = r.commands.now; next = r.next } };
+    ghost view = { λ s. record { body = body_of s.body; woke = s.woke } };
 }
 
-impl<'a> Reader<'a> {
-    /// A body that has asked nothing yet.
+impl<'a> Speaker<'a> {
+    /// A body that made no call.
     fn of(body: &'a ScriptBody) -> Self
-        requires { body.now.next ≡ 0 }
-        ensures { result ≡ body.now }
+        ensures { result ≡ unheard body.now }
     {
-        Reader {
-            commands: body.commands(),
-            next: 0,
+        Speaker {
+            body: body.reader(),
+            woke: Woke::Done,
         }
     }
 
-    /// The place of the command that is asked next: after the last one before `Again` comes the first.
-    fn place(&self) -> usize
-        ensures { result ≡ place_of self.now }
+    /// Whether the body asks for the call next. Where it does, it goes on, and is to be told the reply.
+    fn asks(&mut self, call: &Call, reply: Reply) -> bool
+        ensures { Decides (AsksCall call.now reply) self.old self.new result }
     {
-        match self.commands.get(self.next) {
-            Some(Command::Again) => 0,
-            _ => self.next,
+        let mut body = self.body;
+        body.hear(self.woke);
+        let command = body.go_on();
+        if !is_next(command, call) {
+            return false;
         }
+        self.body = body;
+        self.woke = reply.woke();
+        true
     }
 
-    /// Whether the body asks for the call next. Where it does, it goes on.
-    fn goes_on(&mut self, call: &Call) -> bool
-        ensures { Decides (AsksCall call.now) self.old self.new result }
+    /// Whether its blocking call brings this number, which it is to be told then.
+    fn brings(&mut self, number: u64) -> bool
+        ensures { Decides (BringsNumber number) self.old self.new result }
     {
-        let place = self.place();
-        match self.commands.get(place) {
-            Some(command) if asks_for(command, call) => {
-                self.next = place + 1;
-                true
-            }
-            None if matches!(call, Call::Exit) => {
-                self.next = place;
-                true
-            }
-            _ => false,
+        if self.body.asked_last() != number {
+            return false;
         }
+        self.woke = Woke::Number(number);
+        true
     }
 
-    /// The number that its last command says, where that is a `block`, and else 0.
-    fn asked_last(&self) -> u64
-        ensures { result ≡ asked_last self.now }
+    /// It is to be told this.
+    fn is_told(&mut self, woke: Woke)
+        ensures { self.new ≡ record self.old { woke = woke } }
     {
-        let Some(place) = self.next.checked_sub(1) else {
-            return 0;
-        };
-        match self.commands.get(place) {
-            Some(Command::Block(number)) => *number,
-            _ => 0,
-        }
+        self.woke = woke;
     }
 }
 
 /// The bodies, by goroutine. A contract sees the list of them.
 #[derive(Drop)]
 pub(crate) struct Bodies<'a> {
-    list: Vec<Reader<'a>>,
+    list: Vec<Speaker<'a>>,
 }
 
 impl<'a> Model for Bodies<'a> {
-    ghost use Rattle.std.specs.Prelude.{List};
-    ghost use Rattle.gmp_script.specs.Script.{Commands};
+    ghost use Rattle.gmp_scene.specs.Scripted.{Speakers};
 
-    ghost Value = { List Commands };
+    ghost Value = { Speakers };
 
     ghost view = { λ b. b.list.items };
 }
@@ -121,61 +114,81 @@ fn calling(replay: &Replay, m: MNo) -> Option<usize>
         .position(|row| row.status.is_calling_on(m))
 }
 
+/// What is stored for the goroutine, and done where it isn't ready.
+fn stored(replay: &Replay, g: GNo) -> Woke
+    ensures { result ≡ stored_at replay.now.state.table g }
+{
+    match replay.goroutines().get(g.0 as usize) {
+        Some(row) => row.status.answer().unwrap_or(Woke::Done),
+        None => Woke::Done,
+    }
+}
+
 impl<'a> Bodies<'a> {
-    /// The bodies of a script, which have asked nothing yet.
+    /// The bodies of a script, which made no call yet.
     pub(crate) fn of(alloc: Global, script: &'a [ScriptBody]) -> Result<Self, AllocError>
-        requires { All (λ b. b.next ≡ 0) script.now }
-        ensures { IfOk result (λ b. b ≡ script.now) }
+        ensures { IfOk result (λ b. b ≡ map unheard script.now) }
     {
         let mut list = Vec::new(alloc);
         for body in script {
-            list.push(Reader::of(body))?;
+            list.push(Speaker::of(body))?;
         }
         Ok(Bodies { list })
     }
 
-    /// Whether m's call is what the goroutine that m runs asks next, or a `Leave` with the number that the body says whose blocking call m
-    /// makes, or one that no body asks for. Where it is asked for, that body goes on.
-    pub(crate) fn lead(&mut self, replay: &Replay, m: MNo, call: &Call) -> bool
+    /// Whether m's call, with this reply, is what the goroutine that m runs asks next, or a `Leave` with the number that the body says whose
+    /// blocking call m makes, or one that no body asks for. Where it is, that body goes on, and is to be told what the entry gives it.
+    pub(crate) fn lead(&mut self, replay: &Replay, m: MNo, call: &Call, reply: Reply) -> bool
         requires runs { (g h : GNo) → IsRunning replay.now.state.table g m → IsRunning replay.now.state.table h m → g ≡ h }
         requires calls { (g h : GNo) → IsCalling replay.now.state.table g m → IsCalling replay.now.state.table h m → g ≡ h }
-        ensures { Decides (LeadsBodies m call.now replay.now.state.table) self.old self.new result }
+        ensures { Decides (LeadsBodies m call.now reply replay.now.state.table) self.old self.new result }
     {
-        if is_asked(call) {
-            return self.ask(replay, m, call);
-        }
-        match brought(call) {
-            Some(number) => self.brings(replay, m, number),
-            None => true,
+        match part_of(call) {
+            Part::Asked => self.ask(replay, m, call, reply),
+            Part::Claims(r) => self.take_up(replay, r),
+            Part::Brings(number) => self.bring(replay, m, number),
+            Part::Own => true,
         }
     }
 
-    /// Whether the goroutine that m runs asks for the call next. Where it does, its body goes on.
-    fn ask(&mut self, replay: &Replay, m: MNo, call: &Call) -> bool
-        requires asked { is_asked call.now ≡ true }
-        requires runs { (g h : GNo) → IsRunning replay.now.state.table g m → IsRunning replay.now.state.table h m → g ≡ h }
-        ensures { Decides (LeadsBodies m call.now replay.now.state.table) self.old self.new result }
+    /// Whether the goroutine that m runs asks for the call next. Where it does, it goes on, and is to be told the reply.
+    fn ask(&mut self, replay: &Replay, m: MNo, call: &Call, reply: Reply) -> bool
+        requires { (g h : GNo) → IsRunning replay.now.state.table g m → IsRunning replay.now.state.table h m → g ≡ h }
+        ensures { Decides (AsksFor AsksTold BringsLast m call.now reply replay.now.state.table) self.old self.new result }
     {
         let Some(g) = running(replay, m) else {
             return false;
         };
         match self.list.get_mut(g) {
-            Some(reader) => reader.goes_on(call),
+            Some(speaker) => speaker.asks(call, reply),
             None => false,
         }
     }
 
-    /// Whether the body whose blocking call m makes brings this number.
-    fn brings(&self, replay: &Replay, m: MNo, number: u64) -> bool
+    /// Whether there is this goroutine. Where there is, it is to be told what is stored for it.
+    fn take_up(&mut self, replay: &Replay, r: Readiness) -> bool
+        ensures { Decides (TakesUp AsksTold BringsLast r replay.now.state.table) self.old self.new result }
+    {
+        let woke = stored(replay, r.g);
+        match self.list.get_mut(r.g.0 as usize) {
+            Some(speaker) => {
+                speaker.is_told(woke);
+                true
+            }
+            None => false,
+        }
+    }
+
+    /// Whether the body whose blocking call m makes brings this number. Where it does, it is to be told it.
+    fn bring(&mut self, replay: &Replay, m: MNo, number: u64) -> bool
         requires { (g h : GNo) → IsCalling replay.now.state.table g m → IsCalling replay.now.state.table h m → g ≡ h }
-        ensures yes { result ≡ true → Brings m number replay.now.state.table self.now }
-        ensures no { result ≡ false → Brings m number replay.now.state.table self.now → ⊥ }
+        ensures { Decides (Brings AsksTold BringsLast m number replay.now.state.table) self.old self.new result }
     {
         let Some(g) = calling(replay, m) else {
             return false;
         };
-        match self.list.get(g) {
-            Some(reader) => reader.asked_last() == number,
+        match self.list.get_mut(g) {
+            Some(speaker) => speaker.brings(number),
             None => false,
         }
     }

@@ -1,46 +1,46 @@
-//! Which calls a body asks for, what a blocking call brings, and whether a command asks for a call.
+//! What a call has to do with bodies, and whether a command asks for a call.
 ghost use Rattle.std.specs.Prelude.{◌≡◌, ◌↔◌, Some, IsTrue};
+ghost use Rattle.std.specs.Option.{option_copied};
 ghost use Rattle.gmp_driver.specs.Table.{call_for};
-ghost use Rattle.gmp_follow.specs.Follows.{brought};
-ghost use Rattle.gmp_scene.specs.Scripted.{is_asked};
+ghost use Rattle.gmp_follow.specs.Follows.{part_of};
 ghost use Rattle.gmp_script.specs.Script.{ask_of};
 
-use gmp_base::Cases;
+use gmp_base::{Cases, Readiness};
 use gmp_script::Command;
 use gmp_seq::Call;
 
-/// Whether it is a call that a body asks for.
-pub(crate) fn is_asked(call: &Call) -> bool
-    ensures { result ≡ is_asked call.now }
-{
-    matches!(
-        call,
-        Call::Go(_)
-            | Call::Spawn
-            | Call::Yield
-            | Call::Exit
-            | Call::Make(_)
-            | Call::Send(_, _)
-            | Call::Recv(_)
-            | Call::Close(_)
-            | Call::Len(_)
-            | Call::Cap(_)
-            | Call::Select(_, _, _)
-            | Call::Sleep(_)
-            | Call::Procs(_)
-            | Call::Gopark
-            | Call::Ready(_)
-            | Call::Enter
-    )
+/// What a call has to do with bodies.
+#[derive(Clone, Copy)]
+pub(crate) enum Part {
+    /// A body asks for it.
+    Asked,
+    /// It takes up the goroutine of this ticket.
+    Claims(Readiness),
+    /// A blocking call brings this number.
+    Brings(u64),
+    /// Nothing: it is the machine's own.
+    Own,
 }
 
-/// The number that the call brings, where it is the end of a blocking call.
-pub(crate) fn brought(call: &Call) -> Option<u64>
-    ensures { result ≡ brought call.now }
+pub(crate) fn part_of(call: &Call) -> Part
+    ensures { result ≡ part_of call.now }
 {
     match call {
-        Call::Leave(number) => Some(*number),
-        _ => None,
+        Call::Claim(r) => Part::Claims(*r),
+        Call::Leave(number) => Part::Brings(*number),
+        Call::Acquire
+        | Call::Take
+        | Call::Put(_)
+        | Call::Spin
+        | Call::Woken
+        | Call::Keep
+        | Call::Unspin
+        | Call::Poke
+        | Call::Declare
+        | Call::Bare
+        | Call::Park
+        | Call::Tick(_) => Part::Own,
+        _ => Part::Asked,
     }
 }
 
@@ -52,7 +52,7 @@ fn same_cases(a: &Cases, b: &Cases) -> bool
 }
 
 /// Whether the command asks for this call, with the same values.
-pub(crate) fn asks_for(command: &Command, call: &Call) -> bool
+fn asks_for(command: &Command, call: &Call) -> bool
     ensures { IsTrue result ↔ (call.now ≡ call_for (ask_of (Some command.now))) }
 {
     match (command, call) {
@@ -60,7 +60,7 @@ pub(crate) fn asks_for(command: &Command, call: &Call) -> bool
         (Command::Go(g), Call::Go(h)) => *g == *h,
         (Command::Make(n), Call::Make(o)) => *n == *o,
         (Command::Send(c, v), Call::Send(d, w)) => *c == *d && *v == *w,
-        (Command::Recv(c), Call::Recv(d)) => *c == *d,
+        (Command::Recv(c, _), Call::Recv(d)) => *c == *d,
         (Command::Close(c), Call::Close(d)) => *c == *d,
         (Command::Len(c), Call::Len(d)) => *c == *d,
         (Command::Cap(c), Call::Cap(d)) => *c == *d,
@@ -74,5 +74,15 @@ pub(crate) fn asks_for(command: &Command, call: &Call) -> bool
         (Command::Block(_), Call::Enter) => true,
         (Command::Exit | Command::Again, Call::Exit) => true,
         _ => false,
+    }
+}
+
+/// Whether a body asks for this call by the command, or, where there is none, by its end.
+pub(crate) fn is_next(command: Option<&Command>, call: &Call) -> bool
+    ensures { IsTrue result ↔ (call.now ≡ call_for (ask_of (option_copied command.entry))) }
+{
+    match command {
+        Some(command) => asks_for(command, call),
+        None => matches!(call, Call::Exit),
     }
 }

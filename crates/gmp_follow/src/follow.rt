@@ -1,8 +1,8 @@
 //! A history beside a script.
-ghost use Rattle.std.specs.Prelude.{◌≡◌, ◌↔◌, All, IfErr, IfOk, IsTrue, List, OnOk, length};
+ghost use Rattle.std.specs.Prelude.{◌≡◌, ◌↔◌, IfErr, IfOk, IsTrue, OnOk, length};
 ghost use Rattle.gmp_check.specs.Replayed.{IsOpenError};
 ghost use Rattle.gmp_scene.specs.Reached.{IsRunOf};
-ghost use Rattle.gmp_script.specs.Script.{Commands};
+ghost use Rattle.gmp_scene.specs.Scripted.{Speakers};
 ghost use Rattle.gmp_seq.specs.Fits.{AreLimits};
 ghost use Rattle.gmp_seq.specs.State.{State};
 
@@ -13,8 +13,8 @@ use gmp_script::ScriptBody;
 use gmp_seq::Limits;
 use std::alloc::Global;
 
-/// Whether the history is a legal run, from its opening on, in which each goroutine asks what its body says, in order, and each blocking call
-/// brings what its body says. The script's bodies have asked nothing yet.
+/// Whether the history is a legal run, from its opening on, in which each goroutine asks what its body says, in order and by what it is told,
+/// and each blocking call brings what its body says.
 ///
 /// Beside a `Replay` it takes memory for the bodies' places, and none for the entries. An entry takes time at most in proportion to the
 /// goroutines, machines and processors. Memory is wanted at the opening and by a make.
@@ -25,8 +25,7 @@ pub fn follows(
     capacities: &[u32],
     entries: &History,
 ) -> Result<bool, OpenError>
-    requires { All (λ b. b.next ≡ 0) script.now }
-    ensures exact { IfOk result (λ b. IsTrue b ↔ ((s : State) × (after : List Commands) × IsRunOf limits capacities.now script.now entries.now.list s after)) }
+    ensures exact { IfOk result (λ b. IsTrue b ↔ ((s : State) × (after : Speakers) × IsRunOf limits capacities.now script.now entries.now.list s after)) }
     ensures within { OnOk result (AreLimits limits (length script.now) capacities.now) }
     ensures why { IfErr result (IsOpenError limits (length script.now) capacities.now) }
 {
@@ -36,7 +35,7 @@ pub fn follows(
     let mut replay = Replay::open(alloc, limits, script.len() as u16, capacities)?;
     let mut bodies = Bodies::of(alloc, script)?;
     for entry in entries.iter() {
-        if !bodies.lead(&replay, entry.m, &entry.call) {
+        if !bodies.lead(&replay, entry.m, &entry.call, entry.reply) {
             return Ok(false);
         }
         match replay.step(&entry) {

@@ -27,12 +27,6 @@ module _ {X : Type 0} (script : List X) (P : List X → Type 0) where
   the_same now true e = cc
   the_same now false e = cc
 
-  -- what is so of the script is so of what is lent of it
-  pub of_lent : (scripted : Bool) (lent : Option (Bor (List X))) → option_map (λ (s : Bor (List X)). s.now) lent ≡ (if scripted then Some script else None) → P script
-      → IfSome lent (λ (s : Bor (List X)). P s.now)
-  of_lent scripted None e p = tt
-  of_lent scripted (Some s) e p = subst P (sym (the_same s.now scripted e)) p
-
   is_lent : (lent : Option (Bor (List X))) → option_map (λ (s : Bor (List X)). s.now) lent ≡ Some script → IfSome lent (λ (s : Bor (List X)). P s.now) → P script
   is_lent None e p = absurd (let bad : None ≡ Some script = e in cc)
   is_lent (Some s) e p = subst P (the_same s.now true e) p

@@ -6,7 +6,8 @@ use Rattle.gmp_base.specs.declared.ask.Ask.{Ask}
 use Rattle.gmp_base.specs.declared.ask.Woke.{Woke}
 use Rattle.gmp_seq.specs.declared.call.Entry.{Entry}
 use Rattle.gmp_seq.specs.declared.call.Limits.{Limits}
-use Rattle.gmp_script.specs.Script.{AsksNext, Commands, asked_last}
+use Rattle.gmp_scene.specs.Scripted.{Speakers}
+use Rattle.gmp_script.specs.Script.{AsksTold, BringsLast, Commands}
 use Rattle.gmp_worker.specs.declared.bodies.Own.{Own}
 use Rattle.gmp_said.specs.Said.{AreSaid, Speaker}
 use Rattle.gmp_step_laws.specs.Refused.{IsRunButMakes}
@@ -24,10 +25,10 @@ own b = record { 0 = b }
 
 -- how a body of a script is resumed, and makes its blocking calls
 abbrev pub asks : OwnBody → Woke → Ask → OwnBody → Type 0
-asks b woke asked c = AsksNext b.0 asked c.0
+asks b woke asked c = AsksTold b.0 woke asked c.0
 
 abbrev pub brings : OwnBody → ℕ → OwnBody → Type 0
-brings b number c = (number ≡ asked_last b.0) × (c.0 ≡ b.0)
+brings b number c = BringsLast b.0 number c.0
 
 same_bodies : (script : List Commands) → map (λ (o : OwnBody). o.0) (map own script) ≡ script
 same_bodies [] = refl
@@ -41,7 +42,8 @@ module _ (limits : Limits) (capacities : List ℕ) (script : List Commands) (own
   said_by h bodies said =
       let given : map (λ (o : OwnBody). o.0) owned ≡ script = ap (map (λ (o : OwnBody). o.0)) are ∙ same_bodies script in
       ∥∥₁_map said (λ s.
-      let after : List Commands = map (λ (q : Speaker OwnBody). q.body.0) s.1 in (
+      let of_script : Speaker OwnBody → Speaker Commands = λ q. record { body = q.body.0; woke = q.woke } in
+      let after : Speakers = map of_script s.1 in (
         s.0,
         after,
         subst (λ (bs : List Commands). IsRunButMakes limits capacities bs h s.0 after) given

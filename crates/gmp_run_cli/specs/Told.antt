@@ -5,6 +5,7 @@ use Rattle.gmp_seq.specs.declared.call.Limits.{Limits}
 use Rattle.gmp_seq.specs.Fits.{AreLimits}
 use Rattle.gmp_seq.specs.State.{State}
 use Rattle.gmp_scene.specs.Reached.{IsRunOf}
+use Rattle.gmp_scene.specs.Scripted.{Speakers}
 use Rattle.gmp_script.specs.Script.{Commands}
 use Rattle.gmp_step_laws.specs.Refused.{IsRunButMakes}
 use Rattle.std.specs.Io.KnownBytes.{Appends}
@@ -40,17 +41,17 @@ AllAgree r = (m : ℕ) → m < 2 ^ 8 → AgreesWithLogs r.history.list r.logs.it
 abbrev pub IsLeast : {T : Type 0} → Report T → MNo → Type 0
 IsLeast r m = (e : Mismatch) × IsMismatch r.history.list r.logs.items e × e.m ≡ m
 
--- The entries are a legal run by these bodies: each goroutine asks what its body says, in order, and its blocking calls bring the numbers that its
--- body says. It begins at the opening, and its limits are in range.
+-- The entries are a legal run by these bodies: each goroutine asks what its body says, in order and by what it is told, and its blocking calls
+-- bring the numbers that its body says. It begins at the opening, and its limits are in range.
 pub record IsOfScript (limits : Limits) (capacities : List ℕ) (script : List Commands) (entries : List Entry) : Type 0 where
   pub within : AreLimits limits (length script) capacities
   pub last : State
-  pub after : List Commands
+  pub after : Speakers
   pub run : IsRunOf limits capacities script entries last after
 
 -- The entries are a legal run by these bodies from the opening, but that a body passes over each make that memory refused.
 abbrev pub IsOfScriptButMakes : Limits → List ℕ → List Commands → List Entry → Type 0
-IsOfScriptButMakes limits capacities script entries = ∥ ((last : State) × (after : List Commands) × IsRunButMakes limits capacities script entries last after) ∥₁
+IsOfScriptButMakes limits capacities script entries = ∥ ((last : State) × (after : Speakers) × IsRunButMakes limits capacities script entries last after) ∥₁
 
 -- every machine agrees, and the trace or the summary of the run, which ended so, was written
 pub record Prints {T : Type 0} (shows_trace : Bool) (capacities : List ℕ) (r : Report T) (end : End) (old new : Option (List ℕ)) : Type 0 where

@@ -21,17 +21,17 @@ impl Model for Scripted {
 
 /// It does what the body does.
 impl Body for Scripted {
-    ghost use Rattle.std.specs.Prelude.{◌≡◌};
-    ghost use Rattle.gmp_script.specs.Script.{AsksNext, asked_last};
+    ghost use Rattle.gmp_script.specs.Script.{AsksTold, BringsLast};
 
-    ghost resumed = { λ before _ ask after. AsksNext before ask after };
+    ghost resumed = { λ before woke ask after. AsksTold before woke ask after };
 
-    ghost blocked = { λ before n after. (n ≡ asked_last before) × (after ≡ before) };
+    ghost blocked = { λ before n after. BringsLast before n after };
 
     fn resume(&mut self, woke: Woke) -> Ask {
         self.0.resume(woke)
     }
 
+    #[inline(always)]
     fn resume_into(&mut self, woke: Woke, out: &mut Ask) {
         self.0.resume_into(woke, out);
     }

@@ -56,7 +56,7 @@ fn lent(kept: &Option<Vec<ScriptBody>>) -> Option<&[ScriptBody]>
     kept.as_deref()
 }
 
-/// Runs the script's bodies, which have asked nothing yet, in threads, and tells what came of it.
+/// Runs the script's bodies in threads, and tells what came of it.
 fn threaded<H: Threads + Wait + Sync, W: Write, C: Clock + Sync>(
     rt: &H,
     alloc: Global,
@@ -65,7 +65,6 @@ fn threaded<H: Threads + Wait + Sync, W: Write, C: Clock + Sync>(
     writer: &mut W,
     clock: &C,
 ) -> Ended
-    requires fresh { All (λ b. b.next ≡ 0) script.bodies.items }
     ensures written { result.said ≡ Nothing
         → WritesTraceOrSummary settings.now script.capacities.items script.bodies.items result.status (W.contents writer.old) (W.contents writer.new) }
     ensures kinds { is_of_report result.said ≡ true }

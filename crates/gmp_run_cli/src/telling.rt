@@ -1,7 +1,7 @@
 //! What is told of a run in threads. It takes any report, with no condition, and judges it by its logs, and by the script where that is
 //! asked for, before anything is printed: so what is said of a wrong one can be tried.
 
-ghost use Rattle.std.specs.Prelude.{◌≡◌, ◌≢◌, ◌<◌, ◌≤◌, ◌⊎◌, All, IfOk, IfErr, IfSome, IsSomeAnd, OnOk, length, true};
+ghost use Rattle.std.specs.Prelude.{◌≡◌, ◌≢◌, ◌<◌, ◌≤◌, ◌⊎◌, IfOk, IfErr, IfSome, IsSomeAnd, OnOk, length, true};
 ghost use Rattle.gmp_base.specs.declared.number.MNo.{MNo};
 ghost use Rattle.gmp_words.specs.declared.said.Said.TheVariants.{BadLimits, Mismatch, NoRun, Nothing, OutOfMemory, OutputFailed};
 ghost use Rattle.gmp_run_cli.specs.Told.{AllAgree, IsLeast, IsOfScript, IsPrinted, Prints, TellsEnd, is_of_print, is_of_report, is_short, said_of_unrun, trace_of};
@@ -35,7 +35,6 @@ fn judged<T>(
     against: Option<&[ScriptBody]>,
     report: &Report<T>,
 ) -> Result<(), Ended>
-    requires fresh { IfSome against (λ script. All (λ b. b.next ≡ 0) script.now) }
     ensures right { OnOk result (IfSome against.entry (λ script. IsOfScript report.now.limits capacities.now script.now report.now.history.list)) }
     ensures wrong { IfErr result (λ e. e.said ≡ NoRun
         → IsSomeAnd against.entry (λ script. IsOfScript report.now.limits capacities.now script.now report.now.history.list → ⊥)) }
@@ -106,7 +105,6 @@ fn reported<T: Drop, W: Write>(
     report: Report<T>,
     writer: &mut W,
 ) -> Result<End, Ended>
-    requires fresh { IfSome against (λ script. All (λ b. b.next ≡ 0) script.now) }
     ensures printed { IfOk result (λ end. Prints shows_trace capacities.now report end (W.contents writer.old) (W.contents writer.new)) }
     ensures scripted { IfOk result (λ _. IfSome against.entry (λ script. IsOfScript report.limits capacities.now script.now report.history.list)) }
     ensures kinds { IfErr result (λ e. is_short e.said ≡ true) }
@@ -133,7 +131,7 @@ fn reported<T: Drop, W: Write>(
 }
 
 /// Audits the report of a run that was opened with these capacities, and writes its trace or its summary, as the settings say. Where bodies
-/// of a script are given, which have asked nothing yet, the audit is too that the run is one of them.
+/// of a script are given, the audit is too that the run is one of them.
 ///
 /// It ends with what is wrong where something is: more bodies than a trace can count, the audit, the output, or memory. Of a run that was
 /// not begun it says why.
@@ -145,7 +143,6 @@ pub fn told<T: Drop, W: Write>(
     ran: Result<Report<T>, Unrun<T>>,
     writer: &mut W,
 ) -> Ended
-    requires fresh { IfSome against (λ script. All (λ b. b.next ≡ 0) script.now) }
     ensures printed { IfOk ran (λ report. result.said ≡ Nothing
         → TellsEnd settings.now.trace capacities.now report result.status (W.contents writer.old) (W.contents writer.new)) }
     ensures scripted { IfOk ran (λ report. result.said ≡ Nothing

@@ -1,10 +1,9 @@
 use Rattle.std.specs.Prelude.{if◌then◌else◌, option_map}
-use Rattle.std.proofs.Common.{rules, ◌≡◌, ℕ, All, IfOk, List, None, Some, length, subst}
+use Rattle.std.proofs.Common.{rules, ◌≡◌, ℕ, IfOk, List, None, Some, length, subst}
 use Rattle.gmp_seq.specs.declared.call.Limits.{Limits}
-use Rattle.gmp_script.specs.Script.{Commands}
 use Rattle.gmp_said.specs.Said.{AreSaid}
 use Rattle.gmp_words.specs.Runs.{limits_of}
-use Rattle.gmp_run_cli.proofs.Held.{made_where, none_where, of_lent, of_script_where}
+use Rattle.gmp_run_cli.proofs.Held.{made_where, none_where, of_script_where}
 use Rattle.gmp_run_cli.proofs.Owned.{asks, brings, length_own, run_said}
 use Rattle.gmp_run_cli.proofs.Written.{agreed, out, tried_last, wrote}
 use Rattle.gmp_run_cli.proofs.running.threaded.Given.{Over}
@@ -29,11 +28,6 @@ returns-clause-written g c =
     let by_script = run_said (limits_of c.args.settings.now) c.args.script.capacities.items c.args.script.bodies.items c.in-Ok-owned.owned.items (search rules) c.run_fair-ran.result (said_in g c) in
     wrote c.args.settings.now c.args.script.capacities.items _ _ c.told.result.said c.run_fair-ran.result (counted g c) (search rules) (search rules) c.told.ensures.unrun (search rules) by_script held
     c.told.result.status _ _ (search rules)
-
-pub told-requires : goal.told-requires
-told-requires g c =
-    let are : option_map (λ s. s.now) c.lent-against.result ≡ (if c.args.settings.now.scripted then Some c.args.script.bodies.items else None) = search rules in
-    record { fresh = of_lent c.args.script.bodies.items (λ (script : List Commands). All (λ (b : Commands). b.next ≡ 0) script) c.args.settings.now.scripted c.lent-against.result are c.requires.fresh }
 
 pub returns-clause-audit : goal.returns-clause-audit
 returns-clause-audit g c =
