@@ -1,7 +1,9 @@
 //! What the thread of a machine carries (`Machine`).
 //! Both waits of a thief are here, and both are short: they hold no lock, and end by themselves after so many looks.
-ghost use Rattle.std.specs.Prelude.{◌≡◌, ◌≤◌, ◌∷◌, ◌++◌, [], Some, true, is_some};
+ghost use Rattle.std.specs.Prelude.{◌≡◌, ◌≤◌, ◌∷◌, ◌++◌, [], IfSome, Some, true, is_some};
 ghost use Rattle.gmp_base.specs.declared.pass.Pass.{Pass};
+ghost use Rattle.gmp_driver.specs.Fits.{IsDriver};
+ghost use Rattle.gmp_driver.specs.Frequent.{act_of};
 ghost use Rattle.gmp_driver.specs.Table.{next_act};
 ghost use Rattle.gmp_worker.specs.AtQueue.{IsQueueAct};
 ghost use Rattle.gmp_worker.specs.Local.{IsOfBodyOrClock};
@@ -22,7 +24,7 @@ use gmp_driver::{Act, Driver, Frequent};
 use gmp_history::PassLog;
 use gmp_queue::{Owner, Thief};
 use gmp_stub::{Board, Stub};
-use gmp_worker::{Runs, local_turn, queue_turn};
+use gmp_worker::{Runs, local_turn, queue_turn_of};
 use rand_pcg::Lcg64Xsh32;
 use std::hint::spin_loop;
 use std::sync::ledger::Share;
@@ -198,13 +200,25 @@ impl<T: Runs, L: RunLedger> Machine<T, L> {
     pub fn queue_turn(&mut self)
         requires { IsQueueAct (next_act self.old.driver) }
     {
+        let which = self.driver.frequent();
+        self.queue_turn_of(which);
+    }
+
+    /// The same where the act has this short name.
+    #[inline(always)]
+    pub fn queue_turn_of(&mut self, which: Frequent)
+        requires act { IsQueueAct (next_act self.old.driver) }
+        requires named { IfSome (act_of which) (λ named. next_act self.old.driver ≡ named) }
+        // `Driver::frequent`, which names the act, says so.
+        requires keeps { IsDriver self.old.driver }
+    {
         let Machine {
             driver,
             thieves,
             random,
             ..
         } = self;
-        queue_turn(driver, thieves.as_mut_slice(), random);
+        queue_turn_of(driver, thieves.as_mut_slice(), random, which);
     }
 }
 

@@ -23,24 +23,6 @@ use gmp_worker::Runs;
 use std::alloc::Global;
 use std::sync::{Mutex, Wait};
 
-/// The most acts after the first that are made under one hold of the lock, where another machine isn't parked.
-const MOST_MORE: u32 = 8;
-
-/// The same where all others are parked; bodies count.
-const MOST_ALONE: u32 = 63;
-
-/// How many acts may follow the first one under one hold of the lock, by whether the gate is open, and whether all other machines are parked
-/// too.
-fn most_more(is_open: bool, is_alone: bool) -> u32 {
-    if is_alone {
-        MOST_ALONE
-    } else if is_open {
-        MOST_MORE
-    } else {
-        0
-    }
-}
-
 /// Where a machine waits for its thread, and where its thread leaves it.
 pub(crate) type Seat<T, L> = Mutex<Option<Machine<T, L>>>;
 
@@ -70,11 +52,13 @@ impl<'a, T: Runs, C: Clock, G: Gate, L: DeskLedger<T, S>, S: Sink> Floor<'a, T, 
         }
     }
 
-    /// Makes the act at the book under the lock, and then wakes whom its answer names and who is called.
+    /// Makes the act at the book under the lock, and then wakes whom its answer names and who is called. One that is lent is made first; a
+    /// frequent one is the first of those that follow.
     ///
     /// Where the gate is open, the acts that follow are made under the same hold, as long as they are at the book or at the own queue and
-    /// nobody is to be woken. Where all other machines are parked too, bodies are resumed under it. A make alone is handed memory.
-    /// What keeps the others waiting is bounded: nine acts, none of which runs a body, steals or parks. Where they are parked nobody waits,
+    /// nobody is to be woken (`Bench::hold`). Where all other machines are parked too, bodies are resumed under it. A make alone is handed
+    /// memory. A gate that was closed since the act was asked for is to be told of it first, so then no frequent one is made.
+    /// What keeps the others waiting is bounded: thirteen acts, none of which runs a body, steals or parks. Where they are parked nobody waits,
     /// but a thread that was unparked for nothing: for it the lock is let go once in so many acts, if bodies come back.
     fn at_book<R: Wait>(
         &self,
@@ -94,20 +78,12 @@ impl<'a, T: Runs, C: Clock, G: Gate, L: DeskLedger<T, S>, S: Sink> Floor<'a, T, 
         let mut bench = self.shared.take(rt);
         // It stays so: who is parked is woken by an act of this hold alone, which is its last then.
         let is_alone = is_open && bench.is_alone(machine.m);
-        let mut woken = bench.turn(memory, machine, act);
-        for _ in 0..most_more(is_open, is_alone) {
-            if woken.is_some() {
-                break;
-            }
-            match machine.driver.frequent() {
-                Frequent::Pop | Frequent::Push => machine.queue_turn(),
-                // A body may take its time, and nothing can take the lock from it.
-                Frequent::Resume if !is_alone => break,
-                Frequent::Resume => machine.local_turn(0),
-                Frequent::Other if !bench.rare_turn(alloc, machine, &mut woken) => break,
-                Frequent::Other => {}
-                _ => woken = bench.turn(None, machine, None),
-            }
+        let mut woken = None;
+        if let Some(act) = act {
+            woken = bench.turn(memory, machine, Frequent::Other, Some(act));
+        }
+        if is_open && woken.is_none() {
+            woken = bench.hold(alloc, machine, is_alone);
         }
         let told = bench.settle(machine);
         self.shared.let_go(bench);

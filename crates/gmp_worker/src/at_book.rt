@@ -1,6 +1,7 @@
 //! One turn of a machine at the book.
-ghost use Rattle.std.specs.Prelude.{◌≡◌, None, IsSome};
+ghost use Rattle.std.specs.Prelude.{◌≡◌, None, IfSome, IsSome};
 ghost use Rattle.gmp_driver.specs.Fits.{IsDriver};
+ghost use Rattle.gmp_driver.specs.Frequent.{act_of};
 ghost use Rattle.gmp_driver.specs.Table.{next_act};
 ghost use Rattle.gmp_turn.specs.Turns.{HasMemory};
 ghost use Rattle.gmp_worker.specs.Turn.{IsAtBook, TakesTurn};
@@ -30,7 +31,32 @@ pub fn turn<T, Q>(
     ensures pass { IsSome driver.new.pass }
     ensures run { driver.new.run ≡ book.new.log.run }
 {
-    match driver.frequent() {
+    let which = driver.frequent();
+    turn_of(memory, driver, book, random, which)
+}
+
+/// The same where the act that the driver names is at hand in few bytes, and isn't asked for once more. Where it is known at compile time, the
+/// call of its own is made with no match.
+#[inline(always)]
+pub fn turn_of<T, Q>(
+    memory: Option<Global>,
+    driver: &mut Driver<T, Q>,
+    book: &mut Book<T, Q>,
+    random: &mut Lcg64Xsh32,
+    which: Frequent,
+) -> Option<MNo>
+    requires named { IfSome (act_of which) (λ named. next_act driver.old ≡ named) }
+    requires act { IsAtBook (next_act driver.old) }
+    requires memory { HasMemory (next_act driver.old) memory }
+    // `Driver::frequent`, which names the act, says so.
+    requires keeps { IsDriver driver.old }
+    requires pass { IsSome driver.old.pass }
+    requires run { driver.old.run ≡ book.old.log.run }
+    ensures turn { TakesTurn (next_act driver.old) driver.old book.old random.old result driver.new book.new random.new }
+    ensures pass { IsSome driver.new.pass }
+    ensures run { driver.new.run ≡ book.new.log.run }
+{
+    match which {
         Frequent::Other => rare_turn(memory, driver, book, random),
         Frequent::Pop | Frequent::Push | Frequent::Resume => unreachable!(),
         which => frequent_turn(driver, book, which, 0),

@@ -1,7 +1,8 @@
 //! One act of a machine at the local queues.
-ghost use Rattle.std.specs.Prelude.{◌≡◌, IsSome};
+ghost use Rattle.std.specs.Prelude.{◌≡◌, IfSome, IsSome};
 ghost use Rattle.gmp_driver.specs.declared.act.Act.TheVariants as Act;
-ghost use Rattle.gmp_driver.specs.Fits.{SuitsPlace};
+ghost use Rattle.gmp_driver.specs.Fits.{IsDriver, SuitsPlace};
+ghost use Rattle.gmp_driver.specs.Frequent.{act_of};
 ghost use Rattle.gmp_driver.specs.Table.{next_act};
 ghost use Rattle.gmp_worker.specs.AtQueue.{IsQueueAct, TurnsOnQueue};
 ghost use Rattle.gmp_worker.specs.Drawn.{drawn_for};
@@ -25,7 +26,29 @@ pub fn queue_turn<T>(driver: &mut Driver<T, Owner>, thieves: &mut [Thief], rando
     ensures pass { driver.new.pass ≡ driver.old.pass }
     ensures run { driver.new.run ≡ driver.old.run }
 {
-    match driver.frequent() {
+    let which = driver.frequent();
+    queue_turn_of(driver, thieves, random, which);
+}
+
+/// The same where the act that the driver names is at hand in few bytes, and isn't asked for once more.
+#[inline(always)]
+pub fn queue_turn_of<T>(
+    driver: &mut Driver<T, Owner>,
+    thieves: &mut [Thief],
+    random: &mut Lcg64Xsh32,
+    which: Frequent,
+)
+    requires named { IfSome (act_of which) (λ named. next_act driver.old ≡ named) }
+    requires act { IsQueueAct (next_act driver.old) }
+    requires keeps { IsDriver driver.old }
+    requires pass { IsSome driver.old.pass }
+    ensures turns { TurnsOnQueue driver.old thieves.old (drawn_for (next_act driver.old) random.old).0 driver.new thieves.new }
+    ensures random { random.new ≡ (drawn_for (next_act driver.old) random.old).1 }
+    ensures fits { SuitsPlace driver.new.place driver.new.hand }
+    ensures pass { driver.new.pass ≡ driver.old.pass }
+    ensures run { driver.new.run ≡ driver.old.run }
+{
+    match which {
         Frequent::Pop => pop(driver, false),
         Frequent::Push => push(driver),
         _ => any_queue_turn(driver, thieves, random),

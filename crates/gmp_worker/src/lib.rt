@@ -5,8 +5,11 @@
 //! then what its new place says. A word is drawn from the machine's generator by a select and by the first steal of a hunt, and by no other
 //! act.
 //!
-//! A caller has to choose the turn by the act that comes next. What the book refuses is told to the driver. At a queue of another run
-//! nothing is taken and nothing put: a pop and a steal find none, a push is refused.
+//! A caller has to choose the turn by the act that comes next. One that asked for it already hands it on (`turn_by`), or its short name
+//! (`turn_of`, `queue_turn_of`).
+//!
+//! What the book refuses is told to the driver. At a queue of another run nothing is taken and nothing put: a pop and a steal find none, a
+//! push is refused.
 //!
 //! Nothing here needs a thread or a lock, so that it is checked without them: `gmp_run` has both.
 #![tactic(auto)]
@@ -18,7 +21,7 @@ mod drawing;
 mod locally;
 mod trying;
 
-pub use at_book::{turn, turn_by};
-pub use at_queue::queue_turn;
+pub use at_book::{turn, turn_by, turn_of};
+pub use at_queue::{queue_turn, queue_turn_of};
 pub use bodies::{Boxed, Own, Runs, block_boxed, resume_boxed};
 pub use locally::local_turn;
