@@ -3,7 +3,7 @@
 //!
 //! A plain send has nothing to ask of selects. Whoever is served is made ready and told by one function all the same (`serve`), and a case
 //! of a select proceeds as a plain communication does.
-ghost use Rattle.std.specs.Prelude.{◌≡◌, ◌<◌, ◌≤◌, ◌^◌, ◌∷◌, [], Some, None, IfNone, IfOk, IfSome, OnErr, OnOk, is_some, true, false, length, slice_get};
+ghost use Rattle.std.specs.Prelude.{ℕ, ◌≡◌, ◌<◌, ◌≤◌, ◌^◌, ◌∷◌, [], Some, None, IfNone, IfOk, IfSome, OnErr, OnOk, is_some, true, false, length, slice_get};
 ghost use Rattle.gmp_base.specs.declared.cases.Case.{Case};
 ghost use Rattle.gmp_base.specs.declared.number.GNo.{GNo};
 ghost use Rattle.gmp_base.specs.declared.number.MNo.{MNo};
@@ -12,11 +12,12 @@ ghost use Rattle.gmp_seq.specs.declared.call.Call.{Call};
 ghost use Rattle.gmp_seq.specs.declared.call.Limits.{Limits};
 ghost use Rattle.gmp_seq.specs.declared.call.Reply.{Reply};
 ghost use Rattle.gmp_seq.specs.declared.status.Kind.{Kind};
+ghost use Rattle.gmp_seq.specs.declared.status.Transfer.TheVariants.{Handed, Relayed};
 ghost use Rattle.gmp_seq.specs.declared.status.Waiter.{Waiter};
 ghost use Rattle.gmp_seq.specs.Channels.{capacity_at, items_at};
 ghost use Rattle.gmp_seq.specs.Step.{Closes, Communicates, Deals, Makes, Selects, Tells, none_missing, served_by, some_can, told_of};
-ghost use Rattle.gmp_seq.specs.Table.{IsOffShelf, IsRunning, epoch_at, made_wait};
-ghost use Rattle.gmp_seq.specs.Waits.{can, channel_of, names_no_missing, offers_of, waiters};
+ghost use Rattle.gmp_seq.specs.Table.{IsOffShelf, IsRunning, epoch_at, made_wait, next_of};
+ghost use Rattle.gmp_seq.specs.Waits.{can, channel_of, names_no_missing, offered, offers_of, waiters};
 ghost use Rattle.gmp_chan.specs.Served.{served};
 ghost use Rattle.gmp_goroutines.specs.Choice.{IsChoice, choice};
 ghost use Rattle.gmp_goroutines.specs.Present.{state_of};
@@ -24,14 +25,50 @@ ghost use Rattle.gmp_goroutines.specs.Served.{IsWayOf, plain_reply};
 ghost use Rattle.gmp_goroutines.specs.Shelf.{Shelves};
 
 use crate::goroutines::Goroutines;
-use gmp_base::{CNo, Case, Cases, Fault, GNo};
+use gmp_base::{CNo, Case, Cases, Fault, GNo, Readiness};
 use gmp_select::{choose, complete, none_missing, ready_cases, register};
-use gmp_seq::{Kind, MOST_CAPACITY, Offers, Relay, Reply, Taken, Transfer, channel_of};
+use gmp_seq::{Kind, MOST_CAPACITY, Offers, Relay, Reply, Taken, Transfer, Waiter, channel_of};
 use gmp_table::{StatusTable, Wake};
 use std::alloc::{AllocError, Global};
 
-/// Makes ready who was served by a communication, and answers what it comes to. Who is served is told what it would have been told without
-/// waiting. Its offers are gone already: the channels took them out.
+/// Makes a receiver ready that waited and is handed this value by a send. It is told what it would have been told without waiting.
+#[inline(always)]
+fn hand_over(table: &mut StatusTable, case: Case, w: &Waiter) -> Readiness
+    requires way { IsWayOf case (Handed w.now) }
+    requires off { IsOffShelf table.old.table w.now.g }
+    requires young { (h : GNo) → epoch_at table.old.table h < 2 ^ 63 }
+    ensures told { result ≡ next_of table.old.table w.now.g }
+    ensures table { table.new.table ≡ served_by table.old.table case (Handed w.now) }
+    ensures shelf { table.new.shelf ≡ table.old.shelf }
+{
+    // A receiver is served by a send alone.
+    let Case::Send(_, v) = case else {
+        unreachable!()
+    };
+    table.ready(w.g, w.offer.receiver_answer(w.kind, v, true))
+}
+
+/// Makes a sender ready that waited and whose value a receive takes, and answers who it is and which value.
+#[inline(always)]
+fn take_over(table: &mut StatusTable, case: Case, w: &Waiter) -> Relay
+    requires way { (v : ℕ) → IsWayOf case (Relayed v w.now) }
+    requires off { IsOffShelf table.old.table w.now.g }
+    requires young { (h : GNo) → epoch_at table.old.table h < 2 ^ 63 }
+    ensures told { result ≡ record { sender = next_of table.old.table w.now.g; value = offered w.now } }
+    ensures table { (v : ℕ) → table.new.table ≡ served_by table.old.table case (Relayed v w.now) }
+    ensures shelf { table.new.shelf ≡ table.old.shelf }
+{
+    // A sender is served by a receive alone.
+    let Case::Recv(_) = case else { unreachable!() };
+    let sender = table.ready(w.g, w.sender_answer());
+    Relay {
+        sender,
+        value: w.offered(),
+    }
+}
+
+/// Makes ready who was served by a communication of a select, and answers what it comes to. Its offers are gone already: the channels took
+/// them out.
 fn serve(table: &mut StatusTable, case: Case, how: Transfer) -> Taken
     requires way { IsWayOf case how }
     requires off { (w : Waiter) → served how ≡ Some w → IsOffShelf table.old.table w.g }
@@ -42,41 +79,17 @@ fn serve(table: &mut StatusTable, case: Case, how: Transfer) -> Taken
 {
     match how {
         Transfer::Failed => Taken::Failed,
-        Transfer::Handed(w) => {
-            // A receiver is served by a send alone, and a sender by a receive.
-            let Case::Send(_, v) = case else {
-                unreachable!()
-            };
-            let receiver = table.ready(w.g, w.offer.receiver_answer(w.kind, v, true));
-            Taken::Sent(Some(receiver))
-        }
+        Transfer::Handed(w) => Taken::Sent(Some(hand_over(table, case, &w))),
         Transfer::Stored => Taken::Sent(None),
         Transfer::First(v) => Taken::Got(v, true, None),
-        Transfer::Relayed(v, w) => {
-            let Case::Recv(_) = case else { unreachable!() };
-            let sender = table.ready(w.g, w.sender_answer());
-            let value = w.offered();
-            Taken::Got(v, true, Some(Relay { sender, value }))
-        }
+        Transfer::Relayed(v, w) => Taken::Got(v, true, Some(take_over(table, case, &w))),
         // Zero, and that it was not sent (Go specification, Close).
         Transfer::Drained => Taken::Got(0, false, None),
     }
 }
 
-/// What a plain send or receive is answered that came to this. A send on a closed channel is a fault at once.
-#[inline(always)]
-fn plain_reply(taken: Taken) -> Reply
-    ensures { result ≡ plain_reply taken }
-{
-    match taken {
-        Taken::Sent(to) => Reply::Sent(to),
-        Taken::Got(v, sent, from) => Reply::Got(v, sent, from),
-        Taken::Failed => Reply::Fault(Fault::SendOnClosed),
-    }
-}
-
-/// Makes ready who was served by a plain send or receive, and writes its reply in place. The three that serve nobody are written here,
-/// since they come most often.
+/// The same by a plain send or receive, whose reply is written in place, as no wide value is moved so. A send on a closed channel is a fault
+/// at once.
 #[inline(always)]
 fn serve_plain(table: &mut StatusTable, case: Case, how: &Transfer, out: &mut Reply)
     requires way { IsWayOf case how.now }
@@ -87,24 +100,13 @@ fn serve_plain(table: &mut StatusTable, case: Case, how: &Transfer, out: &mut Re
     ensures shelf { table.new.shelf ≡ table.old.shelf }
 {
     match how {
+        Transfer::Failed => *out = Reply::Fault(Fault::SendOnClosed),
+        Transfer::Handed(w) => *out = Reply::Sent(Some(hand_over(table, case, w))),
         Transfer::Stored => *out = Reply::Sent(None),
         Transfer::First(v) => *out = Reply::Got(*v, true, None),
+        Transfer::Relayed(v, w) => *out = Reply::Got(*v, true, Some(take_over(table, case, w))),
         Transfer::Drained => *out = Reply::Got(0, false, None),
-        how => serve_other(table, case, *how, out),
     }
-}
-
-/// The same where somebody is served, and of a send on a closed channel. Apart: whoever goes on without pays for no wide value.
-#[inline(never)]
-fn serve_other(table: &mut StatusTable, case: Case, how: Transfer, out: &mut Reply)
-    requires way { IsWayOf case how }
-    requires off { (w : Waiter) → served how ≡ Some w → IsOffShelf table.old.table w.g }
-    requires young { (h : GNo) → epoch_at table.old.table h < 2 ^ 63 }
-    ensures told { out.new ≡ plain_reply (told_of table.old.table how) }
-    ensures table { table.new.table ≡ served_by table.old.table case how }
-    ensures shelf { table.new.shelf ≡ table.old.shelf }
-{
-    *out = plain_reply(serve(table, case, how));
 }
 
 impl Goroutines {
