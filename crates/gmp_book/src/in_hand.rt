@@ -107,7 +107,7 @@ fn tell<T>(held: &mut Option<HeldParts<T>>, told: Woke)
 }
 
 /// The goroutine, if there is one, is to be told what is known, or else what the reply says.
-// Written in place, by variants, where the reply is one that comes often: a value that is handed on is copied with what it leaves free.
+// Where the reply is one that comes often, it is written in place: a value that is handed on is copied whole, with bytes that it doesn't use.
 #[inline(always)]
 fn tell_by<T>(held: &mut Option<HeldParts<T>>, known: Option<Woke>, reply: &Reply)
     ensures { held.new ≡ retold (hands.told_by known reply.now) held.old }
@@ -291,7 +291,7 @@ pub(crate) fn settle_owner_in<Q>(
 }
 
 /// The ticket that the reply gives out.
-// As `Reply::ticket`, without a copy of the reply.
+// As `Reply::ticket`, but that a reply that comes often is not copied.
 #[inline(always)]
 fn given_out(reply: &Reply) -> Option<Readiness>
     ensures { result ≡ ticket_in reply.now }

@@ -1,8 +1,8 @@
 //! What a running goroutine does with channels. A send, a receive or a case of a select proceeds and serves who waits for it, or the
 //! goroutine waits itself: a plain one by gmp_chan, a select by gmp_select.
 //!
-//! A plain send has nothing to ask of selects. Whoever is served is made ready and told by one function all the same (`serve`), and a case
-//! of a select proceeds as a plain communication does.
+//! A plain send has nothing to ask of selects. But whoever is served is made ready and told by the same functions (`hand_over`, `take_over`),
+//! and a case of a select proceeds as a plain communication does.
 ghost use Rattle.std.specs.Prelude.{ℕ, ◌≡◌, ◌<◌, ◌≤◌, ◌^◌, ◌∷◌, [], Some, None, IfNone, IfOk, IfSome, OnErr, OnOk, is_some, true, false, length, slice_get};
 ghost use Rattle.gmp_base.specs.declared.cases.Case.{Case};
 ghost use Rattle.gmp_base.specs.declared.number.GNo.{GNo};
@@ -48,7 +48,7 @@ fn hand_over(table: &mut StatusTable, case: Case, w: &Waiter) -> Readiness
     table.ready(w.g, w.offer.receiver_answer(w.kind, v, true))
 }
 
-/// Makes a sender ready that waited and whose value a receive takes, and answers who it is and which value.
+/// Makes a sender ready that waited and whose value a receive takes, and answers who it is and which value. It is told so as well.
 #[inline(always)]
 fn take_over(table: &mut StatusTable, case: Case, w: &Waiter) -> Relay
     requires way { (v : ℕ) → IsWayOf case (Relayed v w.now) }
@@ -88,8 +88,8 @@ fn serve(table: &mut StatusTable, case: Case, how: Transfer) -> Taken
     }
 }
 
-/// The same by a plain send or receive, whose reply is written in place, as no wide value is moved so. A send on a closed channel is a fault
-/// at once.
+/// Makes ready who was served by a plain send or receive, and writes its reply in place, so that no wide value is moved. A send on a closed
+/// channel is a fault at once.
 #[inline(always)]
 fn serve_plain(table: &mut StatusTable, case: Case, how: &Transfer, out: &mut Reply)
     requires way { IsWayOf case how.now }
