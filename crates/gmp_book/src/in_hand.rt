@@ -1,8 +1,6 @@
 //! What a call is handed of the registers of a machine, and where values go by its reply: a body or an owner moves from its register into its
 //! place, or out of it, and nothing else moves.
 ghost use Rattle.std.specs.Prelude.{◌≡◌, ◌⊎◌, true, false, None, Some, IsNone};
-ghost use Rattle.gmp_seq.specs.Step.{ticket_in};
-ghost use Rattle.gmp_book.specs.Hands as hands;
 ghost use Rattle.gmp_book.specs.Hands.{FitsBody, FitsOwner};
 ghost use Rattle.gmp_book.specs.InHand as in_hand;
 ghost use Rattle.gmp_book.specs.InHand.{SettlesBody, SettlesOwner, called_by, given_by, hand_refused, held_by, proc_by, retold, to_claim_after, to_store_after};
@@ -11,7 +9,7 @@ ghost use Rattle.gmp_book.specs.Kinds as kinds;
 ghost use Rattle.gmp_book.specs.declared.values.Way.TheVariants as Way;
 
 use crate::slots::Slots;
-use crate::values::{Way, told_by};
+use crate::values::Way;
 use gmp_base::{GNo, PNo, Readiness, Refusal, Woke};
 use gmp_driver::{CalledParts, HeldParts, ProcParts, Registers, fill};
 use gmp_journal::Handed;
@@ -106,22 +104,6 @@ fn tell<T>(held: &mut Option<HeldParts<T>>, told: Woke)
     }
 }
 
-/// The goroutine, if there is one, is to be told what is known, or else what the reply says.
-// Where the reply is one that comes often, it is written in place: a value that is handed on is copied whole, with bytes that it doesn't use.
-#[inline(always)]
-fn tell_by<T>(held: &mut Option<HeldParts<T>>, known: Option<Woke>, reply: &Reply)
-    ensures { held.new ≡ retold (hands.told_by known reply.now) held.old }
-{
-    if let Some(parts) = held {
-        match (known, reply) {
-            (Some(woke), _) => parts.woke = woke,
-            (None, Reply::Sent(_)) => parts.woke = Woke::Done,
-            (None, Reply::Got(v, sent, _)) => parts.woke = Woke::Got(*v, *sent),
-            (None, _) => parts.woke = reply.woke(),
-        }
-    }
-}
-
 /// The body of the goroutine that runs goes into its place.
 #[inline(always)]
 fn put_held<T>(bodies: &mut Slots<T>, held: &mut Option<HeldParts<T>>)
@@ -185,16 +167,14 @@ fn come_out_of_call<T>(
     }
 }
 
-/// The body goes this way: of the goroutine that asked, if the call was handed one, or of g, which comes out. Who goes on is told what is known,
-/// or else what the reply says.
+/// The body goes this way: of the goroutine that asked, if the call was handed one, which is told this, or of g, which comes out.
 #[inline(always)]
 pub(crate) fn settle_body_in<T>(
     bodies: &mut Slots<T>,
     way: Way,
     run: u64,
     g: GNo,
-    known: Option<Woke>,
-    reply: &Reply,
+    told: Woke,
     is_held: bool,
     is_called: bool,
     held: &mut Option<HeldParts<T>>,
@@ -203,12 +183,12 @@ pub(crate) fn settle_body_in<T>(
     requires fits { FitsBody way g (held_by run is_held held.old) (called_by run is_called called.old) bodies.old }
     requires free { in_hand.IsBodyFree way held.old called.old }
     requires apart { in_hand.AreApart is_held is_called }
-    ensures { SettlesBody way run g (hands.told_by known reply.now) is_held is_called held.old called.old bodies.old held.new called.new bodies.new }
+    ensures { SettlesBody way run g told is_held is_called held.old called.old bodies.old held.new called.new bodies.new }
 {
     match way {
         Way::Stays => {
             if is_held {
-                tell_by(held, known, reply);
+                tell(held, told);
             }
         }
         Way::Home => {
@@ -224,7 +204,7 @@ pub(crate) fn settle_body_in<T>(
                 held,
                 HeldParts {
                     g,
-                    woke: told_by(known, *reply),
+                    woke: told,
                     body,
                 },
             );
@@ -236,7 +216,7 @@ pub(crate) fn settle_body_in<T>(
         }
         Way::OutOfCall => {
             if is_called {
-                come_out_of_call(told_by(known, *reply), held, called);
+                come_out_of_call(told, held, called);
             }
         }
     }
@@ -290,31 +270,16 @@ pub(crate) fn settle_owner_in<Q>(
     }
 }
 
-/// The ticket that the reply gives out.
-// As `Reply::ticket`, but that a reply that comes often is not copied.
-#[inline(always)]
-fn given_out(reply: &Reply) -> Option<Readiness>
-    ensures { result ≡ ticket_in reply.now }
-{
-    match reply {
-        Reply::Ticket(r) => Some(*r),
-        Reply::Sent(to) => *to,
-        Reply::Got(_, _, Some(relay)) => Some(relay.sender),
-        Reply::Chose(_, _) => reply.ticket(),
-        _ => None,
-    }
-}
-
-/// The tickets that are held behind the call, which was answered so.
+/// The tickets that are held behind the call, which gave this one out.
 #[inline(always)]
 pub(crate) fn settle_tickets_in(
     call: &Call,
-    reply: &Reply,
+    out: Option<Readiness>,
     to_claim: &mut Option<Readiness>,
     to_store: &mut Option<Readiness>,
 )
-    ensures to_claim { to_claim.new ≡ to_claim_after call.now (ticket_in reply.now) to_claim.old to_store.old }
-    ensures to_store { to_store.new ≡ to_store_after call.now (ticket_in reply.now) to_store.old }
+    ensures to_claim { to_claim.new ≡ to_claim_after call.now out to_claim.old to_store.old }
+    ensures to_store { to_store.new ≡ to_store_after call.now out to_store.old }
 {
     match call {
         Call::Claim(_) => *to_claim = None,
@@ -325,12 +290,12 @@ pub(crate) fn settle_tickets_in(
             *to_store = None;
         }
         Call::Take => {
-            if let Some(r) = given_out(reply) {
+            if let Some(r) = out {
                 *to_claim = Some(r);
             }
         }
         _ => {
-            if let Some(r) = given_out(reply) {
+            if let Some(r) = out {
                 *to_store = Some(r);
             }
         }

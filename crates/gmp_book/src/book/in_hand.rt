@@ -16,7 +16,7 @@ use crate::in_hand::{
     handed_in, hands_called, hands_held, hands_proc, refuse_in, settle_body_in, settle_owner_in,
     settle_tickets_in,
 };
-use crate::values::{claimed, way_of};
+use crate::values::{claimed, told_by, way_of};
 use gmp_base::{Pass, Refusal};
 use gmp_driver::Registers;
 use gmp_seq::{Call, Reply};
@@ -64,14 +64,14 @@ impl<T, Q> Book<T, Q> {
                 Err(why)
             }
             Ok(()) => {
+                let told = told_by(known, *out);
                 let (is_held, is_called) = (hands_held(call), hands_called(call));
                 settle_body_in(
                     &mut self.bodies,
                     way_of(*out),
                     run,
                     g,
-                    known,
-                    out,
+                    told,
                     is_held,
                     is_called,
                     &mut hand.held,
@@ -84,7 +84,7 @@ impl<T, Q> Book<T, Q> {
                     hands_proc(call),
                     &mut hand.processor,
                 );
-                settle_tickets_in(call, out, &mut hand.to_claim, &mut hand.to_store);
+                settle_tickets_in(call, out.ticket(), &mut hand.to_claim, &mut hand.to_store);
                 Ok(())
             }
         }

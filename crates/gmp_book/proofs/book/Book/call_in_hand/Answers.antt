@@ -9,7 +9,7 @@ use Rattle.gmp_journal.proofs.Done.{done}
 use Rattle.gmp_driver.specs.declared.registers.Registers.{Registers}
 use Rattle.gmp_book.specs.declared.values.Values.{Values}
 use Rattle.gmp_book.specs.Book.{BookContents}
-use Rattle.gmp_book.specs.Hands.{Hands, handed_of, told_by}
+use Rattle.gmp_book.specs.Hands.{Hands, handed_of}
 use Rattle.gmp_book.specs.InHand.{given_by, hand_after}
 use Rattle.gmp_book.proofs.InHand.{held_behind, suits}
 use Rattle.gmp_book.proofs.Settled.{body_fits, owner_fits, settled}
@@ -51,7 +51,7 @@ invariant_of-self-in-Ok g c =
     let body = rw (c.way_of.ensures, c.claimed-g.ensures, c.hands_held-is_held.ensures, c.hands_called-is_called.ensures) at c.settle_body_in.ensures.hands in
     let owner = rw c.hands_proc.ensures at c.settle_owner_in.ensures.hands in
     settled i.journal c.call.new.self i.bodies i.owners c.self.invariant k.ensures.order a.pass.now c.call.new.pass v a.call.now c.call.new.out suited grants k.ensures.records
-    c.run-run.result (told_by c.known-known.result c.call.new.out) c.settle_body_in.ensures.held_back c.settle_body_in.ensures.called_back c.settle_owner_in.ensures.back c.settle_body_in.new.bodies c.settle_owner_in.new.owners
+    c.run-run.result c.told_by-told.result c.settle_body_in.ensures.held_back c.settle_body_in.ensures.called_back c.settle_owner_in.ensures.back c.settle_body_in.new.bodies c.settle_owner_in.new.owners
     body owner
 
 pub returns-in-Ok-clause-hands : goal.returns-in-Ok-clause-hands
@@ -61,13 +61,13 @@ returns-in-Ok-clause-hands g c =
     let s = c.settle_body_in.ensures in
     let o = c.settle_owner_in.ensures in
     let t = c.settle_tickets_in.ensures in
-    let body = rw (c.run-run.ensures, c.known-known.ensures, c.way_of.ensures, c.claimed-g.ensures, c.hands_held-is_held.ensures, c.hands_called-is_called.ensures) at s.hands in
+    let body = rw (c.run-run.ensures, c.told_by-told.ensures, c.known-known.ensures, c.way_of.ensures, c.claimed-g.ensures, c.hands_held-is_held.ensures, c.hands_called-is_called.ensures) at s.hands in
     let owner = rw (c.run-run.ensures, c.hands_proc.ensures) at o.hands in
     let processor_is = rw c.hands_proc.ensures at o.processor_is in
     let held_is = rw c.hands_held-is_held.ensures at s.held_is in
     let called_is = rw c.hands_called-is_called.ensures at s.called_is in
-    let to_claim_is = t.to_claim in
-    let to_store_is = t.to_store in
+    let to_claim_is = rw c.ticket.ensures at t.to_claim in
+    let to_store_is = rw c.ticket.ensures at t.to_store in
     let now : Registers g.row.T.Denot g.row.Q.Denot = record { processor = c.settle_owner_in.new.processor; held = c.settle_body_in.new.held; called = c.settle_body_in.new.called; to_claim = c.settle_tickets_in.new.to_claim; to_store = c.settle_tickets_in.new.to_store } in
     let back : Values g.row.T.Denot g.row.Q.Denot = record { held = s.held_back; called = s.called_back; ticket = option_map (ticket_by i.journal.run) (ticket_in c.call.new.out); proc = o.back } in
     subst (λ (b : BookContents _ _). (x : Values g.row.T.Denot g.row.Q.Denot) × Hands a.call.now c.call.new.out (given_by b.log.run a.call.now a.hand.now) x b (record { log = c.call.new.self; bodies = c.settle_body_in.new.bodies; owners = c.settle_owner_in.new.owners }) × (now ≡ hand_after a.call.now x a.hand.now)) c.self.view_is (
